@@ -1,0 +1,17 @@
+use borrow.Author.Tests.{le-leb, le-ltb, lt-leb, lt-ltb}
+use Rattle.characters.specs.Utf8.{tail}
+use Rattle.characters.proofs.is_tail.Statement.{statement}
+use Rattle.characters.proofs.is_tail.Tie as tie
+use Rattle.characters.proofs.is_tail.Reads as reads
+use Rattle.characters.proofs.is_tail.Lts as lts
+
+returns : tie.Need-returns
+unfolding tail
+returns c = simp (le-leb _ _ (c .if1 .taken), le-ltb _ _ (c .if1 .taken))
+
+returns-2 : tie.Need-returns-2
+unfolding tail
+returns-2 c = simp (lt-ltb _ _ (c .if1 .left), lt-leb _ _ (c .if1 .left))
+
+pub is-tail-spec : {M : Type 1} → statement M
+is-tail-spec = tie.close (tie.spec returns returns-2)

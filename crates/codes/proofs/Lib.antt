@@ -1,0 +1,4 @@
+pub mod Saids
+pub mod Rows
+pub mod Examples
+pub mod Unique

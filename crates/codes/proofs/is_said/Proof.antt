@@ -1,0 +1,96 @@
+use native.Mathlib.Omega.{arith}
+use borrow.Author.Needs.{needs}
+use mathlib.Core.Path.{_≡_, refl, _∙_}
+use Prim.Native.Nat.{_-_}
+use lib.ListN.{length, drop}
+use Rattle.characters.specs.Says.{says}
+use Rattle.characters.proofs.Saying.{said-char, said-over, said-end}
+use Rattle.codes.proofs.Saids.{same-end, same-long, same-stop, same-more}
+use Rattle.slices.specs.Same.{same}
+use Rattle.codes.proofs.is_said.Statement.{statement}
+use Rattle.codes.proofs.is_said.Tie as tie
+use Rattle.codes.proofs.is_said.Reads as reads
+use Rattle.codes.proofs.is_said.Lts as lts
+use Rattle.characters.proofs.said_at.Reads as said-at-reads
+use Rattle.codes.proofs.is_char.Reads as is-char-reads
+
+abbrev Inv-loop : tie.InvT-loop
+Inv-loop text v i₀ k₀ i k = same (drop k text) (says (drop i v)) ≡ same text (says v)
+
+abbrev μ-loop : tie.MeasureT-loop
+μ-loop text v i₀ k₀ i k = length v - i
+
+loop-holds : tie.Need-loop-holds Inv-loop μ-loop
+loop-holds c = refl
+
+sub-said-at : tie.Need-sub-said-at Inv-loop μ-loop
+sub-said-at c = omega arith
+
+part-said-at-start : tie.Need-part-said-at-start Inv-loop μ-loop
+part-said-at-start c = omega arith
+
+part-said-at-end : tie.Need-part-said-at-end Inv-loop μ-loop
+part-said-at-end c = omega arith
+
+said-at-requires : tie.Need-said-at-requires Inv-loop μ-loop
+said-at-requires c κs = search needs
+
+enum-known-c : tie.Need-enum-known-c Inv-loop μ-loop
+enum-known-c c = search needs
+
+returns : tie.Need-returns Inv-loop μ-loop
+returns c = same-long _ _ (said-char _ _ (c .before .before .before .before .said-at .ensures .0) (c .before .before .before .before .before .before .loop-test .taken) (c .before .before .c .given .1) ((rw (c .before .before .c .given .1) at (c .before .before .before .before .said-at .ensures .1)) .0)) (c .if1 .taken) ∙ c .before .before .before .before .before .before .before .loop .inv
+
+shared-slice-read-is-char : tie.Need-shared-slice-read-is-char Inv-loop μ-loop
+shared-slice-read-is-char c = omega arith
+
+is-char-requires : tie.Need-is-char-requires Inv-loop μ-loop
+is-char-requires c κs = search needs
+
+add-i : tie.Need-add-i Inv-loop μ-loop
+add-i c = omega (arith, rw (c .before .before .before .before .before .c .given .1) at (c .before .before .before .before .before .before .before .said-at .ensures .1))
+
+add-k : tie.Need-add-k Inv-loop μ-loop
+add-k c = search needs
+
+loop-less : tie.Need-loop-less Inv-loop μ-loop
+loop-less c = omega (arith, rw (c .before .before .before .before .before .c .given .1) at (c .before .before .before .before .before .before .before .said-at .ensures .1))
+
+loop-again : tie.Need-loop-again Inv-loop μ-loop
+loop-again c = same-more _ _ (said-char _ _ (c .before .before .before .before .before .before .before .said-at .ensures .0) (c .before .before .before .before .before .before .before .before .before .loop-test .taken) (c .before .before .before .before .before .c .given .1) ((rw (c .before .before .before .before .before .c .given .1) at (c .before .before .before .before .before .before .before .said-at .ensures .1)) .0)) (c .before .before .before .if1 .left) (c .before .is-char .ensures) (c .if2 .taken) ∙ c .before .before .before .before .before .before .before .before .before .before .loop .inv
+
+returns-2 : tie.Need-returns-2 Inv-loop μ-loop
+returns-2 c = same-stop _ _ (said-char _ _ (c .before .before .before .before .before .before .before .said-at .ensures .0) (c .before .before .before .before .before .before .before .before .before .loop-test .taken) (c .before .before .before .before .before .c .given .1) ((rw (c .before .before .before .before .before .c .given .1) at (c .before .before .before .before .before .before .before .said-at .ensures .1)) .0)) (c .before .before .before .if1 .left) (c .before .is-char .ensures) (c .if2 .left) ∙ c .before .before .before .before .before .before .before .before .before .before .loop .inv
+
+enum-told : tie.Need-enum-told Inv-loop μ-loop
+enum-told c = search needs
+
+returns-3 : tie.Need-returns-3 Inv-loop μ-loop
+returns-3 c = same-end (c .before .before .before .before .before .before .before .before .args .text .now) (c .before .before .before .before .before .loop .k) (said-over (c .before .before .before .before .before .before .before .before .args .v .now) (c .before .before .before .before .before .loop .i) (c .before .before .said-at .ensures .0) (c .enum-told .given .1)) ∙ c .before .before .before .before .before .loop .inv
+
+returns-4 : tie.Need-returns-4 Inv-loop μ-loop
+returns-4 c = same-end (c .before .before .before .before .args .text .now) (c .before .loop .k) (said-end (c .before .before .before .before .args .v .now) (c .before .loop .i) (c .loop-test .left)) ∙ c .before .loop .inv
+
+pub is-said-spec : {M : Type 1} → statement M
+is-said-spec =
+    tie.close
+    (tie.spec
+    Inv-loop
+    μ-loop
+    loop-holds
+    sub-said-at
+    part-said-at-start
+    part-said-at-end
+    said-at-requires
+    enum-known-c
+    returns
+    shared-slice-read-is-char
+    is-char-requires
+    add-i
+    add-k
+    loop-less
+    loop-again
+    returns-2
+    enum-told
+    returns-3
+    returns-4)

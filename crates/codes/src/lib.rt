@@ -1,0 +1,146 @@
+// Code lists: the number of each, and whether a value is in one. The codes of a list stand in a row with single spaces between them.
+use characters::Said;
+use characters::said_at;
+use slices::front;
+ghost use mathlib.Core.Path.{_≡_};
+ghost use Prim.Native.Nat.{_≤_};
+ghost use lib.Dec.{eqb};
+ghost use lib.ListN.{length};
+ghost use Rattle.slices.specs.Run.{run};
+ghost use Rattle.slices.specs.Same.{same};
+ghost use Rattle.characters.specs.Says.{says};
+ghost use Rattle.codes.specs.Lists.{listed, codesOf};
+ghost use Rattle.codes.specs.Words.{wordByte, words};
+
+pub const DOCUMENT_TYPE_ONE: usize = 0;
+
+pub const DOCUMENT_TYPE_TWO: usize = 1;
+
+pub const PROCESS_TYPE: usize = 2;
+
+pub const PARTY_SCHEME: usize = 3;
+
+pub const EIC_SCHEME: usize = 4;
+
+pub const RESOURCE_SCHEME: usize = 5;
+
+pub const ROLE: usize = 6;
+
+pub const SENDER_ROLE_TWO: usize = 7;
+
+pub const BUSINESS_TYPE_ONE: usize = 8;
+
+pub const BUSINESS_TYPE_TWO: usize = 9;
+
+pub const DIRECTION: usize = 10;
+
+pub const PRODUCT: usize = 11;
+
+pub const AREA: usize = 12;
+
+pub const CURVE_TYPE: usize = 13;
+
+pub const UNIT_ONE: usize = 14;
+
+pub const UNIT_TWO: usize = 15;
+
+pub const STATUS: usize = 16;
+
+fn is_word_byte(b: u8) -> bool
+    ensures { λ r. ⌜ r ≡ wordByte b ⌝ }
+{
+    if b == 0x20 { false } else { true }
+}
+
+fn word_len(s: &[u8]) -> usize
+    ensures run { λ r. ⌜ r ≡ run wordByte (now (s .entry)) ⌝ }
+    ensures size { λ r. ⌜ r ≤ length (now (s .entry)) ⌝ }
+{
+    let mut i = 0;
+    while i < s.len() {
+        if is_word_byte(s[i]) {
+            i += 1;
+        } else {
+            return i;
+        }
+    }
+    i
+}
+
+fn is_char(b: u8, c: u32) -> bool
+    ensures { λ r. ⌜ r ≡ eqb b c ⌝ }
+{
+    b as u32 == c
+}
+
+// Whether a value says a text, character for character.
+// Ruled out: true where the value only begins with the text, or the text with the value; false for an empty value and an empty text.
+pub fn is_said(text: &[u8], v: &[u8]) -> bool
+    ensures { λ r. ⌜ r ≡ same (now (text .entry)) (says (now (v .entry))) ⌝ }
+{
+    let mut i = 0;
+    let mut k = 0;
+    while i < v.len() {
+        match said_at(&v[i..]) {
+            Said::Says(c, n) => {
+                if text.len() <= k {
+                    return false;
+                }
+                if is_char(text[k], c) {
+                    i += n;
+                    k += 1;
+                } else {
+                    return false;
+                }
+            }
+            Said::Over => return text.len() <= k,
+        }
+    }
+    text.len() <= k
+}
+
+// Whether a value is one of the codes in a row.
+fn is_among(codes: &[u8], v: &[u8]) -> bool
+    ensures { λ r. ⌜ r ≡ listed (words (now (codes .entry))) (says (now (v .entry))) ⌝ }
+{
+    let mut i = 0;
+    while i < codes.len() {
+        let left = &codes[i..];
+        let n = word_len(left);
+        if is_said(front(left, n), v) {
+            return true;
+        }
+        i += n + 1;
+    }
+    false
+}
+
+// Whether a value is in the code list of a number; a number that no list has lists nothing.
+// Ruled out: true for a code of another list, for a code with a space at an end, for an area with a dash lost; false for the last code of a list.
+pub fn is_listed(list: usize, v: &[u8]) -> bool
+    ensures { λ r. ⌜ r ≡ listed (codesOf list) (says (now (v .entry))) ⌝ }
+{
+    match list {
+        DOCUMENT_TYPE_ONE => is_among(b"Z07", v),
+        DOCUMENT_TYPE_TWO => is_among(b"Z05", v),
+        PROCESS_TYPE => is_among(b"A14", v),
+        PARTY_SCHEME => is_among(b"A10 NDE", v),
+        EIC_SCHEME => is_among(b"A01", v),
+        RESOURCE_SCHEME => is_among(b"NDE", v),
+        ROLE => is_among(b"A18 A39", v),
+        SENDER_ROLE_TWO => is_among(b"A18 A27 A39", v),
+        BUSINESS_TYPE_ONE => is_among(b"A02", v),
+        BUSINESS_TYPE_TWO => is_among(b"A01 A04 Z01 Z02 Z03", v),
+        DIRECTION => is_among(b"A01 A02", v),
+        PRODUCT => is_among(b"8716867000016", v),
+        AREA => is_among(
+            b"10YDE-ENBW-----N 10YDE-EON------1 10YDE-RWENET---I 10YDE-VE-------2 10YFLENSBURG---3",
+            v,
+        ),
+        CURVE_TYPE => is_among(b"A03", v),
+        UNIT_ONE => is_among(b"MAW", v),
+        UNIT_TWO => is_among(b"Z01 Z02 Z03", v),
+        STATUS => is_among(b"Z01 Z02 Z03 Z04 Z05", v),
+        _ => false,
+    }
+}

@@ -1,0 +1,23 @@
+use mathlib.Core.Path.{_∙_}
+use Rattle.pictures.specs.Picture.{takes}
+use Rattle.forms.proofs.Drawn.{drawn}
+use Rattle.forms.specs.Forms.{marketPartner}
+use borrow.Author.Needs.{needs}
+use Rattle.forms.proofs.is_market_partner.Statement.{statement}
+use Rattle.forms.proofs.is_market_partner.Tie as tie
+use Rattle.forms.proofs.is_market_partner.Reads as reads
+use Rattle.forms.proofs.is_market_partner.Lts as lts
+use Rattle.pictures.proofs.fits.Reads as fits-reads
+
+slice-aggregate-fits : tie.Need-slice-aggregate-fits
+slice-aggregate-fits c = search needs
+
+fits-requires : tie.Need-fits-requires
+fits-requires c κs = search needs
+
+returns : tie.Need-returns
+unfolding marketPartner takes
+returns c = c .fits2 .ensures ∙ drawn _ _
+
+pub is-market-partner-spec : {M : Type 1} → statement M
+is-market-partner-spec = tie.close (tie.spec slice-aggregate-fits fits-requires returns)

@@ -1,0 +1,23 @@
+use mathlib.Core.Path.{_∙_}
+use Rattle.pictures.specs.Picture.{takes}
+use Rattle.forms.proofs.Drawn.{drawn}
+use Rattle.forms.specs.Forms.{party}
+use borrow.Author.Needs.{needs}
+use Rattle.forms.proofs.is_party.Statement.{statement}
+use Rattle.forms.proofs.is_party.Tie as tie
+use Rattle.forms.proofs.is_party.Reads as reads
+use Rattle.forms.proofs.is_party.Lts as lts
+use Rattle.pictures.proofs.fits.Reads as fits-reads
+
+slice-aggregate-fits : tie.Need-slice-aggregate-fits
+slice-aggregate-fits c = search needs
+
+fits-requires : tie.Need-fits-requires
+fits-requires c κs = search needs
+
+returns : tie.Need-returns
+unfolding party takes
+returns c = c .fits2 .ensures ∙ drawn _ _
+
+pub is-party-spec : {M : Type 1} → statement M
+is-party-spec = tie.close (tie.spec slice-aggregate-fits fits-requires returns)

@@ -1,0 +1,40 @@
+-- Forms of values that are judged character by character.
+use Prim.Native.Nat.{ℕ}
+use mathlib.Core.List.{List, [], _∷_, _++_}
+use mathlib.Core.Bool.{Bool, true, false, cond}
+use lib.Dec.{leb}
+use lib.ListN.{length, replicate}
+use Rattle.slices.specs.Same.{same}
+use Rattle.slices.specs.Text.{text}
+use Rattle.pictures.specs.Picture.{digit, capitalOrDigit, partyChar, firstThree}
+
+-- each character passes the test at its place, and there are as many
+unfoldable pub held : List (ℕ → Bool) → List ℕ → Bool
+held [] [] = true
+held [] (c ∷ l) = false
+held (p ∷ ps) [] = false
+held (p ∷ ps) (c ∷ l) = cond (p c) (held ps l) false
+
+-- "Identifications: 0 to 35 characters"
+unfoldable pub identification : List ℕ → Bool
+identification l = leb (length l) 35
+
+-- "Market partner IDs: thirteen digits"
+unfoldable pub marketPartner : List ℕ → Bool
+marketPartner l = held (replicate 13 digit) l
+
+-- "ResourceObject: A, B or C, nine of A-Z or 0-9, one digit"
+unfoldable pub resourceObject : List ℕ → Bool
+resourceObject l = held (firstThree ∷ replicate 9 capitalOrDigit ++ digit ∷ []) l
+
+-- "InParty, OutParty: sixteen of A-Z, 0-9, `-`"
+unfoldable pub party : List ℕ → Bool
+party l = held (replicate 16 partyChar) l
+
+-- the "fixed value" of DtdBDEWNachrichtenVersion
+unfoldable pub fixedVersion : List ℕ → Bool
+fixedVersion l = same (text "1.0") l
+
+-- "Resolution is `PT15M`"
+unfoldable pub quarterHour : List ℕ → Bool
+quarterHour l = same (text "PT15M") l

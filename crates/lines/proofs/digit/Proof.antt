@@ -1,0 +1,55 @@
+-- `lines::digit` meets its contract: each return is the case that its tests pick.
+-- Assumes nothing.
+use Rattle.lists.proofs.Tests.{tests}
+use Rattle.lines.specs.Text.{digitOf}
+use borrow.Author.Needs.{needs}
+use Rattle.lines.proofs.digit.Statement.{statement}
+use Rattle.lines.proofs.digit.Tie as tie
+
+returns : tie.Need-returns
+unfolding digitOf
+returns c = search tests
+
+returns-2 : tie.Need-returns-2
+unfolding digitOf
+returns-2 c = search tests
+
+returns-3 : tie.Need-returns-3
+unfolding digitOf
+returns-3 c = search tests
+
+sub-result : tie.Need-sub-result
+sub-result c = search needs
+
+returns-4 : tie.Need-returns-4
+unfolding digitOf
+returns-4 c = search tests
+
+returns-5 : tie.Need-returns-5
+unfolding digitOf
+returns-5 c = search tests
+
+sub-result-2 : tie.Need-sub-result-2
+sub-result-2 c = search needs
+
+returns-6 : tie.Need-returns-6
+unfolding digitOf
+returns-6 c = search tests
+
+returns-7 : tie.Need-returns-7
+unfolding digitOf
+returns-7 c = search tests
+
+pub digit-spec : {M : Type 1} → statement M
+digit-spec =
+    tie.close
+    (tie.spec
+    returns
+    returns-2
+    returns-3
+    sub-result
+    returns-4
+    returns-5
+    sub-result-2
+    returns-6
+    returns-7)

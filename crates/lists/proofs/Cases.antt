@@ -1,0 +1,54 @@
+-- A test with what it tells, for a proof by cases on it:
+--     ⊎-elim (λ y. simp (y .1) ..) (λ y. simp (y .1) ..) (ltb-cases a b)
+-- Assumes nothing.
+use mathlib.Core.Path.{_≡_, refl}
+use Prim.Native.Nat.{ℕ, _≤_, _<_}
+use mathlib.Core.Bool.{Bool, true, false, cond}
+use mathlib.Core.Logic.{_⊎_, inl, inr}
+use native.Mathlib.Omega.{arith}
+use lib.Dec.{leb, ltb, eqb}
+use borrow.Author.Tests.{leb-true, leb-false, ltb-true, ltb-false, eqb-true, eqb-false}
+
+pub bool-cases : (t : Bool) → (t ≡ true) ⊎ (t ≡ false)
+bool-cases true = inl refl
+bool-cases false = inr refl
+
+pub leb-cases : (a b : ℕ) → ((a ≤ b) × (leb a b ≡ true)) ⊎ ((b < a) × (leb a b ≡ false))
+leb-cases a b = go (leb a b) refl
+  where
+    go : (t : Bool) → leb a b ≡ t → ((a ≤ b) × (leb a b ≡ true)) ⊎ ((b < a) × (leb a b ≡ false))
+    go true q = inl (leb-true a b q, q)
+    go false q = inr (leb-false a b q, q)
+
+pub ltb-cases : (a b : ℕ) → ((a < b) × (ltb a b ≡ true)) ⊎ ((b ≤ a) × (ltb a b ≡ false))
+ltb-cases a b = go (ltb a b) refl
+  where
+    go : (t : Bool) → ltb a b ≡ t → ((a < b) × (ltb a b ≡ true)) ⊎ ((b ≤ a) × (ltb a b ≡ false))
+    go true q = inl (ltb-true a b q, q)
+    go false q = inr (ltb-false a b q, q)
+
+pub eqb-cases : (a b : ℕ) → ((a ≡ b) × (eqb a b ≡ true)) ⊎ ((a ≡ b → ⊥) × (eqb a b ≡ false))
+eqb-cases a b = go (eqb a b) refl
+  where
+    go : (t : Bool) → eqb a b ≡ t → ((a ≡ b) × (eqb a b ≡ true)) ⊎ ((a ≡ b → ⊥) × (eqb a b ≡ false))
+    go true q = inl (eqb-true a b q, q)
+    go false q = inr (eqb-false a b q, q)
+
+-- two constructors are never equal: `zero-not-one (cc)`, with an equation of the two in scope
+pub zero-not-one : _≡_ {A = ℕ} 0 1 → ⊥
+zero-not-one e = omega arith
+
+-- what holds of both cases holds of their choice
+pub by-cond : {A : Type 0} (P : A → Type 0) (t : Bool) {a b : A} → P a → P b → P (cond t a b)
+by-cond P true p q = p
+by-cond P false p q = q
+
+-- as `search (cond-le, lit≤) depth n` takes it
+pub cond-le : {m : ℕ} (t : Bool) (a b : ℕ) → a ≤ m → b ≤ m → cond t a b ≤ m
+cond-le true a b p q = p
+cond-le false a b p q = q
+
+-- of a chain of tests, each of which would answer a: where the whole is c and a is not, no test answered
+pub past-cond : {A : Type 0} {a b c : A} (t : Bool) → (a ≡ c → ⊥) → cond t a b ≡ c → (t ≡ false) × (b ≡ c)
+past-cond true other e = absurd (other e)
+past-cond false other e = (refl, e)

@@ -1,0 +1,6 @@
+pub mod Groups
+pub mod Writing
+pub mod Reading
+pub mod Numbers
+pub mod Promises
+pub mod Unique

@@ -1,0 +1,58 @@
+-- What the note reader answers. That it takes exactly the notes is `accepts-exactly` of proofs/Promises.antt.
+use Prim.Native.Nat.{ℕ, zero, suc, _+_, _-_, _*_}
+use mathlib.Core.List.{List, [], _∷_}
+use mathlib.Core.Bool.{cond}
+use mathlib.Core.Option.{Option, some, none}
+use lib.ListN.{getD, drop}
+use lib.Dec.{ltb, eqb}
+use Rattle.lists.specs.Zeros.{zeros}
+use Rattle.notes.specs.Note.{numbers}
+use Rattle.notes.specs.declared.Got.{Got}
+use Rattle.notes.specs.declared.Got.the-variants.{Number, Bad}
+use Rattle.notes.specs.declared.NoteRead.{NoteRead}
+use Rattle.notes.specs.declared.NoteRead.the-variants.{Taken, NotOneNote}
+
+-- b is a group with its top bit set, and v is what the u groups after it say: where that is 0, the number is not shortest
+abbrev pub moreOf : ℕ → Got → Got
+moreOf b (Number v u) = cond (eqb v 0) Bad (Number (b - 128 + 128 * v) (u + 1))
+moreOf b Bad = Bad
+
+-- the number that s begins with, in at most k groups, and how many it has
+unfoldable pub numberIn : ℕ → List ℕ → Got
+numberIn zero s = Bad
+numberIn (suc k) [] = Bad
+numberIn (suc k) (b ∷ s) = cond (ltb b 128) (Number b 1) (moreOf b (numberIn k s))
+
+-- what stands after a number that was read, and the number in front of those after it
+abbrev pub after : List ℕ → Got → List ℕ
+after s (Number v u) = drop u s
+after s Bad = []
+
+abbrev pub front : Got → Option (List ℕ) → Option (List ℕ)
+front (Number v u) (some l) = some (v ∷ l)
+front (Number v u) none = none
+front Bad l = none
+
+-- "exactly" k "numbers, each shortest and below 2^21" (three groups), "and nothing after"
+unfoldable pub numbersIn : ℕ → List ℕ → Option (List ℕ)
+numbersIn zero [] = some []
+numbersIn zero (b ∷ s) = none
+numbersIn (suc k) s = front (numberIn 3 s) (numbersIn k (after s (numberIn 3 s)))
+
+-- the five numbers, in the note's order, or none
+abbrev pub answer : Option (List ℕ) → NoteRead
+answer (some l) =
+    Taken (record { refusal = getD l 0 0; place = getD l 1 0; kind = getD l 2 0; series = getD l 3 0; intervals = getD l 4 0 })
+answer none = NotOneNote
+
+unfoldable pub noteIn : List ℕ → NoteRead
+noteIn s = answer (numbersIn 5 s)
+
+-- The paper's number and values for each answer of the note reader: "11: the bytes aren't one note", "on 11 its five numbers are 0"
+abbrev pub readRefusal : NoteRead → ℕ
+readRefusal (Taken n) = 0
+readRefusal NotOneNote = 11
+
+abbrev pub fiveOf : NoteRead → List ℕ
+fiveOf (Taken n) = numbers n
+fiveOf NotOneNote = zeros 5

@@ -1,0 +1,115 @@
+// Runs the vectors of the note. A line of standard input is a case:
+//   r HEX         the note reader is handed the bytes; printed: the refusal's number and the five numbers
+//   w HEX         the first byte is how many bytes the note buffer has (at most 32), and the next twenty are the five numbers, four bytes
+//                 each, highest first; printed: the refusal's number, the note's length, and all bytes of the buffer
+// Any other line is printed as it is.
+ghost use Prim.Native.Nat.{_<_};
+use notes::Note;
+use notes::NoteRead;
+use notes::Put;
+
+fn print_numbers(refusal: u64, n: Note) {
+    lines::print_number(refusal);
+    lines::print_text(b" ");
+    lines::print_number(n.refusal as u64);
+    lines::print_text(b" ");
+    lines::print_number(n.place as u64);
+    lines::print_text(b" ");
+    lines::print_number(n.kind as u64);
+    lines::print_text(b" ");
+    lines::print_number(n.series as u64);
+    lines::print_text(b" ");
+    lines::print_number(n.intervals as u64);
+}
+
+fn show_read(s: &[u8]) {
+    match notes::read_note(s) {
+        NoteRead::Taken(n) => print_numbers(0, n),
+        NoteRead::NotOneNote => print_numbers(
+            11,
+            Note {
+                refusal: 0,
+                place: 0,
+                kind: 0,
+                series: 0,
+                intervals: 0,
+            },
+        ),
+    }
+}
+
+fn wide(b: u8) -> u32
+    ensures { λ r. ⌜ r < 256 ⌝ }
+{
+    b as u32
+}
+
+// The byte at i, and 0 past the end.
+fn byte_at(s: &[u8], i: usize) -> u32
+    ensures { λ r. ⌜ r < 256 ⌝ }
+{
+    if i < s.len() { wide(s[i]) } else { 0 }
+}
+
+// The number of the four bytes from `at` on, highest first.
+fn number_at(s: &[u8], at: u8) -> u32 {
+    let i = at as usize;
+    let high = byte_at(s, i) * 256 + byte_at(s, i + 1);
+    let low = byte_at(s, i + 2) * 256 + byte_at(s, i + 3);
+    high * 65536 + low
+}
+
+fn show_write(note: &mut [u8], n: Note) {
+    match notes::write_note(note, n) {
+        Put::Written(k) => {
+            lines::print_text(b"0 ");
+            lines::print_number(k as u64);
+        }
+        Put::NoRoom => lines::print_text(b"10 0"),
+    }
+    lines::print_text(b": ");
+    lines::print_bytes(note);
+}
+
+fn run_write(s: &[u8]) {
+    let n = Note {
+        refusal: number_at(s, 1),
+        place: number_at(s, 5),
+        kind: number_at(s, 9),
+        series: number_at(s, 13),
+        intervals: number_at(s, 17),
+    };
+    let mut buf = [255u8; 32];
+    let room = byte_at(s, 0) as usize;
+    if room <= 32 {
+        show_write(&mut buf[..room], n);
+    }
+}
+
+fn run_case(line: &[u8]) {
+    let mut bytes = io::buffer();
+    let n = lines::put_bytes(line, &mut bytes);
+    if byte_at(line, 0) == 114 {
+        show_read(&bytes[..n]);
+    } else if byte_at(line, 0) == 119 {
+        run_write(&bytes[..n]);
+    } else {
+        lines::print_text(line);
+    }
+    lines::print_text(b"\n");
+}
+
+fn run_lines(s: &[u8]) {
+    let mut at: usize = 0;
+    while at < s.len() {
+        let line = lines::line_at(s, at);
+        run_case(line);
+        at += line.len() + 1;
+    }
+}
+
+fn main() {
+    let mut buf = lines::input_buffer();
+    let n = lines::read_input(&mut buf);
+    run_lines(&buf[..n]);
+}

@@ -1,0 +1,5 @@
+pub mod Reading
+pub mod Forms
+pub mod Blind
+pub mod Examples
+pub mod Unique

@@ -1,0 +1,5 @@
+pub mod Digits
+pub mod Number
+pub mod Amount
+pub mod Parts
+pub mod Shape

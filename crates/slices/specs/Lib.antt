@@ -1,0 +1,5 @@
+pub mod Bytes
+pub mod Run
+pub mod Walk
+pub mod Same
+pub mod Text

@@ -1,0 +1,42 @@
+-- A tag of at most one attribute has none twice. Assumes nothing.
+use Prim.Native.Nat.{ℕ, _<_, _≤_}
+use mathlib.Core.Path.{_≡_, refl, _∙_}
+use mathlib.Core.List.{List, [], _∷_}
+use mathlib.Core.Bool.{Bool, true, false, cond}
+use mathlib.Core.Logic.{⊎-elim}
+use native.Mathlib.Omega.{arith}
+use lib.Dec.{ltb}
+use Rattle.lists.proofs.Cases.{by-cond, ltb-cases}
+use Rattle.slices.specs.Same.{same}
+use Rattle.slices.specs.Text.{text}
+use Rattle.tags.specs.Known.{noneKnown, noted, oneMore}
+use Rattle.tags.specs.Tail.{Attr, keep, named, twice}
+use Rattle.tags.specs.declared.Span.{Span}
+use Rattle.tags.specs.declared.Known.{Known}
+
+noted-many : (k : Known) (n : List ℕ) (v : Span) → (noted k n v) .many ≡ oneMore (k .many)
+unfolding noted
+noted-many k n v =
+    by-cond P (same n (text "v")) refl (by-cond P (same n (text "codingScheme")) refl (by-cond P (same n (text "DtdBDEWNachrichtenVersion")) refl refl))
+  where
+    P : Known → Type 0
+    P x = x .many ≡ oneMore (k .many)
+
+-- two stay two
+stays : (k : Known) (more : List Attr) → 2 ≤ k .many → 2 ≤ (keep k more) .many
+unfolding keep oneMore
+stays k [] h = h
+stays k (a ∷ more) h =
+    stays (noted k (a .name) (a .value)) more
+    (rw (noted-many k (a .name) (a .value)) (⊎-elim (λ y. absurd (omega arith)) (λ y. rw (y .1) h) (ltb-cases (k .many) 2)))
+
+pub few : (more : List Attr) → (keep noneKnown more) .many < 2 → twice more ≡ false
+unfolding keep noneKnown named twice oneMore
+few [] h = refl
+few (a ∷ []) h = refl
+few (a ∷ (b ∷ more)) h =
+    let first = noted noneKnown (a .name) (a .value) in
+    let e : first .many ≡ 1 = noted-many noneKnown (a .name) (a .value) in
+    let f : (noted first (b .name) (b .value)) .many ≡ 2 = noted-many first (b .name) (b .value) ∙ rw e in
+    let g = stays (noted first (b .name) (b .value)) more (omega arith) in
+    absurd (omega arith)

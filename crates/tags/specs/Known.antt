@@ -1,0 +1,35 @@
+-- What is kept of a tag's attributes: the values of those that the guideline knows, and what is needed of the others.
+use Prim.Native.Nat.{ℕ, _+_}
+use mathlib.Core.List.{List}
+use mathlib.Core.Bool.{Bool, true, false, cond}
+use lib.Dec.{ltb}
+use Rattle.slices.specs.Same.{same, begins}
+use Rattle.slices.specs.Text.{text}
+use Rattle.tags.specs.declared.Span.{Span}
+use Rattle.tags.specs.declared.Known.{Known}
+
+-- "On the root, attributes named `xmlns` or beginning `xmlns:` or `xsi:` are passed over."
+unfoldable pub passedOver : List ℕ → Bool
+passedOver n = cond (same n (text "xmlns")) true (cond (begins (text "xmlns:") n) true (begins (text "xsi:") n))
+
+-- No value starts at 0, where a tag has its `<`: so 0 is the start of a value that is not there.
+unfoldable pub absent : Span
+absent = record { start = 0; len = 0 }
+
+unfoldable pub noneKnown : Known
+noneKnown = record { v = absent; coding = absent; version = absent; others = false; passable = true; many = 0 }
+
+-- none, one, or more than one
+unfoldable pub oneMore : ℕ → ℕ
+oneMore many = cond (ltb many 2) (many + 1) many
+
+-- the attribute's name is one of the guideline's, or another
+unfoldable pub noted : Known → List ℕ → Span → Known
+noted k name value =
+    cond (same name (text "v"))
+    (record { v = value; coding = k .coding; version = k .version; others = k .others; passable = k .passable; many = oneMore (k .many) })
+    (cond (same name (text "codingScheme"))
+    (record { v = k .v; coding = value; version = k .version; others = k .others; passable = k .passable; many = oneMore (k .many) })
+    (cond (same name (text "DtdBDEWNachrichtenVersion"))
+    (record { v = k .v; coding = k .coding; version = value; others = k .others; passable = k .passable; many = oneMore (k .many) })
+    (record { v = k .v; coding = k .coding; version = k .version; others = true; passable = cond (passedOver name) (k .passable) false; many = oneMore (k .many) })))

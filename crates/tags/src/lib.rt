@@ -1,0 +1,174 @@
+// A tag after its name: what is kept of its attributes, and where it ends.
+use attributes::Piece;
+use attributes::part;
+use attributes::piece_at;
+use slices::begins_with;
+use slices::is_same;
+use slices::rest;
+ghost use mathlib.Core.Path.{_≡_};
+ghost use Prim.Native.Nat.{_+_, _≤_};
+ghost use lib.ListN.{length};
+ghost use Rattle.slices.specs.Same.{same};
+ghost use Rattle.slices.specs.Text.{text};
+ghost use Rattle.tags.specs.Known.{passedOver, oneMore, noted, noneKnown};
+ghost use Rattle.tags.specs.Tail.{ends, tail, tailUse, tailValue};
+
+fn is_passed_over(name: &[u8]) -> bool
+    ensures { λ r. ⌜ r ≡ passedOver (now (name .entry)) ⌝ }
+{
+    if is_same(name, b"xmlns") {
+        return true;
+    }
+    if begins_with(b"xmlns:", name) {
+        return true;
+    }
+    begins_with(b"xsi:", name)
+}
+
+// Where a value stands, counted from the first byte of its tag; a start of 0 says that it is not there.
+pub struct Span {
+    pub start: usize,
+    pub len: usize,
+}
+
+// What is kept of a tag's attributes while it is read.
+pub struct Known {
+    pub v: Span,
+    pub coding: Span,
+    pub version: Span,
+    // whether there are attributes with other names, and whether all of those may be passed over on a root
+    pub others: bool,
+    pub passable: bool,
+    // how many attributes there are: none, one, or 2 for more
+    pub many: usize,
+}
+
+fn one_more(many: usize) -> usize
+    ensures { λ r. ⌜ r ≡ oneMore many ⌝ }
+{
+    if many < 2 { many + 1 } else { many }
+}
+
+// Nearly every attribute is named `v`: that is seen without a walk.
+fn is_v(name: &[u8]) -> bool
+    ensures { λ r. ⌜ r ≡ same (now (name .entry)) (text "v") ⌝ }
+{
+    if name.len() == 1 {
+        name[0] == 0x76
+    } else {
+        false
+    }
+}
+
+impl Known {
+    pub fn none() -> Known
+        ensures { λ r. ⌜ r ≡ noneKnown ⌝ }
+    {
+        let absent = Span { start: 0, len: 0 };
+        Known {
+            v: absent,
+            coding: absent,
+            version: absent,
+            others: false,
+            passable: true,
+            many: 0,
+        }
+    }
+
+    // Ruled out: a value kept under another name; an attribute `vv` or `V` taken for `v`; `xsi` passed over.
+    pub fn noted(self, name: &[u8], value: Span) -> Known
+        ensures { λ r. ⌜ r ≡ noted self (now (name .entry)) value ⌝ }
+    {
+        let v = self.v;
+        let coding = self.coding;
+        let version = self.version;
+        let others = self.others;
+        let passable = self.passable;
+        let many = one_more(self.many);
+        if is_v(name) {
+            return Known {
+                v: value,
+                coding,
+                version,
+                others,
+                passable,
+                many,
+            };
+        }
+        if is_same(name, b"codingScheme") {
+            return Known {
+                v,
+                coding: value,
+                version,
+                others,
+                passable,
+                many,
+            };
+        }
+        if is_same(name, b"DtdBDEWNachrichtenVersion") {
+            return Known {
+                v,
+                coding,
+                version: value,
+                others,
+                passable,
+                many,
+            };
+        }
+        if is_passed_over(name) {
+            return Known {
+                v,
+                coding,
+                version,
+                others: true,
+                passable,
+                many,
+            };
+        }
+        Known {
+            v,
+            coding,
+            version,
+            others: true,
+            passable: false,
+            many,
+        }
+    }
+}
+
+pub enum Tail {
+    // what is kept of the attributes, whether the tag is an empty one, and the place after it
+    Shut(Known, bool, usize),
+    Breaks,
+}
+
+// The rest of the tag at the front of s, from the place `from` on.
+// Ruled out: the value of another attribute; an empty tag taken for a start; a place before or past the `>`.
+pub fn tail_at(s: &[u8], from: usize) -> Tail
+    ensures tail { λ r. ⌜ r ≡ tail noneKnown (ends (now (s .entry)) from) ⌝ }
+    ensures size { λ r. ⌜ (1 ≤ tailUse r) × (tailUse r ≤ length (now (s .entry)) + 3) × (tailValue r ≤ tailUse r) ⌝ }
+{
+    let mut k = Known::none();
+    let mut i = from;
+    while i < s.len() {
+        let t = rest(s, i);
+        match piece_at(t) {
+            Piece::Attribute {
+                at,
+                name,
+                value,
+                len,
+                next,
+            } => {
+                let start = i + value;
+                let after = i + next;
+                k = k.noted(part(t, at, name), Span { start, len });
+                i = after;
+            }
+            Piece::Close(n) => return Tail::Shut(k, false, i + n),
+            Piece::CloseEmpty(n) => return Tail::Shut(k, true, i + n),
+            Piece::Torn => return Tail::Breaks,
+        }
+    }
+    Tail::Breaks
+}

@@ -1,0 +1,4 @@
+pub mod Unique
+pub mod Below
+pub mod Consecutive
+pub mod Examples

@@ -1,0 +1,44 @@
+-- "years 2000 to 2099, real calendar dates": dates, and days counted from 2000-01-01.
+use Prim.Native.Nat.{ℕ, _+_, _-_, _*_, _/_, _%_}
+use mathlib.Core.Bool.{Bool, cond, _&&_}
+use lib.Dec.{leb, eqb}
+use Rattle.times.specs.declared.Day.{Day}
+use Rattle.times.specs.declared.Day.the-variants.{DayIs, NoDay}
+
+-- leap years: of the years 2000 to 2099 exactly those that 4 divides
+unfoldable pub leap : ℕ → Bool
+leap y = eqb (y % 4) 0
+
+-- the days of a month
+unfoldable pub monthDays : ℕ → ℕ → ℕ
+monthDays y m =
+    cond (eqb m 2) (cond (leap y) 29 28)
+    (cond (eqb m 4) 30 (cond (eqb m 6) 30 (cond (eqb m 9) 30 (cond (eqb m 11) 30 31))))
+
+-- "years 2000 to 2099, real calendar dates"
+unfoldable pub realDate : ℕ → ℕ → ℕ → Bool
+realDate y m d = leb 2000 y && (leb y 2099 && (leb 1 m && (leb m 12 && (leb 1 d && leb d (monthDays y m)))))
+
+-- the days of a year with no leap day before the first of a month
+unfoldable pub daysBefore : ℕ → ℕ
+daysBefore m =
+    cond (eqb m 1) 0 (cond (eqb m 2) 31 (cond (eqb m 3) 59 (cond (eqb m 4) 90
+    (cond (eqb m 5) 120 (cond (eqb m 6) 151 (cond (eqb m 7) 181 (cond (eqb m 8) 212
+    (cond (eqb m 9) 243 (cond (eqb m 10) 273 (cond (eqb m 11) 304 334))))))))))
+
+-- the leap day of the year itself, from March on
+unfoldable pub leapDay : ℕ → ℕ → ℕ
+leapDay y m = cond (leap y) (cond (leb 3 m) 1 0) 0
+
+-- days from 2000-01-01 on: 365 for each year before, a leap day for each of 2000, 2004 and so on before, the months before, the days before
+unfoldable pub dayNumber : ℕ → ℕ → ℕ → ℕ
+dayNumber y m d = (y - 2000) * 365 + (y - 2000 + 3) / 4 + daysBefore m + leapDay y m + (d - 1)
+
+-- the number of a real date
+unfoldable pub dayOf : ℕ → ℕ → ℕ → Day
+dayOf y m d = cond (realDate y m d) (DayIs (dayNumber y m d)) NoDay
+
+-- for the bound that callers need of a number
+abbrev pub dayCount : Day → ℕ
+dayCount (DayIs n) = n
+dayCount NoDay = 0

@@ -1,0 +1,4 @@
+pub mod Calendar
+pub mod After
+pub mod Times
+pub mod Periods

@@ -1,0 +1,4 @@
+pub mod Trails
+pub mod Spaces
+pub mod Dropping
+pub mod Unique

@@ -1,0 +1,1 @@
+pub fn clear_bytes ( b : & mut [ u8 ] ) ;
