@@ -71,8 +71,8 @@ unfoldable pub piece : List ℕ → Piece
 piece s = pieceAfter s (run white s)
 
 -- the n bytes from at on
-unfoldable pub nameOf : List ℕ → ℕ → ℕ → List ℕ
-nameOf s at n = take n (drop at s)
+unfoldable pub partOf : List ℕ → ℕ → ℕ → List ℕ
+partOf s at n = take n (drop at s)
 
 -- how far a value and a piece reach
 abbrev pub valueEnd : Value → ℕ

@@ -9,8 +9,10 @@ ghost use Prim.Native.Nat.{_+_, _≤_};
 ghost use lib.ListN.{length};
 ghost use Rattle.slices.specs.Run.{run};
 ghost use Rattle.attributes.specs.Names.{nameStart, nameByte, white};
-ghost use Rattle.attributes.specs.Attribute.{quote, fit, plain, value, valueEnd, opening, attribute, piece, pieceUse, pieceValue, nameOf};
+ghost use Rattle.attributes.specs.Attribute.{quote, fit, plain, value, valueEnd, opening, attribute, piece, pieceUse, pieceValue, partOf};
 
+// Whether a name may begin with the byte.
+// Ruled out: true for a digit, `-`, `.` or `:`; false for `_`.
 pub fn is_name_start(b: u8) -> bool
     ensures { λ r. ⌜ r ≡ nameStart b ⌝ }
 {
@@ -249,9 +251,10 @@ pub fn piece_at(s: &[u8]) -> Piece
     attribute_at(s, w)
 }
 
-// The n bytes of s from at on.
+// The n bytes of s from at on, fewer where s ends before.
+// Ruled out: the n bytes before at; bytes past n.
 pub fn part(s: &[u8], at: usize, n: usize) -> &[u8]
-    ensures { λ r. ⌜ now r ≡ nameOf (now (s .entry)) at n ⌝ }
+    ensures { λ r. ⌜ now r ≡ partOf (now (s .entry)) at n ⌝ }
 {
     front(rest(s, at), n)
 }

@@ -1,2 +1,3 @@
 pub mod Saying
 pub mod Ascii
+pub mod Unique

@@ -1,26 +1,15 @@
 -- Stores into a list.
---     map-set, get-sets, sets-out    a store under a map, a cell after those stored, stores past the end
---     Putting                        a loop that puts w into a buffer cell by cell, as far as it has room
+--     sets-out    stores past the end
+--     Putting     a loop that puts w into a buffer cell by cell, as far as it has room
 -- Assumes nothing.
 use mathlib.Core.Path.{_≡_, refl, sym, ap, _∙_}
-use mathlib.Core.List.{List, [], _∷_, map}
+use mathlib.Core.List.{List, [], _∷_}
 use mathlib.Core.Logic.{⊎-elim}
-use Prim.Native.Nat.{ℕ, zero, suc, _+_, _≤_, min}
+use Prim.Native.Nat.{ℕ, suc, _+_, _≤_, min}
 use native.Mathlib.Omega.{arith}
-use lib.ListN.{length, getD, set, length-set}
-use lib.Seq.{sets, set-out, getD-set-other}
+use lib.ListN.{length, set, length-set}
+use lib.Seq.{sets, set-out}
 use Rattle.lists.proofs.Cases.{ltb-cases}
-
-pub map-set : {A B : Type 0} (f : A → B) (l : List A) (i : ℕ) (a : A) → map f (set l i a) ≡ set (map f l) i (f a)
-map-set f [] i a = refl
-map-set f (x ∷ l) zero a = refl
-map-set f (x ∷ l) (suc i) a = ap (λ r. f x ∷ r) (map-set f l i a)
-
--- what stands after the cells that were stored
-pub get-sets : (vs l : List ℕ) (i j : ℕ) → i + length vs ≤ j → getD (sets l i vs) j 0 ≡ getD l j 0
-get-sets [] l i j h = refl
-get-sets (a ∷ vs) l i j h =
-    get-sets vs (set l i a) (suc i) j (omega arith) ∙ getD-set-other l i j a 0 (λ e. absurd (omega arith))
 
 module _ {A : Type 0} where
   -- stores past the end

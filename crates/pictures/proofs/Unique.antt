@@ -1,14 +1,16 @@
 -- Two outcomes that a contract permits are equal.
+-- Assumes nothing.
 use Prim.Native.Nat.{ℕ}
-use mathlib.Core.Path.{_≡_, sym, _∙_}
+use mathlib.Core.Path.{_≡_}
 use mathlib.Core.List.{List}
 use mathlib.Core.Bool.{Bool}
+use Rattle.lists.proofs.Unique.{one}
 use Rattle.characters.specs.Says.{says}
 use Rattle.pictures.specs.Picture.{fitsOf}
 use Rattle.pictures.specs.Number.{numberAt}
 
 pub fits-one : (picture v : List ℕ) {r r′ : Bool} → r ≡ fitsOf picture (says v) → r′ ≡ fitsOf picture (says v) → r ≡ r′
-fits-one picture v e e′ = e ∙ sym e′
+fits-one picture v = one
 
 pub number-at-one : (from n : ℕ) (v : List ℕ) {r r′ : ℕ} → r ≡ numberAt from n (says v) → r′ ≡ numberAt from n (says v) → r ≡ r′
-number-at-one from n v e e′ = e ∙ sym e′
+number-at-one from n v = one

@@ -11,7 +11,7 @@ use Rattle.slices.specs.Run.{run}
 use Rattle.slices.specs.Same.{same, begins}
 use Rattle.slices.specs.Text.{text}
 use Rattle.attributes.specs.Names.{white}
-use Rattle.attributes.specs.Attribute.{piece, nameOf}
+use Rattle.attributes.specs.Attribute.{piece, partOf}
 use Rattle.attributes.specs.declared.Piece.{Piece}
 use Rattle.attributes.specs.declared.Piece.the-variants.{Attribute, Close, CloseEmpty, Torn}
 use Rattle.prolog.specs.declared.Begin.{Begin}
@@ -41,8 +41,8 @@ declared before s a = declaredBy before s (a + run white (drop a s))
 -- an attribute after the version has to be the encoding
 unfoldable pub encodedBy : ℕ → List ℕ → ℕ → Piece → Begin
 encodedBy before s a (Attribute w n v m e) =
-    cond (same (nameOf (drop a s) w n) (text "encoding"))
-    (cond (utf (nameOf (drop a s) v m)) (declared before s (a + e)) (Unreadable before))
+    cond (same (partOf (drop a s) w n) (text "encoding"))
+    (cond (utf (partOf (drop a s) v m)) (declared before s (a + e)) (Unreadable before))
     (Unreadable before)
 encodedBy before s a (Close n) = declared before s a
 encodedBy before s a (CloseEmpty n) = declared before s a
@@ -54,8 +54,8 @@ encoded before s a = encodedBy before s a (piece (drop a s))
 -- the first attribute has to be the version
 unfoldable pub declarationBy : ℕ → List ℕ → Piece → Begin
 declarationBy before s (Attribute w n v m e) =
-    cond (same (nameOf (drop 5 s) w n) (text "version"))
-    (cond (same (nameOf (drop 5 s) v m) (text "1.0")) (encoded before s (5 + e)) (Unreadable before))
+    cond (same (partOf (drop 5 s) w n) (text "version"))
+    (cond (same (partOf (drop 5 s) v m) (text "1.0")) (encoded before s (5 + e)) (Unreadable before))
     (Unreadable before)
 declarationBy before s (Close n) = Unreadable before
 declarationBy before s (CloseEmpty n) = Unreadable before

@@ -74,7 +74,13 @@ fn encoding_at(before: usize, s: &[u8], a: usize) -> Begin
 {
     let t = rest(s, a);
     match piece_at(t) {
-        Piece::Attribute { at, name, value, len, next } => {
+        Piece::Attribute {
+            at,
+            name,
+            value,
+            len,
+            next,
+        } => {
             if is_same(part(t, at, name), b"encoding") {
                 if is_utf(part(t, value, len)) {
                     return declared_to(before, s, a + next);
@@ -95,7 +101,13 @@ fn declaration_at(before: usize, s: &[u8]) -> Begin
 {
     let t = rest(s, 5);
     match piece_at(t) {
-        Piece::Attribute { at, name, value, len, next } => {
+        Piece::Attribute {
+            at,
+            name,
+            value,
+            len,
+            next,
+        } => {
             if is_same(part(t, at, name), b"version") {
                 if is_same(part(t, value, len), b"1.0") {
                     return encoding_at(before, s, 5 + next);
@@ -113,7 +125,11 @@ fn mark_len(doc: &[u8]) -> usize
     ensures len { λ r. ⌜ r ≡ markLen (now (doc .entry)) ⌝ }
     ensures size { λ r. ⌜ r ≤ 3 ⌝ }
 {
-    if begins_with(b"\xEF\xBB\xBF", doc) { 3 } else { 0 }
+    if begins_with(b"\xEF\xBB\xBF", doc) {
+        3
+    } else {
+        0
+    }
 }
 
 // Where the first item of the document begins.

@@ -4,7 +4,7 @@ ghost use mathlib.Core.Path.{_≡_};
 ghost use Prim.Native.Nat.{_-_, _≤_};
 ghost use lib.ListN.{length, take, drop};
 ghost use Rattle.slices.specs.Bytes.{byte};
-ghost use Rattle.slices.specs.Same.{same, begins};
+ghost use Rattle.slices.specs.Same.{same, begins, firstAt};
 
 // The byte at i, and 0 past the end.
 // Ruled out: the last byte for an i past the end; the byte after i.
@@ -56,4 +56,20 @@ pub fn begins_with(t: &[u8], s: &[u8]) -> bool
     ensures { λ r. ⌜ r ≡ begins (now (t .entry)) (now (s .entry)) ⌝ }
 {
     is_same(t, front(s, t.len()))
+}
+
+// Where t first stands in s, and the length of s where it does not.
+// Ruled out: a later place; a place where only a first part of t stands.
+pub fn first_at(t: &[u8], s: &[u8]) -> usize
+    ensures place { λ r. ⌜ r ≡ firstAt (now (t .entry)) (now (s .entry)) ⌝ }
+    ensures size { λ r. ⌜ r ≤ length (now (s .entry)) ⌝ }
+{
+    let mut i = 0;
+    while i < s.len() {
+        if begins_with(t, &s[i..]) {
+            return i;
+        }
+        i += 1;
+    }
+    i
 }

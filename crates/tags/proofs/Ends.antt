@@ -10,7 +10,7 @@ use lib.Seq.{drop-drop}
 use Rattle.lists.proofs.Cases.{by-cond}
 use Rattle.slices.specs.Same.{same}
 use Rattle.slices.specs.Text.{text}
-use Rattle.attributes.specs.Attribute.{piece, nameOf}
+use Rattle.attributes.specs.Attribute.{piece, partOf}
 use Rattle.attributes.specs.declared.Piece.{Piece}
 use Rattle.attributes.specs.declared.Piece.the-variants.{Attribute, Close, CloseEmpty, Torn}
 use Rattle.tags.specs.Known.{noted}
@@ -27,7 +27,7 @@ skip (suc k) at (b ∷ t) = skip k (suc at) t ∙ ap (λ (n : ℕ). endsAfter 0 
 
 -- the attribute that a piece tells of, in the part l that starts at the place `at`
 abbrev pub attr : ℕ → List ℕ → ℕ → ℕ → ℕ → ℕ → Attr
-attr at l w n v m = record { name = nameOf l w n; value = record { start = at + v; len = m } }
+attr at l w n v m = record { name = partOf l w n; value = record { start = at + v; len = m } }
 
 at-attribute : (at : ℕ) (l : List ℕ) (w n v m e : ℕ) → 0 < length l → piece l ≡ Attribute w n v m e → 1 ≤ e
     → endsAfter 0 at l ≡ onto (attr at l w n v m) (endsAfter 0 (at + e) (drop e l))
@@ -90,7 +90,7 @@ tail-onto k a torn = refl
 -- one turn of a loop that keeps attributes: name is what was read as the attribute's name, k and next what is kept before and after it
 pub tail-attribute : (s : List ℕ) (i : ℕ) (k : Known) {t : List ℕ} {x : Piece} {w n v m e : ℕ} {name : List ℕ} {next : Known}
     → t ≡ drop i s → x ≡ piece t → i < length s → x ≡ Attribute w n v m e → 1 ≤ e
-    → name ≡ nameOf t w n → next ≡ noted k name (record { start = i + v; len = m })
+    → name ≡ partOf t w n → next ≡ noted k name (record { start = i + v; len = m })
     → tail next (ends s (i + e)) ≡ tail k (ends s i)
 tail-attribute s i k {t} {x} {w} {n} {v} {m} {e} {name} {next} et ex h q p en ek =
     ap (λ (y : Known). tail y (ends s (i + e))) (ek ∙ ap (λ (y : List ℕ). noted k y (record { start = i + v; len = m })) en)

@@ -4,7 +4,7 @@ use mathlib.Core.List.{List, [], _∷_}
 use mathlib.Core.Bool.{Bool, true, false, cond}
 use lib.ListN.{drop}
 use Rattle.slices.specs.Same.{same}
-use Rattle.attributes.specs.Attribute.{piece, nameOf}
+use Rattle.attributes.specs.Attribute.{piece, partOf}
 use Rattle.tags.specs.Known.{noted}
 use Rattle.attributes.specs.declared.Piece.{Piece}
 use Rattle.attributes.specs.declared.Piece.the-variants.{Attribute, Close, CloseEmpty, Torn}
@@ -33,7 +33,7 @@ endsAfter k at [] = torn
 endsAfter (suc k) at (b ∷ t) = endsAfter k (suc at) t
 endsAfter zero at (b ∷ t) =
     elim (piece (b ∷ t)) [
-      | Attribute w n v m e ↦ onto (record { name = nameOf (b ∷ t) w n; value = record { start = at + v; len = m } }) (endsAfter (pred e) (suc at) t)
+      | Attribute w n v m e ↦ onto (record { name = partOf (b ∷ t) w n; value = record { start = at + v; len = m } }) (endsAfter (pred e) (suc at) t)
       | Close n ↦ closed [] false (at + n)
       | CloseEmpty n ↦ closed [] true (at + n)
       | Torn ↦ torn

@@ -61,6 +61,7 @@ fn is_v(name: &[u8]) -> bool
 }
 
 impl Known {
+    // No attribute yet. Ruled out: a value that is there; others that may not be passed over.
     pub fn none() -> Known
         ensures { λ r. ⌜ r ≡ noneKnown ⌝ }
     {
@@ -76,63 +77,28 @@ impl Known {
     }
 
     // Ruled out: a value kept under another name; an attribute `vv` or `V` taken for `v`; `xsi` passed over.
-    pub fn noted(self, name: &[u8], value: Span) -> Known
+    pub fn noted(mut self, name: &[u8], value: Span) -> Known
         ensures { λ r. ⌜ r ≡ noted self (now (name .entry)) value ⌝ }
     {
-        let v = self.v;
-        let coding = self.coding;
-        let version = self.version;
-        let others = self.others;
-        let passable = self.passable;
-        let many = one_more(self.many);
+        self.many = one_more(self.many);
         if is_v(name) {
-            return Known {
-                v: value,
-                coding,
-                version,
-                others,
-                passable,
-                many,
-            };
+            self.v = value;
+            return self;
         }
         if is_same(name, b"codingScheme") {
-            return Known {
-                v,
-                coding: value,
-                version,
-                others,
-                passable,
-                many,
-            };
+            self.coding = value;
+            return self;
         }
         if is_same(name, b"DtdBDEWNachrichtenVersion") {
-            return Known {
-                v,
-                coding,
-                version: value,
-                others,
-                passable,
-                many,
-            };
+            self.version = value;
+            return self;
         }
+        self.others = true;
         if is_passed_over(name) {
-            return Known {
-                v,
-                coding,
-                version,
-                others: true,
-                passable,
-                many,
-            };
+            return self;
         }
-        Known {
-            v,
-            coding,
-            version,
-            others: true,
-            passable: false,
-            many,
-        }
+        self.passable = false;
+        self
     }
 }
 

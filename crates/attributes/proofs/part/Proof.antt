@@ -1,4 +1,4 @@
-use Rattle.attributes.specs.Attribute.{nameOf}
+use Rattle.attributes.specs.Attribute.{partOf}
 use borrow.Author.Needs.{needs}
 use Rattle.attributes.proofs.part.Statement.{statement}
 use Rattle.attributes.proofs.part.Tie as tie
@@ -14,7 +14,7 @@ front-requires : tie.Need-front-requires
 front-requires c κs = search needs
 
 returns : tie.Need-returns
-unfolding nameOf
+unfolding partOf
 returns c = simp (← c .front .ensures .0, ← c .before .rest .ensures .0)
 
 pub part-spec : {M : Type 1} → statement M

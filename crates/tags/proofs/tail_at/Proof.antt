@@ -56,10 +56,11 @@ loop-less c = omega (arith, rw (c .before .before .before .at .given .1) at (c .
 
 loop-again : tie.Need-loop-again Inv-loop μ-loop
 loop-again c =
-    let z = rw (c .before .before .before .at .given .1) at (c .before .before .before .before .before .piece-at .ensures .1) in
-    (tail-attribute (c .before .before .before .before .before .before .before .before .before .before .before .args .s .now) (c .before .before .before .before .before .before .before .before .loop .i) (c .before .before .before .before .before .before .before .before .loop .k) (c .before .before .before .before .before .before .rest .ensures .0) (c .before .before .before .before .before .piece-at .ensures .0) (c .before .before .before .before .before .before .before .loop-test .taken) (c .before .before .before .at .given .1) (z .0) (c .before .part .ensures) (c .noted .ensures)
-    ∙ c .before .before .before .before .before .before .before .before .loop .inv .0,
-    noted-v (c .before .before .before .before .before .before .before .before .loop .k) _ _ _ (c .noted .ensures) (omega (arith, z, c .before .before .before .before .before .before .before .before .loop .inv .1)) (omega (arith, z)))
+    let z = rw (c .before .before .before .at .given .1) at (c .before .before .before .before .before .piece-at .ensures .1) in (
+      tail-attribute (c .before .before .before .before .before .before .before .before .before .before .before .args .s .now) (c .before .before .before .before .before .before .before .before .loop .i) (c .before .before .before .before .before .before .before .before .loop .k) (c .before .before .before .before .before .before .rest .ensures .0) (c .before .before .before .before .before .piece-at .ensures .0) (c .before .before .before .before .before .before .before .loop-test .taken) (c .before .before .before .at .given .1) (z .0) (c .before .part .ensures) (c .noted .ensures)
+          ∙ c .before .before .before .before .before .before .before .before .loop .inv .0,
+      noted-v (c .before .before .before .before .before .before .before .before .loop .k) _ _ _ (c .noted .ensures) (omega (arith, z, c .before .before .before .before .before .before .before .before .loop .inv .1)) (omega (arith, z)),
+    )
 
 enum-known-n : tie.Need-enum-known-n Inv-loop μ-loop
 enum-known-n c = search needs

@@ -43,11 +43,6 @@ pub by-cond : {A : Type 0} (P : A → Type 0) (t : Bool) {a b : A} → P a → P
 by-cond P true p q = p
 by-cond P false p q = q
 
--- as `search (cond-le, lit≤) depth n` takes it
-pub cond-le : {m : ℕ} (t : Bool) (a b : ℕ) → a ≤ m → b ≤ m → cond t a b ≤ m
-cond-le true a b p q = p
-cond-le false a b p q = q
-
 -- of a chain of tests, each of which would answer a: where the whole is c and a is not, no test answered
 pub past-cond : {A : Type 0} {a b c : A} (t : Bool) → (a ≡ c → ⊥) → cond t a b ≡ c → (t ≡ false) × (b ≡ c)
 past-cond true other e = absurd (other e)

@@ -1,0 +1,24 @@
+-- Two outcomes that a contract permits are equal.
+-- Assumes nothing.
+use Prim.Native.Nat.{ℕ}
+use mathlib.Core.Path.{_≡_}
+use mathlib.Core.List.{List}
+use mathlib.Core.Bool.{Bool}
+use lib.ListN.{length}
+use Rattle.lists.proofs.Unique.{one}
+use Rattle.characters.specs.Utf8.{charAt}
+use Rattle.characters.specs.Says.{allChars, saidAt, says}
+use Rattle.characters.specs.declared.Char.{Char}
+use Rattle.characters.specs.declared.Said.{Said}
+
+pub char-at-one : (s : List ℕ) {r r′ : Char} → r ≡ charAt s → r′ ≡ charAt s → r ≡ r′
+char-at-one s = one
+
+pub all-chars-one : (s : List ℕ) {r r′ : Bool} → r ≡ allChars s → r′ ≡ allChars s → r ≡ r′
+all-chars-one s = one
+
+pub said-at-one : (v : List ℕ) {r r′ : Said} → r ≡ saidAt v → r′ ≡ saidAt v → r ≡ r′
+said-at-one v = one
+
+pub count-chars-one : (v : List ℕ) {r r′ : ℕ} → r ≡ length (says v) → r′ ≡ length (says v) → r ≡ r′
+count-chars-one v = one

@@ -1,0 +1,3 @@
+pub mod Tagged
+pub mod Whites
+pub mod Unique

@@ -1,0 +1,228 @@
+// The item at the front of the part of the document that starts after the last item.
+use attributes::is_name_start;
+use attributes::name_len;
+use attributes::white_len;
+use characters::all_chars;
+use repeats::has_twice;
+use slices::byte_at;
+use slices::first_at;
+use slices::front;
+use slices::rest;
+use tags::Known;
+use tags::Span;
+use tags::Tail;
+use tags::tail_at;
+ghost use mathlib.Core.Path.{_≡_};
+ghost use mathlib.Core.Bool.{cond, false};
+ghost use Prim.Native.Nat.{_+_, _≤_};
+ghost use lib.Dec.{ltb};
+ghost use lib.ListN.{length};
+ghost use Rattle.slices.specs.Run.{run};
+ghost use Rattle.tags.specs.Tail.{ends, twiceIn};
+ghost use Rattle.items.specs.Comment.{comment};
+ghost use Rattle.items.specs.Text.{textByte, textItem};
+ghost use Rattle.items.specs.Item.{tagOf, startTag, endTag, commentTag, item, itemEnd, itemValue, readEnd};
+
+// A start or empty tag: `<` and the name, whose length is `name`; the values of the attributes that the guideline knows; whether it
+// has others, and whether all of those may be passed over on a root; how many bytes it takes.
+pub struct Tag {
+    pub name: usize,
+    pub v: Span,
+    pub coding: Span,
+    pub version: Span,
+    pub others: bool,
+    pub passable: bool,
+    pub len: usize,
+}
+
+pub enum Item {
+    Start(Tag),
+    Empty(Tag),
+    // the length of its name, and how many bytes it takes
+    End(usize, usize),
+    // whether it is white space only, and how many bytes it takes
+    Text(bool, usize),
+    Comment(usize),
+    // unreadable: its place
+    Refused(usize),
+}
+
+// How far a comment or a text reaches, or that it is unreadable.
+enum Reach {
+    Upto(usize),
+    Unread,
+}
+
+fn comment_at(s: &[u8]) -> Reach
+    ensures reach { λ r. ⌜ r ≡ comment (now (s .entry)) ⌝ }
+    ensures size { λ r. ⌜ (1 ≤ readEnd r) × (readEnd r ≤ length (now (s .entry)) + 3) ⌝ }
+{
+    let n = first_at(b"--", s);
+    if byte_at(s, n + 2) == 0x3E {
+        if all_chars(front(s, n)) {
+            return Reach::Upto(n + 3);
+        }
+    }
+    Reach::Unread
+}
+
+fn comment_tag(before: usize, s: &[u8]) -> Item
+    ensures item { λ r. ⌜ r ≡ commentTag before (now (s .entry)) ⌝ }
+    ensures size { λ r. ⌜ (1 ≤ itemEnd r) × (itemEnd r ≤ length (now (s .entry)) + 8) × (itemValue r ≤ itemEnd r) ⌝ }
+{
+    if byte_at(s, 2) == 0x2D {
+        if byte_at(s, 3) == 0x2D {
+            return match comment_at(rest(s, 4)) {
+                Reach::Upto(e) => Item::Comment(4 + e),
+                Reach::Unread => Item::Refused(before),
+            };
+        }
+    }
+    Item::Refused(before)
+}
+
+fn is_text_byte(b: u8) -> bool
+    ensures { λ r. ⌜ r ≡ textByte b ⌝ }
+{
+    if b == 0x3C { false } else { true }
+}
+
+fn text_len(s: &[u8]) -> usize
+    ensures run { λ r. ⌜ r ≡ run textByte (now (s .entry)) ⌝ }
+    ensures size { λ r. ⌜ r ≤ length (now (s .entry)) ⌝ }
+{
+    let mut i = 0;
+    while i < s.len() {
+        if is_text_byte(s[i]) {
+            i += 1;
+        } else {
+            return i;
+        }
+    }
+    i
+}
+
+fn any_text(before: usize, s: &[u8]) -> Item
+    ensures item { λ r. ⌜ r ≡ textItem before (now (s .entry)) ⌝ }
+    ensures size { λ r. ⌜ (1 ≤ itemEnd r) × (itemEnd r ≤ length (now (s .entry)) + 8) × (itemValue r ≤ itemEnd r) ⌝ }
+{
+    let n = text_len(s);
+    if n == 0 {
+        return Item::Refused(before);
+    }
+    if white_len(s) == n {
+        return Item::Text(true, n);
+    }
+    let t = front(s, n);
+    if all_chars(t) {
+        if first_at(b"&", t) < n {
+            return Item::Refused(before);
+        }
+        if first_at(b"]]>", t) < n {
+            return Item::Refused(before);
+        }
+        return Item::Text(false, n);
+    }
+    Item::Refused(before)
+}
+
+// White space up to a tag or the end, which nearly every text is, is told in one walk.
+fn text_at(before: usize, s: &[u8]) -> Item
+    ensures item { λ r. ⌜ r ≡ textItem before (now (s .entry)) ⌝ }
+    ensures size { λ r. ⌜ (1 ≤ itemEnd r) × (itemEnd r ≤ length (now (s .entry)) + 8) × (itemValue r ≤ itemEnd r) ⌝ }
+{
+    let w = white_len(s);
+    if 0 < w {
+        if byte_at(s, w) == 0x3C {
+            return Item::Text(true, w);
+        }
+    }
+    any_text(before, s)
+}
+
+fn tag_of(n: usize, k: Known, len: usize) -> Tag
+    ensures tag { λ r. ⌜ r ≡ tagOf n k len ⌝ }
+    ensures size { λ r. ⌜ (r .len ≡ len) × (r .v ≡ k .v) ⌝ }
+{
+    let v = k.v;
+    let coding = k.coding;
+    let version = k.version;
+    Tag {
+        name: n,
+        v,
+        coding,
+        version,
+        others: k.others,
+        passable: k.passable,
+        len,
+    }
+}
+
+// A tag of at most one attribute has none twice.
+fn is_repeated(k: Known, s: &[u8], from: usize) -> bool
+    ensures { λ r. ⌜ r ≡ cond (ltb (k .many) 2) false (twiceIn (ends (now (s .entry)) from)) ⌝ }
+{
+    if k.many < 2 {
+        return false;
+    }
+    has_twice(s, from)
+}
+
+fn start_tag(before: usize, s: &[u8]) -> Item
+    ensures item { λ r. ⌜ r ≡ startTag before (now (s .entry)) ⌝ }
+    ensures size { λ r. ⌜ (1 ≤ itemEnd r) × (itemEnd r ≤ length (now (s .entry)) + 8) × (itemValue r ≤ itemEnd r) ⌝ }
+{
+    if is_name_start(byte_at(s, 1)) {
+        let n = name_len(rest(s, 1));
+        let b = 1 + n;
+        match tail_at(s, b) {
+            Tail::Shut(k, empty, e) => {
+                if is_repeated(k, s, b) {
+                    return Item::Refused(before);
+                }
+                let t = tag_of(n, k, e);
+                if empty {
+                    return Item::Empty(t);
+                }
+                return Item::Start(t);
+            }
+            Tail::Breaks => return Item::Refused(before),
+        }
+    }
+    Item::Refused(before)
+}
+
+fn end_tag(before: usize, s: &[u8]) -> Item
+    ensures item { λ r. ⌜ r ≡ endTag before (now (s .entry)) ⌝ }
+    ensures size { λ r. ⌜ (1 ≤ itemEnd r) × (itemEnd r ≤ length (now (s .entry)) + 8) × (itemValue r ≤ itemEnd r) ⌝ }
+{
+    if is_name_start(byte_at(s, 2)) {
+        let n = name_len(rest(s, 2));
+        let b = 2 + n;
+        let e = b + white_len(rest(s, b));
+        if byte_at(s, e) == 0x3E {
+            return Item::End(n, e + 1);
+        }
+    }
+    Item::Refused(before)
+}
+
+// The item at the front of s, the part of the document after its first `before` bytes.
+// Ruled out: a tag with an attribute twice as readable; other text as white; an end tag with an attribute; the place of the fault
+// inside the item in place of the item's.
+pub fn item_at(before: usize, s: &[u8]) -> Item
+    ensures item { λ r. ⌜ r ≡ item before (now (s .entry)) ⌝ }
+    ensures size { λ r. ⌜ (1 ≤ itemEnd r) × (itemEnd r ≤ length (now (s .entry)) + 8) × (itemValue r ≤ itemEnd r) ⌝ }
+{
+    if byte_at(s, 0) == 0x3C {
+        let b = byte_at(s, 1);
+        if b == 0x2F {
+            return end_tag(before, s);
+        }
+        if b == 0x21 {
+            return comment_tag(before, s);
+        }
+        return start_tag(before, s);
+    }
+    text_at(before, s)
+}

@@ -1,0 +1,11 @@
+pub mod Order
+pub mod Pigeonhole
+pub mod Bearing
+pub mod Counted
+pub mod Paired
+pub mod Table
+pub mod Falling
+pub mod Named
+pub mod Collected
+pub mod Passes
+pub mod Unique

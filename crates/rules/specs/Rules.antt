@@ -1,0 +1,102 @@
+-- What a value has to be, by the number of its form in the guideline, and the refusal where it is not. Every rule takes what the value
+-- says and the values before it, and no document.
+use Prim.Native.Nat.{ℕ, _+_, _-_}
+use mathlib.Core.List.{List}
+use mathlib.Core.Bool.{Bool, true, false, cond}
+use lib.Dec.{leb, ltb, eqb}
+use Rattle.codes.specs.Lists.{listed, codesOf}
+use Rattle.forms.specs.Forms.{identification, marketPartner, resourceObject, party, quarterHour}
+use Rattle.numbers.specs.Number.{numberOf}
+use Rattle.numbers.specs.Amount.{amountOf}
+use Rattle.numbers.specs.declared.Number.{Number}
+use Rattle.numbers.specs.declared.Number.the-variants.{Is, NotNumber}
+use Rattle.numbers.specs.declared.Amount.{Amount}
+use Rattle.numbers.specs.declared.Amount.the-variants.{Thousandths, NotAmount}
+use Rattle.times.specs.Times.{dateTime, interval}
+use Rattle.times.specs.Periods.{dayPeriod, costPeriod}
+use Rattle.times.specs.declared.Interval.{Interval}
+use Rattle.times.specs.declared.Interval.the-variants.{Minutes, NotInterval}
+use Rattle.rules.specs.declared.Held.{Held}
+use Rattle.rules.specs.declared.Judged.{Judged}
+
+unfoldable pub unless : ℕ → Bool → ℕ
+unless number fits = cond fits 0 number
+
+-- "Version: 1 to 999, no leading zero."
+unfoldable pub versionBy : Number → Bool
+versionBy (Is n) = true
+versionBy NotNumber = false
+
+unfoldable pub version : List ℕ → Bool
+version cs = versionBy (numberOf cs 3)
+
+unfoldable pub amountBy : Amount → Bool
+amountBy (Thousandths z) = true
+amountBy NotAmount = false
+
+unfoldable pub amount : List ℕ → Bool
+amount cs = amountBy (amountOf cs)
+
+-- "6: value against its form or fixed value; 7: value outside its code list": "A value with a code list is judged by that list alone".
+-- The forms have the numbers of the guideline's rows.
+unfoldable pub formRefusal : ℕ → List ℕ → ℕ
+formRefusal form cs =
+    cond (eqb form 1) (unless 6 (identification cs))
+    (cond (eqb form 2) (unless 6 (identification cs))
+    (cond (eqb form 3) (unless 6 (marketPartner cs))
+    (cond (eqb form 4) (unless 6 (version cs))
+    (cond (eqb form 5) (unless 6 (dateTime cs))
+    (cond (eqb form 10) (unless 6 (amount cs))
+    (cond (eqb form 11) (unless 6 (resourceObject cs))
+    (cond (eqb form 12) (unless 6 (party cs))
+    (cond (leb 32 form) (unless 7 (listed (codesOf (form - 32)) cs)) 0))))))))
+
+-- the number alone, 0 for a value that is taken
+abbrev pub refused : ℕ → Judged
+refused number = record { number = number; first = 0; second = 0 }
+
+-- TimePeriodCovered, by kind
+unfoldable pub periodFits : ℕ → ℕ → ℕ → Bool
+periodFits kind from to = cond (eqb kind 1) (dayPeriod from to) (costPeriod from to)
+
+unfoldable pub judgePeriodBy : ℕ → Interval → Judged
+judgePeriodBy kind (Minutes from to) =
+    cond (periodFits kind from to) (record { number = 0; first = from; second = to }) (refused 8)
+judgePeriodBy kind NotInterval = refused 6
+
+unfoldable pub judgePeriod : ℕ → List ℕ → Judged
+judgePeriod kind cs = judgePeriodBy kind (interval cs)
+
+-- "TimeInterval equals TimePeriodCovered."
+unfoldable pub judgeIntervalBy : ℕ → ℕ → Interval → Judged
+judgeIntervalBy from to (Minutes a b) =
+    cond (eqb a from) (cond (eqb b to) (refused 0) (refused 8))
+    (refused 8)
+judgeIntervalBy from to NotInterval = refused 6
+
+unfoldable pub judgeInterval : ℕ → ℕ → List ℕ → Judged
+judgeInterval from to cs = judgeIntervalBy from to (interval cs)
+
+-- "Pos is at most N. Kind 1: 1, 2, 3 and so on. .. Kind 2 (curve A03): the first Pos is 1, later ones rise"
+unfoldable pub positionFits : ℕ → ℕ → ℕ → ℕ → Bool
+positionFits kind quarters last p =
+    cond (ltb quarters p) false
+    (cond (eqb kind 1) (eqb p (last + 1))
+    (cond (eqb last 0) (eqb p 1) (ltb last p)))
+
+unfoldable pub judgePositionBy : ℕ → ℕ → ℕ → Number → Judged
+judgePositionBy kind quarters last (Is p) =
+    cond (positionFits kind quarters last p) (record { number = 0; first = p; second = 0 }) (refused 8)
+judgePositionBy kind quarters last NotNumber = refused 6
+
+unfoldable pub judgePosition : ℕ → ℕ → ℕ → List ℕ → Judged
+judgePosition kind quarters last cs = judgePositionBy kind quarters last (numberOf cs 5)
+
+-- a value by its form: 6 TimePeriodCovered, 7 TimeInterval, 8 Resolution ("any other is refusal 8"), 9 Pos, and those with a form alone
+unfoldable pub judge : ℕ → Held → List ℕ → Judged
+judge form h cs =
+    cond (eqb form 6) (judgePeriod (h .kind) cs)
+    (cond (eqb form 7) (judgeInterval (h .from) (h .to) cs)
+    (cond (eqb form 8) (refused (unless 8 (quarterHour cs)))
+    (cond (eqb form 9) (judgePosition (h .kind) (h .quarters) (h .last) cs)
+    (refused (formRefusal form cs)))))

@@ -1,0 +1,233 @@
+// What a row of the guideline asks of a value: its form or code list, and the values that it is held against.
+use codes::is_listed;
+use forms::is_identification;
+use forms::is_market_partner;
+use forms::is_party;
+use forms::is_quarter_hour;
+use forms::is_resource_object;
+use numbers::Amount;
+use numbers::Number;
+use numbers::amount_of;
+use numbers::number_of;
+use times::Interval;
+use times::interval_of;
+use times::is_cost_period;
+use times::is_date_time;
+use times::is_day_period;
+ghost use mathlib.Core.Path.{_≡_};
+ghost use Prim.Native.Nat.{_+_};
+ghost use lib.Dec.{eqb};
+ghost use Rattle.characters.specs.Says.{says};
+ghost use Rattle.rules.specs.Rules.{unless, version, amount, formRefusal, periodFits, positionFits, judgePeriod, judgeInterval, judgePosition, judge};
+
+// What a value is held against: the kind; TimePeriodCovered, in minutes, and its quarter hours; the last Pos, 0 before the first.
+pub struct Held {
+    pub kind: usize,
+    pub from: u32,
+    pub to: u32,
+    pub quarters: u32,
+    pub last: u32,
+}
+
+// The refusal's number, 0 for none, and what the value says: the two minutes of an interval, or a Pos.
+pub struct Judged {
+    pub number: u32,
+    pub first: u32,
+    pub second: u32,
+}
+
+fn refused_unless(number: u32, fits: bool) -> u32
+    ensures { λ r. ⌜ r ≡ unless number fits ⌝ }
+{
+    if fits { 0 } else { number }
+}
+
+fn is_version(v: &[u8]) -> bool
+    ensures { λ r. ⌜ r ≡ version (says (now (v .entry))) ⌝ }
+{
+    match number_of(v, 3) {
+        Number::Is(_) => true,
+        Number::NotNumber => false,
+    }
+}
+
+fn is_amount(v: &[u8]) -> bool
+    ensures { λ r. ⌜ r ≡ amount (says (now (v .entry))) ⌝ }
+{
+    match amount_of(v) {
+        Amount::Thousandths(_) => true,
+        Amount::NotAmount => false,
+    }
+}
+
+// The refusal of a value by its form or code list alone.
+fn form_refusal(form: usize, v: &[u8]) -> u32
+    ensures { λ r. ⌜ r ≡ formRefusal form (says (now (v .entry))) ⌝ }
+{
+    if form == 1 {
+        return refused_unless(6, is_identification(v));
+    }
+    if form == 2 {
+        return refused_unless(6, is_identification(v));
+    }
+    if form == 3 {
+        return refused_unless(6, is_market_partner(v));
+    }
+    if form == 4 {
+        return refused_unless(6, is_version(v));
+    }
+    if form == 5 {
+        return refused_unless(6, is_date_time(v));
+    }
+    if form == 10 {
+        return refused_unless(6, is_amount(v));
+    }
+    if form == 11 {
+        return refused_unless(6, is_resource_object(v));
+    }
+    if form == 12 {
+        return refused_unless(6, is_party(v));
+    }
+    if 32 <= form {
+        return refused_unless(7, is_listed(form - 32, v));
+    }
+    0
+}
+
+fn is_period(kind: usize, from: u32, to: u32) -> bool
+    ensures { λ r. ⌜ r ≡ periodFits kind from to ⌝ }
+{
+    if kind == 1 {
+        return is_day_period(from, to);
+    }
+    is_cost_period(from, to)
+}
+
+fn judge_period(v: &[u8], kind: usize) -> Judged
+    ensures { λ r. ⌜ r ≡ judgePeriod kind (says (now (v .entry))) ⌝ }
+{
+    match interval_of(v) {
+        Interval::Minutes(from, to) => {
+            if is_period(kind, from, to) {
+                return Judged {
+                    number: 0,
+                    first: from,
+                    second: to,
+                };
+            }
+            Judged {
+                number: 8,
+                first: 0,
+                second: 0,
+            }
+        }
+        Interval::NotInterval => Judged {
+            number: 6,
+            first: 0,
+            second: 0,
+        },
+    }
+}
+
+fn judge_interval(v: &[u8], from: u32, to: u32) -> Judged
+    ensures { λ r. ⌜ r ≡ judgeInterval from to (says (now (v .entry))) ⌝ }
+{
+    match interval_of(v) {
+        Interval::Minutes(a, b) => {
+            if a == from {
+                if b == to {
+                    return Judged {
+                        number: 0,
+                        first: 0,
+                        second: 0,
+                    };
+                }
+            }
+            Judged {
+                number: 8,
+                first: 0,
+                second: 0,
+            }
+        }
+        Interval::NotInterval => Judged {
+            number: 6,
+            first: 0,
+            second: 0,
+        },
+    }
+}
+
+fn is_next(last: u32, p: u32) -> bool
+    ensures { λ r. ⌜ r ≡ eqb p (last + 1) ⌝ }
+{
+    p as u64 == last as u64 + 1
+}
+
+fn is_position(kind: usize, quarters: u32, last: u32, p: u32) -> bool
+    ensures { λ r. ⌜ r ≡ positionFits kind quarters last p ⌝ }
+{
+    if quarters < p {
+        return false;
+    }
+    if kind == 1 {
+        return is_next(last, p);
+    }
+    if last == 0 {
+        return p == 1;
+    }
+    last < p
+}
+
+fn judge_position(v: &[u8], h: Held) -> Judged
+    ensures { λ r. ⌜ r ≡ judgePosition (h .kind) (h .quarters) (h .last) (says (now (v .entry))) ⌝ }
+{
+    match number_of(v, 5) {
+        Number::Is(p) => {
+            if is_position(h.kind, h.quarters, h.last, p) {
+                return Judged {
+                    number: 0,
+                    first: p,
+                    second: 0,
+                };
+            }
+            Judged {
+                number: 8,
+                first: 0,
+                second: 0,
+            }
+        }
+        Number::NotNumber => Judged {
+            number: 6,
+            first: 0,
+            second: 0,
+        },
+    }
+}
+
+// The refusal of a value, and what it says.
+// Ruled out: 6 for a value outside its code list; 8 for a Pos that is no number; a Pos above N taken.
+pub fn judge_value(form: usize, v: &[u8], h: Held) -> Judged
+    ensures { λ r. ⌜ r ≡ judge form h (says (now (v .entry))) ⌝ }
+{
+    if form == 6 {
+        return judge_period(v, h.kind);
+    }
+    if form == 7 {
+        return judge_interval(v, h.from, h.to);
+    }
+    if form == 8 {
+        return Judged {
+            number: refused_unless(8, is_quarter_hour(v)),
+            first: 0,
+            second: 0,
+        };
+    }
+    if form == 9 {
+        return judge_position(v, h);
+    }
+    Judged {
+        number: form_refusal(form, v),
+        first: 0,
+        second: 0,
+    }
+}
