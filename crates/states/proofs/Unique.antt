@@ -1,0 +1,17 @@
+-- The contracts of `begin` and `step` leave one possible answer. Assumes nothing.
+use mathlib.Core.Path.{_≡_}
+use mathlib.Core.List.{List}
+use Prim.Native.Nat.{ℕ}
+use Rattle.items.specs.declared.Item.{Item}
+use Rattle.lists.proofs.Unique.{one as only}
+use Rattle.states.specs.Moves.{begun, step}
+use Rattle.states.specs.declared.State.{State}
+use Rattle.states.specs.declared.Room.{Room}
+use Rattle.states.specs.declared.Step.{Step}
+
+pub begin-one : {r r′ : State} → r ≡ begun → r′ ≡ begun → r ≡ r′
+begin-one = only
+
+pub step-one : (x : State) (one two : List ℕ) (item : Item) (s : List ℕ) (room : Room) {r r′ : Step}
+    → r ≡ step x one two item s room → r′ ≡ step x one two item s room → r ≡ r′
+step-one x one two item s room = only

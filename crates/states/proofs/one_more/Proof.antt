@@ -1,0 +1,21 @@
+use borrow.Author.Tests.{le-leb, le-ltb, lt-leb, lt-ltb}
+use Rattle.states.specs.Moves.{oneMore}
+use borrow.Author.Needs.{needs}
+use Rattle.states.proofs.one_more.Statement.{statement}
+use Rattle.states.proofs.one_more.Tie as tie
+use Rattle.states.proofs.one_more.Reads as reads
+use Rattle.states.proofs.one_more.Lts as lts
+
+add-result : tie.Need-add-result
+add-result c = search needs
+
+returns : tie.Need-returns
+unfolding oneMore
+returns c = simp (lt-ltb _ _ (c .if1 .taken), lt-leb _ _ (c .if1 .taken))
+
+returns-2 : tie.Need-returns-2
+unfolding oneMore
+returns-2 c = simp (le-leb _ _ (c .if1 .left), le-ltb _ _ (c .if1 .left))
+
+pub one-more-spec : {M : Type 1} → statement M
+one-more-spec = tie.close (tie.spec add-result returns returns-2)

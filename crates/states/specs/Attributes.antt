@@ -1,0 +1,64 @@
+-- What a row asks of a tag's attributes and of their values.
+use Prim.Native.Nat.{ℕ, _-_}
+use mathlib.Core.List.{List}
+use mathlib.Core.Bool.{Bool, true, false, cond}
+use lib.Dec.{leb, eqb}
+use Rattle.characters.specs.Says.{says}
+use Rattle.attributes.specs.Attribute.{partOf}
+use Rattle.tags.specs.declared.Span.{Span}
+use Rattle.items.specs.declared.Tag.{Tag}
+use Rattle.trims.specs.Trim.{dropped}
+use Rattle.codes.specs.Lists.{listed, codesOf}
+use Rattle.forms.specs.Forms.{fixedVersion}
+use Rattle.rules.specs.Rules.{judge, refused}
+use Rattle.rules.specs.declared.Held.{Held}
+use Rattle.rules.specs.declared.Judged.{Judged}
+use Rattle.guideline.specs.Columns.{formOf, collapsed, schemeOf, roleOf}
+
+-- an attribute is there, which is known by where its value starts
+unfoldable pub there : Span → Bool
+there x = cond (eqb (x .start) 0) false true
+
+unfoldable pub agree : Bool → Bool → Bool
+agree asked given = cond asked given (cond given false true)
+
+unfoldable pub asksV : ℕ → Bool
+asksV w = cond (eqb (formOf w) 0) false true
+
+unfoldable pub asksScheme : ℕ → Bool
+asksScheme w = cond (eqb (schemeOf w) 0) false true
+
+-- no other attribute but, on the root, those that are passed over
+unfoldable pub noOthers : ℕ → Bool → Bool → Bool
+noOthers w others passable = cond others (cond (eqb (roleOf w) 1) passable false) true
+
+-- "5: attribute missing or unknown": those of the row are there, and no others
+unfoldable pub attributesFit : ℕ → Tag → Bool
+attributesFit w t =
+    cond (agree (asksV w) (there (t .v)))
+    (cond (agree (asksScheme w) (there (t .coding)))
+    (cond (agree (eqb (roleOf w) 1) (there (t .version)))
+    (noOthers w (t .others) (t .passable)) false) false) false
+
+-- "Where the guideline says collapse, leading and trailing spaces are dropped; where it says preserve, or says nothing, none are."
+unfoldable pub valueOf : ℕ → Span → List ℕ → List ℕ
+valueOf w x s = cond (collapsed w) (dropped (partOf s (x .start) (x .len))) (partOf s (x .start) (x .len))
+
+-- codingScheme, which is collapsed in every row that has it: 7 outside its code list
+unfoldable pub schemeRefusal : ℕ → Span → List ℕ → ℕ
+schemeRefusal w x s =
+    cond (eqb (schemeOf w) 0) 0 (cond (listed (codesOf (schemeOf w - 1)) (says (dropped (partOf s (x .start) (x .len))))) 0 7)
+
+-- "where it has several, the smallest number"; 0 is none
+unfoldable pub least : ℕ → ℕ → ℕ
+least a b = cond (eqb a 0) b (cond (eqb b 0) a (cond (leb a b) a b))
+
+unfoldable pub alsoScheme : ℕ → Judged → Judged
+alsoScheme n j = record { number = least (j .number) n; first = j .first; second = j .second }
+
+-- the values of a tag: the fixed version on the root; `v` and codingScheme elsewhere
+unfoldable pub judgeTag : ℕ → Tag → Held → List ℕ → Judged
+judgeTag w t h s =
+    cond (eqb (roleOf w) 1) (cond (fixedVersion (says (partOf s (t .version .start) (t .version .len)))) (refused 0) (refused 6))
+    (cond (eqb (formOf w) 0) (refused 0)
+    (alsoScheme (schemeRefusal w (t .coding) s) (judge (formOf w) h (says (valueOf w (t .v) s)))))

@@ -1,0 +1,265 @@
+-- "Reading moves through a small state, one item at a time, and each item moves that state as the structure tables say."
+use Prim.Native.Nat.{ℕ, _+_, _-_}
+use mathlib.Core.List.{List}
+use mathlib.Core.Bool.{Bool, true, false, cond, not}
+use lib.ListN.{getD}
+use lib.Dec.{leb, ltb, eqb}
+use Rattle.attributes.specs.Attribute.{partOf}
+use Rattle.elements.specs.Names.{elementNo}
+use Rattle.guideline.specs.Columns.{formOf, roleOf}
+use Rattle.guideline.specs.Kinds.{kindOf, takesAnother, hasEnough}
+use Rattle.items.specs.declared.Tag.{Tag}
+use Rattle.items.specs.declared.Item.{Item}
+use Rattle.items.specs.declared.Item.the-variants.{Start, Empty, End, Text, Comment}
+use Rattle.items.specs.declared.Item.the-variants.{Refused as Unreadable}
+use Rattle.rules.specs.Rules.{refused}
+use Rattle.rules.specs.declared.Held.{Held}
+use Rattle.rules.specs.declared.Judged.{Judged}
+use Rattle.structure.specs.Rows.{startOf, endOf, endsAtOnce}
+use Rattle.structure.specs.declared.Due.{Due}
+use Rattle.structure.specs.declared.Due.the-variants.{Row, NotDue}
+use Rattle.times.specs.Periods.{quarterHours}
+use Rattle.states.specs.Attributes.{attributesFit, judgeTag}
+use Rattle.states.specs.declared.State.{State}
+use Rattle.states.specs.declared.Room.{Room}
+use Rattle.states.specs.declared.Entry.{Entry}
+use Rattle.states.specs.declared.Entry.the-variants.{Nothing, Series, View, Interval, Position, Amount}
+use Rattle.states.specs.declared.Step.{Step}
+use Rattle.states.specs.declared.Step.the-variants.{Next, Refused}
+
+-- one more, as far as a u32 counts
+unfoldable pub oneMore : ℕ → ℕ
+oneMore n = cond (ltb n 4294967295) (n + 1) n
+
+-- before the first item: the document as a whole is open
+unfoldable pub begun : State
+begun =
+    record { kind = 0; row = 0; inside = true; series = 0; intervals = 0; first = 0; from = 0; to = 0; quarters = 0; last = 0; originals = 0 }
+
+unfoldable pub heldOf : State → ℕ → Held
+heldOf x kind = record { kind = kind; from = x .from; to = x .to; quarters = x .quarters; last = x .last }
+
+-- ---- a start tag, or the start in an empty one, whose row is due
+
+-- 3: an empty tag of an element that needs children
+unfoldable pub cutShort : Bool → List ℕ → ℕ → Bool
+cutShort empty rows r = cond empty (cond (endsAtOnce rows r) false true) false
+
+-- 3: an Interval too many for its Period
+unfoldable pub tooMany : State → ℕ → ℕ → Bool
+tooMany x role kind = cond (eqb role 4) (cond (takesAnother kind (x .intervals - x .first)) false true) false
+
+-- "4: a due series or Interval start finds its table full"
+unfoldable pub noRoom : State → ℕ → Room → Bool
+noRoom x role room =
+    cond (eqb role 2) (leb (room .series) (x .series)) (cond (eqb role 4) (leb (room .intervals) (x .intervals)) false)
+
+-- "The five Original elements are all there or all absent, seen at the Period start."
+unfoldable pub halfOriginals : State → ℕ → Bool
+halfOriginals x role = cond (eqb role 3) (cond (eqb (x .originals) 0) false (cond (eqb (x .originals) 5) false true)) false
+
+unfoldable pub valuesJudged : State → ℕ → ℕ → Tag → List ℕ → Judged
+valuesJudged x kind w t s = cond (halfOriginals x (roleOf w)) (refused 8) (judgeTag w t (heldOf x kind) s)
+
+-- the smallest refusal, w being the row
+unfoldable pub judgedAt : State → ℕ → List ℕ → ℕ → ℕ → Tag → List ℕ → Bool → Room → Judged
+judgedAt x kind rows r w t s empty room =
+    cond (cutShort empty rows r) (refused 3)
+    (cond (tooMany x (roleOf w) kind) (refused 3)
+    (cond (noRoom x (roleOf w) room) (refused 4)
+    (cond (attributesFit w t) (valuesJudged x kind w t s) (refused 5))))
+
+unfoldable pub startJudged : State → ℕ → List ℕ → ℕ → Tag → List ℕ → Bool → Room → Judged
+startJudged x kind rows r t s empty room = judgedAt x kind rows r (getD rows r 0) t s empty room
+
+-- where the structure stands after it
+unfoldable pub placed : State → ℕ → ℕ → Bool → State
+placed x kind r within =
+    record {
+      kind = kind;
+      row = r;
+      inside = within;
+      series = x .series;
+      intervals = x .intervals;
+      first = x .first;
+      from = x .from;
+      to = x .to;
+      quarters = x .quarters;
+      last = x .last;
+      originals = x .originals;
+    }
+
+unfoldable pub oneSeries : State → State
+oneSeries x =
+    record {
+      kind = x .kind;
+      row = x .row;
+      inside = x .inside;
+      series = oneMore (x .series);
+      intervals = x .intervals;
+      first = x .intervals;
+      from = x .from;
+      to = x .to;
+      quarters = x .quarters;
+      last = x .last;
+      originals = 0;
+    }
+
+unfoldable pub oneInterval : State → State
+oneInterval x =
+    record {
+      kind = x .kind;
+      row = x .row;
+      inside = x .inside;
+      series = x .series;
+      intervals = oneMore (x .intervals);
+      first = x .first;
+      from = x .from;
+      to = x .to;
+      quarters = x .quarters;
+      last = x .last;
+      originals = x .originals;
+    }
+
+unfoldable pub oneOriginal : State → State
+oneOriginal x =
+    record {
+      kind = x .kind;
+      row = x .row;
+      inside = x .inside;
+      series = x .series;
+      intervals = x .intervals;
+      first = x .first;
+      from = x .from;
+      to = x .to;
+      quarters = x .quarters;
+      last = x .last;
+      originals = oneMore (x .originals);
+    }
+
+unfoldable pub lastPos : State → ℕ → State
+lastPos x p =
+    record {
+      kind = x .kind;
+      row = x .row;
+      inside = x .inside;
+      series = x .series;
+      intervals = x .intervals;
+      first = x .first;
+      from = x .from;
+      to = x .to;
+      quarters = x .quarters;
+      last = p;
+      originals = x .originals;
+    }
+
+unfoldable pub covering : State → ℕ → ℕ → State
+covering x from to =
+    record {
+      kind = x .kind;
+      row = x .row;
+      inside = x .inside;
+      series = x .series;
+      intervals = x .intervals;
+      first = x .first;
+      from = from;
+      to = to;
+      quarters = quarterHours from to;
+      last = x .last;
+      originals = x .originals;
+    }
+
+-- and what later items are held against: a series, a Period, an Interval, an Original, a Pos, TimePeriodCovered
+unfoldable pub kept : State → ℕ → Judged → State
+kept x w j =
+    cond (eqb (roleOf w) 2) (oneSeries x)
+    (cond (eqb (roleOf w) 3) (lastPos x 0)
+    (cond (eqb (roleOf w) 4) (oneInterval x)
+    (cond (eqb (roleOf w) 5) (oneOriginal x)
+    (cond (eqb (roleOf w) 9) (lastPos x (j .first))
+    (cond (eqb (formOf w) 6) (covering x (j .first) (j .second)) x)))))
+
+unfoldable pub entered : State → ℕ → ℕ → ℕ → Judged → Bool → State
+entered x kind r w j within = kept (placed x kind r within) w j
+
+-- what it brings into the tables: the cells 2 of the object, 4 of BusinessType, 0 of TimeSeriesIdentification
+unfoldable pub entryOf : ℕ → ℕ → Entry
+entryOf role p =
+    cond (eqb role 2) Series
+    (cond (eqb role 4) Interval
+    (cond (eqb role 6) (View 2)
+    (cond (eqb role 7) (View 4)
+    (cond (eqb role 8) (View 0)
+    (cond (eqb role 9) (Position p)
+    (cond (eqb role 10) Amount Nothing))))))
+
+unfoldable pub startedBy : State → ℕ → ℕ → ℕ → Bool → Judged → Step
+startedBy x kind r w empty j =
+    cond (eqb (j .number) 0) (Next (entered x kind r w j (not empty)) (entryOf (roleOf w) (j .first))) (Refused (j .number))
+
+unfoldable pub startedAt : State → ℕ → List ℕ → Tag → List ℕ → Bool → Room → Due → Step
+startedAt x kind rows t s empty room (Row r) = startedBy x kind r (getD rows r 0) empty (startJudged x kind rows r t s empty room)
+startedAt x kind rows t s empty room NotDue = Refused 3
+
+unfoldable pub started : State → ℕ → List ℕ → ℕ → Tag → List ℕ → Bool → Room → Step
+started x kind rows name t s empty room = startedAt x kind rows t s empty room (startOf rows (x .row) (x .inside) name)
+
+-- ---- an end tag
+
+unfoldable pub closedAt : State → ℕ → State
+closedAt x r =
+    record {
+      kind = x .kind;
+      row = r;
+      inside = false;
+      series = x .series;
+      intervals = x .intervals;
+      first = x .first;
+      from = x .from;
+      to = x .to;
+      quarters = x .quarters;
+      last = x .last;
+      originals = x .originals;
+    }
+
+-- "at the end tag of Period there are N intervals": 3 for too few, 8 for another number than N
+unfoldable pub countRefusal : ℕ → ℕ → ℕ → ℕ
+countRefusal kind quarters n = cond (hasEnough kind n) (cond (eqb kind 1) (cond (eqb n quarters) 0 8) 0) 3
+
+unfoldable pub endRefusal : State → List ℕ → ℕ → ℕ
+endRefusal x rows r = cond (eqb (roleOf (getD rows r 0)) 3) (countRefusal (x .kind) (x .quarters) (x .intervals - x .first)) 0
+
+unfoldable pub endedAt : State → List ℕ → Due → Step
+endedAt x rows (Row r) = cond (eqb (endRefusal x rows r) 0) (Next (closedAt x r) Nothing) (Refused (endRefusal x rows r))
+endedAt x rows NotDue = Refused 3
+
+unfoldable pub ended : State → List ℕ → ℕ → Step
+ended x rows name = endedAt x rows (endOf rows (x .row) (x .inside) name)
+
+-- ---- an item; s is the part of the document that begins with it
+
+unfoldable pub moved : State → ℕ → List ℕ → Item → List ℕ → Room → Step
+moved x kind rows (Start t) s room = started x kind rows (elementNo (partOf s 1 (t .name))) t s false room
+moved x kind rows (Empty t) s room = started x kind rows (elementNo (partOf s 1 (t .name))) t s true room
+moved x kind rows (End n e) s room = ended x rows (elementNo (partOf s 2 n))
+moved x kind rows (Text white e) s room = cond white (Next x Nothing) (Refused 3)
+moved x kind rows (Comment e) s room = Next x Nothing
+moved x kind rows (Unreadable p) s room = Refused 2
+
+-- the kind, which the root's own tag tells
+unfoldable pub rootKind : Item → List ℕ → ℕ
+rootKind (Start t) s = kindOf (elementNo (partOf s 1 (t .name)))
+rootKind (Empty t) s = kindOf (elementNo (partOf s 1 (t .name)))
+rootKind (End n e) s = 0
+rootKind (Text white e) s = 0
+rootKind (Comment e) s = 0
+rootKind (Unreadable p) s = 0
+
+unfoldable pub kindTold : State → Item → List ℕ → ℕ
+kindTold x item s = cond (eqb (x .kind) 0) (rootKind item s) (x .kind)
+
+unfoldable pub stepOn : State → ℕ → List ℕ → List ℕ → Item → List ℕ → Room → Step
+stepOn x kind one two item s room = cond (eqb kind 1) (moved x kind one item s room) (moved x kind two item s room)
+
+unfoldable pub step : State → List ℕ → List ℕ → Item → List ℕ → Room → Step
+step x one two item s room = stepOn x (kindTold x item s) one two item s room

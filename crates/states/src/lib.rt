@@ -1,0 +1,593 @@
+// The reading state, and how each item moves it. It holds no amount.
+use attributes::part;
+use codes::is_listed;
+use elements::element_no;
+use forms::is_version_fixed;
+use guideline::form_of;
+use guideline::has_enough;
+use guideline::is_collapsed;
+use guideline::kind_of_root;
+use guideline::role_of;
+use guideline::scheme_of;
+use guideline::takes_another;
+use items::Item;
+use items::Tag;
+use rules::Held;
+use rules::Judged;
+use rules::judge_value;
+use structure::Due;
+use structure::end_after;
+use structure::ends_at_once;
+use structure::start_after;
+use tags::Span;
+use times::quarter_hours;
+use trims::trimmed;
+ghost use mathlib.Core.Path.{_≡_};
+ghost use Prim.Native.Nat.{_-_};
+ghost use lib.Dec.{eqb};
+ghost use lib.ListN.{getD};
+ghost use Rattle.guideline.specs.Columns.{roleOf};
+ghost use Rattle.states.specs.Attributes.{there, agree, asksV, asksScheme, noOthers, attributesFit, valueOf, schemeRefusal, least, judgeTag};
+ghost use Rattle.states.specs.Moves.{oneMore, cutShort, begun, heldOf, tooMany, noRoom, halfOriginals, valuesJudged, startJudged, entered, entryOf, started, closedAt, endRefusal, ended, moved, kindTold, step};
+
+pub struct State {
+    // 0 before the root
+    pub kind: usize,
+    // the last row that was started, and whether it is still open
+    pub row: usize,
+    pub inside: bool,
+    // how many series and intervals were started, and how many intervals before this series
+    pub series: u32,
+    pub intervals: u32,
+    pub first: u32,
+    // TimePeriodCovered in minutes, its quarter hours, and the last Pos of the Period, 0 before the first
+    pub from: u32,
+    pub to: u32,
+    pub quarters: u32,
+    pub last: u32,
+    // how many of the five Original elements the series has
+    pub originals: u32,
+}
+
+// For how many series and intervals the lent tables have room.
+pub struct Room {
+    pub series: u32,
+    pub intervals: u32,
+}
+
+// What an item brings into the tables: a series; the value of an identification, object or BusinessType, for two cells of the series'
+// row from this one on; an interval; a position; an amount.
+pub enum Entry {
+    Nothing,
+    Series,
+    View(usize),
+    Interval,
+    Position(u32),
+    Amount,
+}
+
+pub enum Step {
+    Next(State, Entry),
+    Refused(u32),
+}
+
+fn is_there(x: Span) -> bool
+    ensures { λ r. ⌜ r ≡ there x ⌝ }
+{
+    if x.start == 0 { false } else { true }
+}
+
+fn agrees(asked: bool, given: bool) -> bool
+    ensures { λ r. ⌜ r ≡ agree asked given ⌝ }
+{
+    if asked {
+        given
+    } else if given {
+        false
+    } else {
+        true
+    }
+}
+
+fn asks_v(w: usize) -> bool
+    ensures { λ r. ⌜ r ≡ asksV w ⌝ }
+{
+    if form_of(w) == 0 { false } else { true }
+}
+
+fn asks_scheme(w: usize) -> bool
+    ensures { λ r. ⌜ r ≡ asksScheme w ⌝ }
+{
+    if scheme_of(w) == 0 { false } else { true }
+}
+
+fn is_root(w: usize) -> bool
+    ensures { λ r. ⌜ r ≡ eqb (roleOf w) 1 ⌝ }
+{
+    role_of(w) == 1
+}
+
+fn has_no_others(w: usize, others: bool, passable: bool) -> bool
+    ensures { λ r. ⌜ r ≡ noOthers w others passable ⌝ }
+{
+    if others {
+        if is_root(w) {
+            return passable;
+        }
+        return false;
+    }
+    true
+}
+
+fn has_attributes(w: usize, t: Tag) -> bool
+    ensures { λ r. ⌜ r ≡ attributesFit w t ⌝ }
+{
+    let v = t.v;
+    let coding = t.coding;
+    let version = t.version;
+    if agrees(asks_v(w), is_there(v)) {
+        if agrees(asks_scheme(w), is_there(coding)) {
+            if agrees(is_root(w), is_there(version)) {
+                return has_no_others(w, t.others, t.passable);
+            }
+        }
+    }
+    false
+}
+
+// The value of an attribute, without the spaces at its ends where the row drops them.
+fn value_of(w: usize, x: Span, s: &[u8]) -> &[u8]
+    ensures { λ r. ⌜ now r ≡ valueOf w x (now (s .entry)) ⌝ }
+{
+    let start = x.start;
+    let len = x.len;
+    let v = part(s, start, len);
+    if is_collapsed(w) {
+        return trimmed(v);
+    }
+    v
+}
+
+fn scheme_refusal(w: usize, x: Span, s: &[u8]) -> u32
+    ensures { λ r. ⌜ r ≡ schemeRefusal w x (now (s .entry)) ⌝ }
+{
+    let k = scheme_of(w);
+    if k == 0 {
+        return 0;
+    }
+    let start = x.start;
+    let len = x.len;
+    if is_listed(k - 1, trimmed(part(s, start, len))) {
+        return 0;
+    }
+    7
+}
+
+// The smaller of two refusals, where 0 is none.
+fn least_of(a: u32, b: u32) -> u32
+    ensures { λ r. ⌜ r ≡ least a b ⌝ }
+{
+    if a == 0 {
+        return b;
+    }
+    if b == 0 {
+        return a;
+    }
+    if a <= b { a } else { b }
+}
+
+fn judge_tag(w: usize, t: Tag, s: &[u8], h: Held) -> Judged
+    ensures { λ r. ⌜ r ≡ judgeTag w t h (now (s .entry)) ⌝ }
+{
+    if role_of(w) == 1 {
+        let version = t.version;
+        let start = version.start;
+        let len = version.len;
+        if is_version_fixed(part(s, start, len)) {
+            return Judged {
+                number: 0,
+                first: 0,
+                second: 0,
+            };
+        }
+        return Judged {
+            number: 6,
+            first: 0,
+            second: 0,
+        };
+    }
+    let form = form_of(w);
+    if form == 0 {
+        return Judged {
+            number: 0,
+            first: 0,
+            second: 0,
+        };
+    }
+    let v = t.v;
+    let coding = t.coding;
+    let j = judge_value(form, value_of(w, v, s), h);
+    let first = j.first;
+    let second = j.second;
+    Judged {
+        number: least_of(j.number, scheme_refusal(w, coding, s)),
+        first,
+        second,
+    }
+}
+
+fn row_at(rows: &[usize], row: usize) -> usize
+    ensures { λ r. ⌜ r ≡ getD (now (rows .entry)) row 0 ⌝ }
+{
+    if row < rows.len() { rows[row] } else { 0 }
+}
+
+// What an element brings into the tables, by what its row is to the reader.
+fn entry_of(role: usize, p: u32) -> Entry
+    ensures { λ r. ⌜ r ≡ entryOf role p ⌝ }
+{
+    if role == 2 {
+        return Entry::Series;
+    }
+    if role == 4 {
+        return Entry::Interval;
+    }
+    if role == 6 {
+        return Entry::View(2);
+    }
+    if role == 7 {
+        return Entry::View(4);
+    }
+    if role == 8 {
+        return Entry::View(0);
+    }
+    if role == 9 {
+        return Entry::Position(p);
+    }
+    if role == 10 {
+        return Entry::Amount;
+    }
+    Entry::Nothing
+}
+
+// How many intervals of a series were started; its first is after `first` others.
+fn count_of(intervals: u32, first: u32) -> u32
+    ensures { λ r. ⌜ r ≡ intervals - first ⌝ }
+{
+    if first <= intervals {
+        intervals - first
+    } else {
+        0
+    }
+}
+
+fn one_more(n: u32) -> u32
+    ensures { λ r. ⌜ r ≡ oneMore n ⌝ }
+{
+    if n < 4294967295 { n + 1 } else { n }
+}
+
+// Whether an empty tag ends an element that has children to come.
+fn is_cut_short(empty: bool, rows: &[usize], row: usize) -> bool
+    ensures { λ r. ⌜ r ≡ cutShort empty (now (rows .entry)) row ⌝ }
+{
+    if empty {
+        if ends_at_once(rows, row) {
+            return false;
+        }
+        return true;
+    }
+    false
+}
+
+impl State {
+    // Before the first item: the document as a whole is open.
+    // Ruled out: a kind before the root; a count that is not 0.
+    pub fn begin() -> State
+        ensures { λ r. ⌜ r ≡ begun ⌝ }
+    {
+        State {
+            kind: 0,
+            row: 0,
+            inside: true,
+            series: 0,
+            intervals: 0,
+            first: 0,
+            from: 0,
+            to: 0,
+            quarters: 0,
+            last: 0,
+            originals: 0,
+        }
+    }
+
+    fn held(self, kind: usize) -> Held
+        ensures { λ r. ⌜ r ≡ heldOf self kind ⌝ }
+    {
+        Held {
+            kind,
+            from: self.from,
+            to: self.to,
+            quarters: self.quarters,
+            last: self.last,
+        }
+    }
+
+    // Whether an Interval would be one too many for its Period.
+    fn has_too_many(self, role: usize, kind: usize) -> bool
+        ensures { λ r. ⌜ r ≡ tooMany self role kind ⌝ }
+    {
+        if role == 4 {
+            if takes_another(kind, count_of(self.intervals, self.first) as usize) {
+                return false;
+            }
+            return true;
+        }
+        false
+    }
+
+    // Whether a series or Interval finds its table full.
+    fn lacks_room(self, role: usize, room: Room) -> bool
+        ensures { λ r. ⌜ r ≡ noRoom self role room ⌝ }
+    {
+        if role == 2 {
+            return room.series <= self.series;
+        }
+        if role == 4 {
+            return room.intervals <= self.intervals;
+        }
+        false
+    }
+
+    // Whether a Period comes after some of the five Original elements, but not all.
+    fn has_half(self, role: usize) -> bool
+        ensures { λ r. ⌜ r ≡ halfOriginals self role ⌝ }
+    {
+        if role == 3 {
+            if self.originals == 0 {
+                return false;
+            }
+            if self.originals == 5 {
+                return false;
+            }
+            return true;
+        }
+        false
+    }
+
+    fn judge_values(self, kind: usize, w: usize, t: Tag, s: &[u8]) -> Judged
+        ensures { λ r. ⌜ r ≡ valuesJudged self kind w t (now (s .entry)) ⌝ }
+    {
+        if self.has_half(role_of(w)) {
+            return Judged {
+                number: 8,
+                first: 0,
+                second: 0,
+            };
+        }
+        judge_tag(w, t, s, self.held(kind))
+    }
+
+    // The refusal of a start or empty tag whose row is due, and what its value says.
+    fn judge_start(
+        self,
+        kind: usize,
+        rows: &[usize],
+        row: usize,
+        t: Tag,
+        s: &[u8],
+        empty: bool,
+        room: Room,
+    ) -> Judged
+        ensures { λ r. ⌜ r ≡ startJudged self kind (now (rows .entry)) row t (now (s .entry)) empty room ⌝ }
+    {
+        let w = row_at(rows, row);
+        let role = role_of(w);
+        if is_cut_short(empty, rows, row) {
+            return Judged {
+                number: 3,
+                first: 0,
+                second: 0,
+            };
+        }
+        if self.has_too_many(role, kind) {
+            return Judged {
+                number: 3,
+                first: 0,
+                second: 0,
+            };
+        }
+        if self.lacks_room(role, room) {
+            return Judged {
+                number: 4,
+                first: 0,
+                second: 0,
+            };
+        }
+        if has_attributes(w, t) {
+            return self.judge_values(kind, w, t, s);
+        }
+        Judged {
+            number: 5,
+            first: 0,
+            second: 0,
+        }
+    }
+
+    // The state after the start of a row, which w describes.
+    fn entered(mut self, kind: usize, row: usize, w: usize, j: Judged, within: bool) -> State
+        ensures { λ r. ⌜ r ≡ entered self kind row w j within ⌝ }
+    {
+        self.kind = kind;
+        self.row = row;
+        self.inside = within;
+        let role = role_of(w);
+        if role == 2 {
+            self.series = one_more(self.series);
+            self.first = self.intervals;
+            self.originals = 0;
+            return self;
+        }
+        if role == 3 {
+            self.last = 0;
+            return self;
+        }
+        if role == 4 {
+            self.intervals = one_more(self.intervals);
+            return self;
+        }
+        if role == 5 {
+            self.originals = one_more(self.originals);
+            return self;
+        }
+        if role == 9 {
+            self.last = j.first;
+            return self;
+        }
+        if form_of(w) == 6 {
+            self.from = j.first;
+            self.to = j.second;
+            self.quarters = quarter_hours(j.first, j.second);
+            return self;
+        }
+        self
+    }
+
+    // A start or empty tag whose name has the number `name`.
+    fn started(
+        self,
+        kind: usize,
+        rows: &[usize],
+        name: usize,
+        t: Tag,
+        s: &[u8],
+        empty: bool,
+        room: Room,
+    ) -> Step
+        ensures { λ r. ⌜ r ≡ started self kind (now (rows .entry)) name t (now (s .entry)) empty room ⌝ }
+    {
+        match start_after(rows, self.row, self.inside, name) {
+            Due::Row(r) => {
+                let j = self.judge_start(kind, rows, r, t, s, empty, room);
+                if j.number == 0 {
+                    let w = row_at(rows, r);
+                    return Step::Next(
+                        self.entered(kind, r, w, j, !empty),
+                        entry_of(role_of(w), j.first),
+                    );
+                }
+                Step::Refused(j.number)
+            }
+            Due::NotDue => Step::Refused(3),
+        }
+    }
+
+    // The state after the end of a row.
+    fn left(mut self, row: usize) -> State
+        ensures { λ r. ⌜ r ≡ closedAt self row ⌝ }
+    {
+        self.row = row;
+        self.inside = false;
+        self
+    }
+
+    // The refusal of an end tag that closes a row.
+    fn end_refusal(self, rows: &[usize], row: usize) -> u32
+        ensures { λ r. ⌜ r ≡ endRefusal self (now (rows .entry)) row ⌝ }
+    {
+        if role_of(row_at(rows, row)) == 3 {
+            let n = count_of(self.intervals, self.first);
+            if has_enough(self.kind, n as usize) {
+                if self.kind == 1 {
+                    if n == self.quarters {
+                        return 0;
+                    }
+                    return 8;
+                }
+                return 0;
+            }
+            return 3;
+        }
+        0
+    }
+
+    // An end tag whose name has the number `name`.
+    fn ended(self, rows: &[usize], name: usize) -> Step
+        ensures { λ r. ⌜ r ≡ ended self (now (rows .entry)) name ⌝ }
+    {
+        match end_after(rows, self.row, self.inside, name) {
+            Due::Row(r) => {
+                let n = self.end_refusal(rows, r);
+                if n == 0 {
+                    return Step::Next(self.left(r), Entry::Nothing);
+                }
+                Step::Refused(n)
+            }
+            Due::NotDue => Step::Refused(3),
+        }
+    }
+
+    // An item of a document of this kind; s is the part of the document that begins with it.
+    fn moved(self, kind: usize, rows: &[usize], item: Item, s: &[u8], room: Room) -> Step
+        ensures { λ r. ⌜ r ≡ moved self kind (now (rows .entry)) item (now (s .entry)) room ⌝ }
+    {
+        match item {
+            Item::Start(t) => self.started(
+                kind,
+                rows,
+                element_no(part(s, 1, t.name)),
+                t,
+                s,
+                false,
+                room,
+            ),
+            Item::Empty(t) => self.started(
+                kind,
+                rows,
+                element_no(part(s, 1, t.name)),
+                t,
+                s,
+                true,
+                room,
+            ),
+            Item::End(n, _) => self.ended(rows, element_no(part(s, 2, n))),
+            Item::Text(white, _) => {
+                if white {
+                    return Step::Next(self, Entry::Nothing);
+                }
+                Step::Refused(3)
+            }
+            Item::Comment(_) => Step::Next(self, Entry::Nothing),
+            Item::Refused(_) => Step::Refused(2),
+        }
+    }
+
+    // The kind of the document, which the root's own tag tells.
+    fn kind_told(self, item: Item, s: &[u8]) -> usize
+        ensures { λ r. ⌜ r ≡ kindTold self item (now (s .entry)) ⌝ }
+    {
+        if self.kind == 0 {
+            return match item {
+                Item::Start(t) => kind_of_root(element_no(part(s, 1, t.name))),
+                Item::Empty(t) => kind_of_root(element_no(part(s, 1, t.name))),
+                Item::End(_, _) => 0,
+                Item::Text(_, _) => 0,
+                Item::Comment(_) => 0,
+                Item::Refused(_) => 0,
+            };
+        }
+        self.kind
+    }
+
+    // One item moves the state, or is refused. `one` and `two` are the rows of the kinds.
+    // Ruled out: an element that is not due taken; a refusal of a larger number where the item has a smaller; a count that a refused item moved.
+    pub fn step(self, one: &[usize], two: &[usize], item: Item, s: &[u8], room: Room) -> Step
+        ensures { λ r. ⌜ r ≡ step self (now (one .entry)) (now (two .entry)) item (now (s .entry)) room ⌝ }
+    {
+        let kind = self.kind_told(item, s);
+        if kind == 1 {
+            return self.moved(kind, one, item, s, room);
+        }
+        self.moved(kind, two, item, s, room)
+    }
+}
