@@ -1,3 +1,4 @@
 pub mod Tagged
 pub mod Whites
 pub mod Unique
+pub mod Promises
