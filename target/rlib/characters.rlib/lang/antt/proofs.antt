@@ -1,3 +1,0 @@
-pub mod Saying
-pub mod Ascii
-pub mod Unique

@@ -1,1 +1,0 @@
-pub fn clear_bytes ( b : & mut [ u8 ] ) ;

@@ -1,7 +1,0 @@
-pub mod Cases
-pub mod Fill
-pub mod Loans
-pub mod Stores
-pub mod Tests
-pub mod Unique
-pub mod Zeros

@@ -1,4 +1,0 @@
-pub mod Runs
-pub mod Walks
-pub mod Sames
-pub mod Unique

@@ -1,5 +1,0 @@
-pub mod Bytes
-pub mod Run
-pub mod Walk
-pub mod Same
-pub mod Text
