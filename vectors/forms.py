@@ -1,6 +1,5 @@
 #!/usr/bin/env python3
-"""Makes the vectors of forms_run, from 01's words alone: forms.py DIR writes DIR/stdin and DIR/stdout."""
-import os
+"""Makes the vectors of forms_run, from 01's words alone: `forms.py stdin` and `forms.py stdout` print the files of these names."""
 import re
 import sys
 from decimal import Decimal
@@ -130,16 +129,14 @@ def broken():
 
 
 def main():
-    out = sys.argv[1]
     small = ["5", "-5.5", "A10", "PT15M", "7", "ä", "a b", "10YDE-VE-------2", "4033872000010"]
     texts_ = list(dict.fromkeys(list(amounts()) + list(numbers()) + list(texts()) + list(spaced(codes())) + list(spaced(small))))
     rows = [t.encode("utf-8") for t in texts_] + list(broken()) + [b" ", b"  "]
     rows = [r for r in dict.fromkeys(rows) if b"\n" not in r]
-    with open(os.path.join(out, "stdin"), "wb") as f:
-        f.write(b"".join(r + b"\n" for r in rows))
-    with open(os.path.join(out, "stdout"), "w") as f:
-        f.write("".join(answer(r) + "\n" for r in rows))
-    print(len(rows), "values")
+    if sys.argv[1] == "stdin":
+        sys.stdout.buffer.write(b"".join(r + b"\n" for r in rows))
+    else:
+        sys.stdout.write("".join(answer(r) + "\n" for r in rows))
 
 
 main()

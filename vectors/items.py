@@ -1,6 +1,6 @@
 """Makes the vectors of prolog and items: stdin, the hexadecimal bytes of a document to a line, and what the program has to print (stdout).
 
-    python3 items.py FOLDER      writes FOLDER/stdin and FOLDER/stdout
+    python3 items.py stdin       prints the one, and items.py stdout the other; no file is written
 
 The answers come from the productions of XML 1.0 with the scope paper's cuts, written here as patterns over characters, not from the
 definitions. Where the cuts change nothing they are those of expat: each item is set into a small document of its own, and it has to be
@@ -296,10 +296,7 @@ def main():
     for words in [c[0] for c in CUTS if c[0] not in used]:
         sys.exit("no vector for this cut: " + words)
     documents = list(dict.fromkeys(documents))
-    with open(sys.argv[1] + "/stdin", "w", encoding="ascii") as f:
-        f.writelines(d.hex(" ").upper() + "\n" for d in documents)
-    with open(sys.argv[1] + "/stdout", "w", encoding="ascii") as f:
-        f.writelines(answer(d) + "\n" for d in documents)
+    sys.stdout.writelines((d.hex(" ").upper() if sys.argv[1] == "stdin" else answer(d)) + "\n" for d in documents)
 
 
 main()

@@ -1,2 +1,3 @@
 pub mod Values
+pub mod Named
 pub mod Unique

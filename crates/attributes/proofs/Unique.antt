@@ -7,8 +7,7 @@ use mathlib.Core.Bool.{Bool}
 use Rattle.lists.proofs.Unique.{one}
 use Rattle.slices.specs.Run.{run}
 use Rattle.attributes.specs.Names.{nameStart, nameByte, white}
-use Rattle.attributes.specs.Attribute.{value, piece, partOf}
-use Rattle.attributes.specs.declared.Value.{Value}
+use Rattle.attributes.specs.Attribute.{piece, partOf}
 use Rattle.attributes.specs.declared.Piece.{Piece}
 
 pub is-name-start-one : (b : ℕ) {r r′ : Bool} → r ≡ nameStart b → r′ ≡ nameStart b → r ≡ r′
@@ -19,9 +18,6 @@ name-len-one s = one
 
 pub white-len-one : (s : List ℕ) {r r′ : ℕ} → r ≡ run white s → r′ ≡ run white s → r ≡ r′
 white-len-one s = one
-
-pub value-at-one : (q : ℕ) (s : List ℕ) {r r′ : Value} → r ≡ value q s → r′ ≡ value q s → r ≡ r′
-value-at-one q s = one
 
 pub piece-at-one : (s : List ℕ) {r r′ : Piece} → r ≡ piece s → r′ ≡ piece s → r ≡ r′
 piece-at-one s = one

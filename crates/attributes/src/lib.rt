@@ -129,15 +129,14 @@ fn is_plain(b: u8) -> bool
     }
 }
 
-pub enum Value {
+enum Value {
     // so many bytes, and then the quote
     Long(usize),
     Broken,
 }
 
 // The value at the front of s, up to the closing quote q. A byte below 80 is looked at as it stands, without `char_at`.
-// Ruled out: a value that ends at the other quote; one with `<`, `&`, a tab or half a character in it.
-pub fn value_at(q: u8, s: &[u8]) -> Value
+fn value_at(q: u8, s: &[u8]) -> Value
     ensures value { λ r. ⌜ r ≡ value q (now (s .entry)) ⌝ }
     ensures size { λ r. ⌜ valueEnd r ≤ length (now (s .entry)) ⌝ }
 {
@@ -229,7 +228,8 @@ fn attribute_at(s: &[u8], w: usize) -> Piece
 }
 
 // The next piece of a tag.
-// Ruled out: an attribute with no white space before it; `/ >` as an end; a name that runs into the value.
+// Ruled out: an attribute with no white space before it; `/ >` as an end; a name that runs into the value; a value that ends at the other quote, or
+// one with `<`, `&`, a tab or half a character in it.
 pub fn piece_at(s: &[u8]) -> Piece
     ensures piece { λ r. ⌜ r ≡ piece (now (s .entry)) ⌝ }
     ensures size { λ r. ⌜ (1 ≤ pieceUse r) × (pieceUse r ≤ length (now (s .entry)) + 3) × (pieceValue r ≤ pieceUse r) ⌝ }

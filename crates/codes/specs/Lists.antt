@@ -16,7 +16,7 @@ documentTypeTwo = text "Z05" ∷ []
 abbrev pub processType : List (List ℕ)
 processType = text "A14" ∷ []
 
--- codingScheme of market partners, of areas and balance groups, of ResourceObject
+-- codingScheme of market partners; of areas, InParty and OutParty; of ResourceObject
 abbrev pub partyScheme : List (List ℕ)
 partyScheme = text "A10" ∷ text "NDE" ∷ []
 
@@ -68,7 +68,7 @@ unitTwo = text "Z01" ∷ text "Z02" ∷ text "Z03" ∷ []
 abbrev pub status : List (List ℕ)
 status = text "Z01" ∷ text "Z02" ∷ text "Z03" ∷ text "Z04" ∷ text "Z05" ∷ []
 
--- the lists by their numbers, from 0
+-- the lists by their numbers, from 0, in the order of docs/GUIDELINE.md, section 5
 unfoldable pub lists : List (List (List ℕ))
 lists =
     documentTypeOne ∷ documentTypeTwo ∷ processType ∷ partyScheme ∷ eicScheme ∷ resourceScheme ∷ role ∷ senderRoleTwo ∷
@@ -78,6 +78,7 @@ lists =
 unfoldable pub codesOf : ℕ → List (List ℕ)
 codesOf k = getD lists k []
 
+-- one of the codes is the same as l
 unfoldable pub listed : List (List ℕ) → List ℕ → Bool
 listed [] l = false
 listed (c ∷ cs) l = cond (same c l) true (listed cs l)

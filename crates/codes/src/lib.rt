@@ -12,39 +12,39 @@ ghost use Rattle.characters.specs.Says.{says};
 ghost use Rattle.codes.specs.Lists.{listed, codesOf};
 ghost use Rattle.codes.specs.Words.{wordByte, words};
 
-pub const DOCUMENT_TYPE_ONE: usize = 0;
+const DOCUMENT_TYPE_ONE: usize = 0;
 
-pub const DOCUMENT_TYPE_TWO: usize = 1;
+const DOCUMENT_TYPE_TWO: usize = 1;
 
-pub const PROCESS_TYPE: usize = 2;
+const PROCESS_TYPE: usize = 2;
 
-pub const PARTY_SCHEME: usize = 3;
+const PARTY_SCHEME: usize = 3;
 
-pub const EIC_SCHEME: usize = 4;
+const EIC_SCHEME: usize = 4;
 
-pub const RESOURCE_SCHEME: usize = 5;
+const RESOURCE_SCHEME: usize = 5;
 
-pub const ROLE: usize = 6;
+const ROLE: usize = 6;
 
-pub const SENDER_ROLE_TWO: usize = 7;
+const SENDER_ROLE_TWO: usize = 7;
 
-pub const BUSINESS_TYPE_ONE: usize = 8;
+const BUSINESS_TYPE_ONE: usize = 8;
 
-pub const BUSINESS_TYPE_TWO: usize = 9;
+const BUSINESS_TYPE_TWO: usize = 9;
 
-pub const DIRECTION: usize = 10;
+const DIRECTION: usize = 10;
 
-pub const PRODUCT: usize = 11;
+const PRODUCT: usize = 11;
 
-pub const AREA: usize = 12;
+const AREA: usize = 12;
 
-pub const CURVE_TYPE: usize = 13;
+const CURVE_TYPE: usize = 13;
 
-pub const UNIT_ONE: usize = 14;
+const UNIT_ONE: usize = 14;
 
-pub const UNIT_TWO: usize = 15;
+const UNIT_TWO: usize = 15;
 
-pub const STATUS: usize = 16;
+const STATUS: usize = 16;
 
 fn is_word_byte(b: u8) -> bool
     ensures { λ r. ⌜ r ≡ wordByte b ⌝ }

@@ -265,7 +265,7 @@ pub fn role_of(w: usize) -> usize
 }
 
 // The kind that a root's name tells, 0 for a name that is no root's. Ruled out: 2 for every name that is not kind 1's; a kind for the name of another element.
-pub fn kind_of_root(name: usize) -> usize
+pub fn kind_of_root(name: usize) -> u32
     ensures { λ r. ⌜ r ≡ kindOf name ⌝ }
 {
     if name == BESCHAFFUNGSANFORDERUNG {
@@ -278,7 +278,7 @@ pub fn kind_of_root(name: usize) -> usize
 }
 
 // Whether a Period that has n Intervals takes another. Ruled out: a 101st in kind 1; an end to the Intervals of kind 2.
-pub fn takes_another(kind: usize, n: usize) -> bool
+pub fn takes_another(kind: u32, n: usize) -> bool
     ensures { λ r. ⌜ r ≡ takesAnother kind n ⌝ }
 {
     if kind == 1 {
@@ -288,7 +288,7 @@ pub fn takes_another(kind: usize, n: usize) -> bool
 }
 
 // Whether a Period with n Intervals may end. Ruled out: 91 in kind 1 taken as enough; 1 in kind 2 taken as too few.
-pub fn has_enough(kind: usize, n: usize) -> bool
+pub fn has_enough(kind: u32, n: usize) -> bool
     ensures { λ r. ⌜ r ≡ hasEnough kind n ⌝ }
 {
     if kind == 1 {

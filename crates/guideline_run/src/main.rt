@@ -37,16 +37,16 @@ fn show_rows(t: &[usize]) {
     }
 }
 
-fn show_period(kind: usize, n: usize) {
+fn show_period(kind: u32, n: usize) {
     lines::print_text(b"intervals");
-    print_count(kind);
+    print_count(kind as usize);
     print_count(n);
     print_flag(guideline::has_enough(kind, n));
     print_flag(guideline::takes_another(kind, n));
     lines::print_text(b"\n");
 }
 
-fn show_kind(kind: usize) {
+fn show_kind(kind: u32) {
     show_period(kind, 0);
     show_period(kind, 1);
     show_period(kind, 91);
@@ -63,10 +63,10 @@ fn show_roots() {
     }
 }
 
-fn show_root(name: usize, kind: usize) {
+fn show_root(name: usize, kind: u32) {
     lines::print_text(b"root");
     print_count(name);
-    print_count(kind);
+    print_count(kind as usize);
     lines::print_text(b"\n");
 }
 

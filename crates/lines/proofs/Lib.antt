@@ -1,3 +1,5 @@
 pub mod Lines
 pub mod Hex
+pub mod Copies
+pub mod Signs
 pub mod Unique

@@ -4,7 +4,7 @@ use mathlib.Core.List.{List, [], _∷_}
 use mathlib.Core.Bool.{cond}
 use lib.Dec.{eqb, ltb}
 
--- the bytes before the first line feed
+-- the bytes before the first line feed, or all, where there is none
 unfoldable pub lineOf : List ℕ → List ℕ
 lineOf [] = []
 lineOf (b ∷ s) = cond (eqb b 10) [] (b ∷ lineOf s)
@@ -19,8 +19,8 @@ digitOf c =
     (cond (ltb c 97) 16
     (cond (ltb c 103) (c - 87) 16)))))
 
--- the bytes that hexadecimal digits stand for, two digits a byte, other characters passed over;
--- h is the first digit of a byte, and 16 where none is waiting for its second
+-- the bytes that hexadecimal digits stand for, two digits a byte, other characters passed over, also between the two: `4 1` is the byte 41.
+-- h is the first digit of a byte, and 16 where none is waiting for its second; a last digit without a second is dropped.
 unfoldable pub hexBytes : ℕ → List ℕ → List ℕ
 hexBytes h [] = []
 hexBytes h (c ∷ s) =

@@ -1,7 +1,7 @@
 // What the programs share: standard input line by line, bytes as hexadecimal digits, and printing.
 //
-// No contract can say what is read or written, so those of `read_input`, `print_text`, `print_number` and `print_bytes` do not;
-// the other functions are on slices, and their contracts are equations.
+// No contract can say what is read from standard input or written to standard output, so those of `read_input`, `print_text`, `print_number`
+// and `print_bytes` do not; that these are safe and end is proved. The other functions are on slices, and their contracts are equations.
 ghost use mathlib.Core.Path.{_≡_};
 ghost use Prim.Native.Nat.{_+_, _-_, _≤_, min};
 ghost use lib.ListN.{length, drop, set};
@@ -20,7 +20,8 @@ pub fn input_buffer() -> [u8; 262144]
     [0; 262144]
 }
 
-// Reads standard input until it ends or buf is full, and answers how many bytes of buf it filled.
+// Reads standard input until it ends, fails or buf is full, and answers how many bytes of buf it filled. The contract says only that the answer is
+// at most the length of buf: which bytes come, and how many, is known only when the program runs.
 pub fn read_input(buf: &mut [u8]) -> usize
     ensures { λ r. ⌜ Counts r (now (buf .exit)) ⌝ }
 {
@@ -73,7 +74,8 @@ fn digit(c: u8) -> u8
 }
 
 // Puts b at n where out has room there, and answers the place after it.
-fn put_byte(out: &mut [u8], n: usize, b: u8) -> usize
+// Ruled out: a byte at another place, and a place past the end of out.
+pub fn put_byte(out: &mut [u8], n: usize, b: u8) -> usize
     ensures next { λ r. ⌜ r ≡ min (n + 1) (length (now (out .entry))) ⌝ }
     ensures byte { λ _. ⌜ now (out .exit) ≡ set (now (out .entry)) n b ⌝ }
 {
@@ -84,8 +86,24 @@ fn put_byte(out: &mut [u8], n: usize, b: u8) -> usize
     out.len()
 }
 
+// Puts s at the start of out, as much as it has room for, and answers how many bytes.
+// Ruled out: a byte of out changed past the end of s, and a count of bytes that had no room.
+pub fn put_text(s: &[u8], out: &mut [u8]) -> usize
+    ensures count { λ r. ⌜ r ≡ min (length (now (s .entry))) (length (now (out .entry))) ⌝ }
+    ensures text { λ _. ⌜ now (out .exit) ≡ sets (now (out .entry)) 0 (now (s .entry)) ⌝ }
+    ensures room { λ r. ⌜ Counts r (now (out .exit)) ⌝ }
+{
+    let mut n: usize = 0;
+    let mut i: usize = 0;
+    while i < s.len() {
+        n = put_byte(out, n, s[i]);
+        i += 1;
+    }
+    n
+}
+
 // Puts the bytes that a line of hexadecimal digits stands for at the start of out, as many as it has room for, and answers how many.
-// Ruled out: digits paired across a byte, the low digit first, and a byte of out changed that no pair of digits stands for.
+// Ruled out: pairs that begin with the second digit of a byte, the low digit first, and a byte of out changed past the last pair.
 pub fn put_bytes(line: &[u8], out: &mut [u8]) -> usize
     ensures count { λ r. ⌜ r ≡ min (length (hexBytes 16 (now (line .entry)))) (length (now (out .entry))) ⌝ }
     ensures bytes { λ _. ⌜ now (out .exit) ≡ sets (now (out .entry)) 0 (hexBytes 16 (now (line .entry))) ⌝ }
@@ -140,16 +158,17 @@ pub fn put_hex(s: &[u8], out: &mut [u8]) -> usize
     n
 }
 
+// Writes text to standard output. The contract says nothing: what is written is no answer and no lent buffer, and a write that fails is not told.
 pub fn print_text(text: &[u8]) {
     io::write_all(STDOUT_FILENO, text);
 }
 
-// In decimal digits.
+// Writes n to standard output in decimal digits. The contract says nothing, for the same reason.
 pub fn print_number(n: u64) {
     io::print_decimal(STDOUT_FILENO, n);
 }
 
-// The first 21,845 bytes of s as `put_hex` has them.
+// Writes the bytes of s to standard output as `put_hex` has them, up to 65,536 characters. The contract says nothing, for the same reason.
 pub fn print_bytes(s: &[u8]) {
     let mut text = io::large_buffer();
     let n = put_hex(s, &mut text);

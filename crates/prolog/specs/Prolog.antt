@@ -3,7 +3,7 @@
 -- unreadable item."
 use Prim.Native.Nat.{ℕ, _+_}
 use mathlib.Core.List.{List, [], _∷_}
-use mathlib.Core.Bool.{Bool, true, false, cond}
+use mathlib.Core.Bool.{Bool, false, cond}
 use lib.ListN.{length, drop}
 use lib.Dec.{leb, eqb}
 use Rattle.slices.specs.Bytes.{byte}
@@ -64,20 +64,24 @@ declarationBy before s Torn = Unreadable before
 unfoldable pub declaration : ℕ → List ℕ → Begin
 declaration before s = declarationBy before s (piece (drop 5 s))
 
+-- "an optional byte order mark (EF BB BF)": 3 bytes, or none
 unfoldable pub markLen : List ℕ → ℕ
 markLen doc = cond (begins (0xEF ∷ 0xBB ∷ 0xBF ∷ []) doc) 3 0
 
+-- the declaration is read from the byte after the mark on, so the place of the first item has the m bytes of the mark before it
 unfoldable pub after : ℕ → Begin → Begin
 after m (From n) = From (m + n)
 after m (Unreadable p) = Unreadable p
 
+-- after a mark of m bytes: a declaration if `<?xml` stands there, else the first item
 unfoldable pub beginAfter : List ℕ → ℕ → Begin
 beginAfter doc m = cond (begins (text "<?xml") (drop m doc)) (after m (declaration m (drop m doc))) (From m)
 
+-- where the items of a document begin
 unfoldable pub begin : List ℕ → Begin
 begin doc = beginAfter doc (markLen doc)
 
--- The paper's number and place for each answer: 0, or refusal 2 at the declaration.
+-- the paper's number for each answer: 0 for none, or 2, "the item is unreadable"; the refusal's place is in the answer itself
 abbrev pub beginRefusal : Begin → ℕ
 beginRefusal (From n) = 0
 beginRefusal (Unreadable p) = 2

@@ -8,12 +8,13 @@ use lib.ListN.{length, drop, length-drop}
 use Rattle.attributes.specs.Attribute.{piece, partOf}
 use Rattle.attributes.specs.declared.Piece.{Piece}
 use Rattle.attributes.specs.declared.Piece.the-variants.{Attribute}
+use Rattle.attributes.proofs.Named.{piece-name}
 use Rattle.tags.specs.Tail.{ends}
 use Rattle.tags.proofs.Ends.{attr, ends-attribute}
 use Rattle.repeats.specs.Bearers.{bears, bearsAt}
-use Rattle.repeats.specs.Cells.{Cells, Added}
+use Rattle.repeats.specs.Cells.{Cells, KeptOr}
 use Rattle.repeats.proofs.Bearing.{bears-here, bears-more}
-use Rattle.repeats.proofs.Named.{piece-name, name-here}
+use Rattle.repeats.proofs.Named.{name-here}
 
 -- the first n cells of u are places of names of the tag; what it bears from the place i on it bears
 pub record Collected (s : List ℕ) (from : ℕ) (t u : List ℕ) (n i : ℕ) : Type 0 where
@@ -32,7 +33,7 @@ module _ (s : List ℕ) (i : ℕ) {p : List ℕ} (ep : p ≡ drop i s) {x : Piec
       let o = piece-name a l v m k p (sym e ∙ q) .0 in
       omega (arith, o, ap length ep ∙ length-drop i s)
 
-  pub collected-more : {from : ℕ} {t u w : List ℕ} {n r : ℕ} → Collected s from t u n i → 1 ≤ k → Added n r (i + a) u w → r ≤ length u → length w ≡ length u
+  pub collected-more : {from : ℕ} {t u w : List ℕ} {n r : ℕ} → Collected s from t u n i → 1 ≤ k → KeptOr n r (i + a) u w → r ≤ length u → length w ≡ length u
       → Collected s from t w r (i + k)
   unfolding bearsAt
   collected-more {from} c o added room same =

@@ -1,72 +1,15 @@
--- The name of an attribute, told by its place alone: it lies in the tag, and is as long as the run of its bytes. Assumes nothing.
-use Prim.Native.Nat.{ℕ, _+_, _<_}
+-- The name of an attribute, told by its place alone. Assumes nothing.
+use Prim.Native.Nat.{ℕ, _+_}
 use mathlib.Core.Path.{_≡_, sym, ap, _∙_}
 use mathlib.Core.List.{List}
-use mathlib.Core.Bool.{true}
-use mathlib.Core.Logic.{⊎-elim}
-use native.Mathlib.Omega.{arith}
-use lib.Dec.{eqb}
-use lib.ListN.{length, take, drop, List·getD-eq-default}
+use lib.ListN.{take, drop}
 use lib.Seq.{drop-drop}
-use Rattle.lists.proofs.Cases.{bool-cases, by-cond, past-cond, leb-cases}
-use Rattle.slices.specs.Bytes.{byte}
 use Rattle.slices.specs.Run.{run}
-use Rattle.attributes.specs.Names.{nameStart, nameByte, white}
-use Rattle.attributes.specs.Attribute.{quote, opening, value, attributeEnd, attributeQuote, attributeName, attribute, pieceAfter, piece, partOf}
-use Rattle.attributes.specs.declared.Piece.{Piece}
-use Rattle.attributes.specs.declared.Piece.the-variants.{Attribute, Close, CloseEmpty, Torn}
-use Rattle.attributes.specs.declared.Value.{Value}
-use Rattle.attributes.specs.declared.Value.the-variants.{Long, Broken}
+use Rattle.attributes.specs.Names.{nameByte}
+use Rattle.attributes.specs.Attribute.{piece, partOf}
+use Rattle.attributes.specs.declared.Piece.the-variants.{Attribute}
+use Rattle.attributes.proofs.Named.{piece-name}
 use Rattle.repeats.specs.Order.{nameAt}
-use Rattle.repeats.proofs.Order.{never}
-
-module _ (a l v m k : ℕ) where
-  not-close : (n : ℕ) → Close n ≡ Attribute a l v m k → ⊥
-  not-close n e = let z : _≡_ {A = ℕ} 0 1 = cc in omega arith
-
-  not-empty : (n : ℕ) → CloseEmpty n ≡ Attribute a l v m k → ⊥
-  not-empty n e = let z : _≡_ {A = ℕ} 0 1 = cc in omega arith
-
-  not-torn : Torn ≡ Attribute a l v m k → ⊥
-  not-torn e = let z : _≡_ {A = ℕ} 0 1 = cc in omega arith
-
-  end-name : (w n o : ℕ) (x : Value) → attributeEnd w n o x ≡ Attribute a l v m k → (w ≡ a) × (n ≡ l)
-  unfolding attributeEnd
-  end-name w n o (Long j) e = ((cc), (cc))
-  end-name w n o Broken e = absurd (not-torn e)
-
-  quote-name : (t : List ℕ) (w n o : ℕ) → attributeQuote t w n o ≡ Attribute a l v m k → (w ≡ a) × (n ≡ l)
-  unfolding attributeQuote
-  quote-name t w n o e =
-      ⊎-elim
-      (λ y. end-name w n (o + 1) (value (byte t o) (drop (o + 1) t)) (rw y at e))
-      (λ d. absurd (not-torn (rw d at e)))
-      (bool-cases (quote (byte t o)))
-
-  -- a name starts with a byte that is there
-  start-inside : (t : List ℕ) (w : ℕ) → nameStart (byte t w) ≡ true → w < length t
-  unfolding byte nameStart
-  start-inside t w e = ⊎-elim (λ y. never (rw (List·getD-eq-default t 0 (y .0)) at e)) (λ d. d .0) (leb-cases (length t) w)
-
-  attribute-name : (t : List ℕ) (w : ℕ) → attribute t w ≡ Attribute a l v m k → (a < length t) × (l ≡ run nameByte (drop a t))
-  unfolding attribute attributeName
-  attribute-name t w e =
-      ⊎-elim
-      (λ y.
-      let q = quote-name t w (run nameByte (drop w t)) (opening t (w + run nameByte (drop w t))) (rw y at e) in
-      (rw (q .0) at (start-inside t w y), sym (q .1) ∙ ap (λ (j : ℕ). run nameByte (drop j t)) (q .0)))
-      (λ d. absurd (not-torn (rw d at e)))
-      (bool-cases (nameStart (byte t w)))
-
-  pub piece-name : (t : List ℕ) → piece t ≡ Attribute a l v m k → (a < length t) × (l ≡ run nameByte (drop a t))
-  unfolding piece pieceAfter
-  piece-name t e =
-      let w = run white t in
-      let past = past-cond (eqb (byte t w) 0x3E) (not-close (w + 1)) e .1 in
-      let slash =
-      past-cond (eqb (byte t w) 0x2F)
-      (by-cond (λ (p : Piece). p ≡ Attribute a l v m k → ⊥) (eqb (byte t (w + 1)) 0x3E) (not-empty (w + 2)) not-torn) past .1 in
-      attribute-name t w (past-cond (eqb w 0) not-torn slash .1)
 
 -- the name of the attribute that `piece_at` found on the part t from i on
 pub name-here : (s : List ℕ) (i : ℕ) (t : List ℕ) → t ≡ drop i s → (a l v m k : ℕ) → piece t ≡ Attribute a l v m k → nameAt s (i + a) ≡ partOf t a l

@@ -8,7 +8,7 @@ use native.Mathlib.Omega.{arith}
 use lib.ListN.{length, getD, set, length-set}
 use lib.Seq.{getD-set-same, getD-set-other}
 use Rattle.lists.proofs.Cases.{eqb-cases}
-use Rattle.repeats.specs.Cells.{Cells, Kept, Swapped, Added}
+use Rattle.repeats.specs.Cells.{Cells, Kept, KeptPast, KeptOr}
 
 -- m cells, of which all but the one stored were among the n before
 pub stored : (test : ℕ → Bool) (n m i v : ℕ) (t : List ℕ) → i < length t → ((k : ℕ) → k < m → (k ≡ i → ⊥) → k < n)
@@ -22,12 +22,12 @@ stored test n m i v t h old cells good =
           (eqb-cases k i);
     }
 
-pub swapped : (i j : ℕ) (t : List ℕ) → i < length t → j < length t → Swapped i j t (set (set t i (getD t j 0)) j (getD t i 0))
+pub swapped : (i j : ℕ) (t : List ℕ) → i < length t → j < length t → KeptPast i j t (set (set t i (getD t j 0)) j (getD t i 0))
 swapped i j t hi hj n li lj test cells =
     stored test n n j (getD t i 0) (set t i (getD t j 0)) (rw length-set hj) (λ k l d. l)
     (stored test n n i (getD t j 0) t hi (λ k l d. l) cells (cells .each j lj)) (cells .each i li)
 
--- u is t after swaps among its first n cells
+-- u is as long as t, and its first n cells hold nothing that those of t do not
 pub record Held (n : ℕ) (t u : List ℕ) : Type 0 where
   pub same : length u ≡ length t
   pub kept : Kept n t u
@@ -35,12 +35,12 @@ pub record Held (n : ℕ) (t u : List ℕ) : Type 0 where
 pub held-start : (n : ℕ) (t : List ℕ) → Held n t t
 held-start n t = record { same = refl; kept = λ test cells. cells }
 
-pub held-swap : {n i j : ℕ} {t u v : List ℕ} → Held n t u → Swapped i j u v → length v ≡ length u → i < n → j < n → Held n t v
+pub held-swap : {n i j : ℕ} {t u v : List ℕ} → Held n t u → KeptPast i j u v → length v ≡ length u → i < n → j < n → Held n t v
 held-swap {n} w s e hi hj = record { same = e ∙ w .same; kept = λ test cells. s n hi hj test (w .kept test cells) }
 
 -- a place after the n that are there, and one in the first of them
-pub added-last : {n p : ℕ} {t u : List ℕ} → n < length t → Kept (n + 1) (set t n p) u → Added n (n + 1) p t u
+pub added-last : {n p : ℕ} {t u : List ℕ} → n < length t → Kept (n + 1) (set t n p) u → KeptOr n (n + 1) p t u
 added-last {n} {p} {t} h kept test cells good = kept test (stored test n (n + 1) n p t h (λ k l d. omega arith) cells good)
 
-pub added-first : {n p : ℕ} {t u : List ℕ} → 0 < n → n ≤ length t → Kept n (set t 0 p) u → Added n n p t u
+pub added-first : {n p : ℕ} {t u : List ℕ} → 0 < n → n ≤ length t → Kept n (set t 0 p) u → KeptOr n n p t u
 added-first {n} {p} {t} o h kept test cells good = kept test (stored test n n 0 p t (omega arith) (λ k l d. l) cells good)

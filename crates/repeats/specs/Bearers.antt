@@ -18,7 +18,7 @@ bearers x (a ∷ more) =
     let others = bearers x more in
     cond (same x (a .name)) (suc others) others
 
--- the tag has an attribute of this name; of a torn tag nothing is said
+-- the tag has an attribute of this name; a torn tag passes: `collect` reads up to the tear, and its caller knows that the tag is not torn
 unfoldable pub bears : List ℕ → Ends → Bool
 bears x (closed more empty n) = named x more
 bears x torn = true

@@ -11,19 +11,20 @@ use Rattle.repeats.specs.Order.{nameAt, upTo}
 pub record Cells (test : ℕ → Bool) (n : ℕ) (t : List ℕ) : Type 0 where
   pub each : (i : ℕ) → i < n → test (getD t i 0) ≡ true
 
--- whatever each of the first n cells of t passes, each of the first n of u passes
+-- whatever each of the first n cells of t passes, each of the first n of u passes: so these hold nothing that those do not
 abbrev pub Kept : ℕ → List ℕ → List ℕ → Type 0
 Kept n t u = (test : ℕ → Bool) → Cells test n t → Cells test n u
 
--- so of any first cells that i and j are among
-abbrev pub Swapped : ℕ → ℕ → List ℕ → List ℕ → Type 0
-Swapped i j t u = (n : ℕ) → i < n → j < n → Kept n t u
+-- `Kept`, for each n that is above i and above j; that the cells i and j are exchanged is not said, and not needed
+abbrev pub KeptPast : ℕ → ℕ → List ℕ → List ℕ → Type 0
+KeptPast i j t u = (n : ℕ) → i < n → j < n → Kept n t u
 
--- whatever each of the first n cells of t passes, and p, each of the first m of u passes
-abbrev pub Added : ℕ → ℕ → ℕ → List ℕ → List ℕ → Type 0
-Added n m p t u = (test : ℕ → Bool) → Cells test n t → test p ≡ true → Cells test m u
+-- whatever p passes, and each of the first n cells of t, each of the first m of u passes; that p is in one of them is not said, and not needed
+abbrev pub KeptOr : ℕ → ℕ → ℕ → List ℕ → List ℕ → Type 0
+KeptOr n m p t u = (test : ℕ → Bool) → Cells test n t → test p ≡ true → Cells test m u
 
--- where the names at the first n cells are names of attributes, there are n different ones after that at `last`, up to that at the first cell
+-- where the names at the first n cells are names of attributes: at least n different names lie, in order, above that at `last` and not above that
+-- at the first cell
 abbrev pub Fallen : List ℕ → ℕ → ℕ → List ℕ → Type 0
 Fallen s last n t =
     (more : List Attr) → Cells (λ p. named (nameAt s p) more) n t

@@ -8,7 +8,7 @@ use Rattle.slices.specs.Run.{run}
 use Rattle.attributes.specs.Names.{nameByte}
 use Rattle.tags.specs.Tail.{Attr, named}
 
--- the name that starts at the place p
+-- the name that starts at the place p; past the end it is empty, which comes before every other
 unfoldable pub nameAt : List ℕ → ℕ → List ℕ
 nameAt s p = take (run nameByte (drop p s)) (drop p s)
 

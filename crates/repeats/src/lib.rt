@@ -14,7 +14,7 @@ ghost use lib.ListN.{length};
 ghost use Rattle.tags.specs.Tail.{ends, twiceIn};
 ghost use Rattle.repeats.specs.Order.{nameAt, less};
 ghost use Rattle.repeats.specs.Bearers.{attributesOf, bearers, bearsAt};
-ghost use Rattle.repeats.specs.Cells.{Cells, Kept, Swapped, Added, Fallen};
+ghost use Rattle.repeats.specs.Cells.{Cells, Kept, KeptPast, KeptOr, Fallen};
 
 // How many attributes a tag has, none where it is torn.
 fn count_attributes(s: &[u8], from: usize) -> usize
@@ -140,7 +140,7 @@ fn is_before(s: &[u8], p: u32, q: u32) -> bool
 
 fn swap(h: &mut [u32], i: usize, j: usize)
     requires { ⌜ (i < length (now h)) × (j < length (now h)) ⌝ }
-    ensures { λ _. ⌜ Swapped i j (now (h .entry)) (now (h .exit)) ⌝ }
+    ensures { λ _. ⌜ KeptPast i j (now (h .entry)) (now (h .exit)) ⌝ }
 {
     let x = h[i];
     h[i] = h[j];
@@ -200,7 +200,7 @@ fn sink(s: &[u8], h: &mut [u32], n: usize)
 fn put(s: &[u8], h: &mut [u32], n: usize, p: u32) -> usize
     requires { ⌜ n ≤ length (now h) ⌝ }
     ensures size { λ r. ⌜ r ≤ length (now (h .entry)) ⌝ }
-    ensures cells { λ r. ⌜ Added n r p (now (h .entry)) (now (h .exit)) ⌝ }
+    ensures cells { λ r. ⌜ KeptOr n r p (now (h .entry)) (now (h .exit)) ⌝ }
 {
     if n < h.len() {
         h[n] = p;
@@ -220,7 +220,7 @@ fn put(s: &[u8], h: &mut [u32], n: usize, p: u32) -> usize
 fn put_due(s: &[u8], h: &mut [u32], n: usize, last: u32, p: u32) -> usize
     requires { ⌜ n ≤ length (now h) ⌝ }
     ensures size { λ r. ⌜ r ≤ length (now (h .entry)) ⌝ }
-    ensures cells { λ r. ⌜ Added n r p (now (h .entry)) (now (h .exit)) ⌝ }
+    ensures cells { λ r. ⌜ KeptOr n r p (now (h .entry)) (now (h .exit)) ⌝ }
 {
     if p == last {
         return n;

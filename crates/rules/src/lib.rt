@@ -22,7 +22,7 @@ ghost use Rattle.rules.specs.Rules.{unless, version, amount, formRefusal
 
 // What a value is held against: the kind; TimePeriodCovered, in minutes, and its quarter hours; the last Pos, 0 before the first.
 pub struct Held {
-    pub kind: usize,
+    pub kind: u32,
     pub from: u32,
     pub to: u32,
     pub quarters: u32,
@@ -94,7 +94,7 @@ fn form_refusal(form: usize, v: &[u8]) -> u32
     0
 }
 
-fn is_period(kind: usize, from: u32, to: u32) -> bool
+fn is_period(kind: u32, from: u32, to: u32) -> bool
     ensures { λ r. ⌜ r ≡ periodFits kind from to ⌝ }
 {
     if kind == 1 {
@@ -103,7 +103,7 @@ fn is_period(kind: usize, from: u32, to: u32) -> bool
     is_cost_period(from, to)
 }
 
-fn judge_period(v: &[u8], kind: usize) -> Judged
+fn judge_period(v: &[u8], kind: u32) -> Judged
     ensures { λ r. ⌜ r ≡ judgePeriod kind (says (now (v .entry))) ⌝ }
 {
     match interval_of(v) {
@@ -163,7 +163,7 @@ fn is_next(last: u32, p: u32) -> bool
     p as u64 == last as u64 + 1
 }
 
-fn is_position(kind: usize, quarters: u32, last: u32, p: u32) -> bool
+fn is_position(kind: u32, quarters: u32, last: u32, p: u32) -> bool
     ensures { λ r. ⌜ r ≡ positionFits kind quarters last p ⌝ }
 {
     if quarters < p {

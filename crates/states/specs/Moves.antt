@@ -23,7 +23,7 @@ use Rattle.states.specs.Attributes.{attributesFit, judgeTag}
 use Rattle.states.specs.declared.State.{State}
 use Rattle.states.specs.declared.Room.{Room}
 use Rattle.states.specs.declared.Entry.{Entry}
-use Rattle.states.specs.declared.Entry.the-variants.{Nothing, Series, View, Interval, Position, Amount}
+use Rattle.states.specs.declared.Entry.the-variants.{Nothing, Series, Identification, Object, BusinessType, Interval, Position, Amount}
 use Rattle.states.specs.declared.Step.{Step}
 use Rattle.states.specs.declared.Step.the-variants.{Next, Refused}
 
@@ -182,14 +182,14 @@ kept x w j =
 unfoldable pub entered : State → ℕ → ℕ → ℕ → Judged → Bool → State
 entered x kind r w j within = kept (placed x kind r within) w j
 
--- what it brings into the tables: the cells 2 of the object, 4 of BusinessType, 0 of TimeSeriesIdentification
+-- what it brings into the tables
 unfoldable pub entryOf : ℕ → ℕ → Entry
 entryOf role p =
     cond (eqb role 2) Series
     (cond (eqb role 4) Interval
-    (cond (eqb role 6) (View 2)
-    (cond (eqb role 7) (View 4)
-    (cond (eqb role 8) (View 0)
+    (cond (eqb role 6) Object
+    (cond (eqb role 7) BusinessType
+    (cond (eqb role 8) Identification
     (cond (eqb role 9) (Position p)
     (cond (eqb role 10) Amount Nothing))))))
 

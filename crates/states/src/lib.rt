@@ -32,7 +32,7 @@ ghost use Rattle.states.specs.Moves.{oneMore, cutShort, begun, heldOf, t
 
 pub struct State {
     // 0 before the root
-    pub kind: usize,
+    pub kind: u32,
     // the last row that was started, and whether it is still open
     pub row: usize,
     pub inside: bool,
@@ -51,16 +51,17 @@ pub struct State {
 
 // For how many series and intervals the lent tables have room.
 pub struct Room {
-    pub series: u32,
-    pub intervals: u32,
+    pub series: usize,
+    pub intervals: usize,
 }
 
-// What an item brings into the tables: a series; the value of an identification, object or BusinessType, for two cells of the series'
-// row from this one on; an interval; a position; an amount.
+// What an item brings into the tables.
 pub enum Entry {
     Nothing,
     Series,
-    View(usize),
+    Identification,
+    Object,
+    BusinessType,
     Interval,
     Position(u32),
     Amount,
@@ -233,13 +234,13 @@ fn entry_of(role: usize, p: u32) -> Entry
         return Entry::Interval;
     }
     if role == 6 {
-        return Entry::View(2);
+        return Entry::Object;
     }
     if role == 7 {
-        return Entry::View(4);
+        return Entry::BusinessType;
     }
     if role == 8 {
-        return Entry::View(0);
+        return Entry::Identification;
     }
     if role == 9 {
         return Entry::Position(p);
@@ -301,7 +302,7 @@ impl State {
         }
     }
 
-    fn held(self, kind: usize) -> Held
+    fn held(self, kind: u32) -> Held
         ensures { λ r. ⌜ r ≡ heldOf self kind ⌝ }
     {
         Held {
@@ -314,7 +315,7 @@ impl State {
     }
 
     // Whether an Interval would be one too many for its Period.
-    fn has_too_many(self, role: usize, kind: usize) -> bool
+    fn has_too_many(self, role: usize, kind: u32) -> bool
         ensures { λ r. ⌜ r ≡ tooMany self role kind ⌝ }
     {
         if role == 4 {
@@ -331,10 +332,10 @@ impl State {
         ensures { λ r. ⌜ r ≡ noRoom self role room ⌝ }
     {
         if role == 2 {
-            return room.series <= self.series;
+            return room.series <= self.series as usize;
         }
         if role == 4 {
-            return room.intervals <= self.intervals;
+            return room.intervals <= self.intervals as usize;
         }
         false
     }
@@ -355,7 +356,7 @@ impl State {
         false
     }
 
-    fn judge_values(self, kind: usize, w: usize, t: Tag, s: &[u8]) -> Judged
+    fn judge_values(self, kind: u32, w: usize, t: Tag, s: &[u8]) -> Judged
         ensures { λ r. ⌜ r ≡ valuesJudged self kind w t (now (s .entry)) ⌝ }
     {
         if self.has_half(role_of(w)) {
@@ -371,7 +372,7 @@ impl State {
     // The refusal of a start or empty tag whose row is due, and what its value says.
     fn judge_start(
         self,
-        kind: usize,
+        kind: u32,
         rows: &[usize],
         row: usize,
         t: Tag,
@@ -415,7 +416,7 @@ impl State {
     }
 
     // The state after the start of a row, which w describes.
-    fn entered(mut self, kind: usize, row: usize, w: usize, j: Judged, within: bool) -> State
+    fn entered(mut self, kind: u32, row: usize, w: usize, j: Judged, within: bool) -> State
         ensures { λ r. ⌜ r ≡ entered self kind row w j within ⌝ }
     {
         self.kind = kind;
@@ -456,7 +457,7 @@ impl State {
     // A start or empty tag whose name has the number `name`.
     fn started(
         self,
-        kind: usize,
+        kind: u32,
         rows: &[usize],
         name: usize,
         t: Tag,
@@ -528,7 +529,7 @@ impl State {
     }
 
     // An item of a document of this kind; s is the part of the document that begins with it.
-    fn moved(self, kind: usize, rows: &[usize], item: Item, s: &[u8], room: Room) -> Step
+    fn moved(self, kind: u32, rows: &[usize], item: Item, s: &[u8], room: Room) -> Step
         ensures { λ r. ⌜ r ≡ moved self kind (now (rows .entry)) item (now (s .entry)) room ⌝ }
     {
         match item {
@@ -563,7 +564,7 @@ impl State {
     }
 
     // The kind of the document, which the root's own tag tells.
-    fn kind_told(self, item: Item, s: &[u8]) -> usize
+    fn kind_told(self, item: Item, s: &[u8]) -> u32
         ensures { λ r. ⌜ r ≡ kindTold self item (now (s .entry)) ⌝ }
     {
         if self.kind == 0 {

@@ -52,11 +52,12 @@ unfoldable pub tail : Known → Ends → Tail
 tail k (closed more empty n) = Shut (keep k more) empty n
 tail k torn = Breaks
 
--- "An attribute twice in a tag": its name stands again after it
+-- one of the attributes has the name n
 unfoldable pub named : List ℕ → List Attr → Bool
 named n [] = false
 named n (a ∷ more) = cond (same n (a .name)) true (named n more)
 
+-- "An attribute twice in a tag": its name stands again after it
 unfoldable pub twice : List Attr → Bool
 twice [] = false
 twice (a ∷ more) = cond (named (a .name) more) true (twice more)

@@ -1,10 +1,12 @@
--- Days are counted right: 2000-01-01 is 0, and the date after a real date has the next number. Assumes nothing.
+-- Days are counted right: 2000-01-01 is 0, and the date after a real date has the next number; where the one is not 2099-12-31, the other is real.
+-- Assumes nothing.
 use Prim.Native.Nat.{ℕ, _+_, _-_, _/_, _%_, _≤_, _<_}
 use mathlib.Core.Path.{_≡_, refl, ap, _∙_}
 use mathlib.Core.Bool.{Bool, true, false, cond, and-eq-true-iff}
 use native.Mathlib.Omega.{arith}
 use lib.Dec.{leb, ltb, eqb}
-use borrow.Author.Tests.{leb-true, ltb-true, ltb-false, eqb-true, eqb-false}
+use borrow.Author.Tests.{leb-true, le-leb, ltb-true, ltb-false, eqb-true, eqb-false}
+use Rattle.lists.proofs.Cases.{by-cond}
 use Rattle.times.specs.Calendar.{leap, monthDays, realDate, daysBefore, leapDay, dayNumber}
 use Rattle.times.proofs.Below.{every, below}
 use Rattle.times.specs.After.{Date, after, isReal, dateNumber}
@@ -80,6 +82,7 @@ december y = refl
 -- what a real date tells
 pub record Real (y m d : ℕ) : Type 0 where
   pub since : 2000 ≤ y
+  pub until : y ≤ 2099
   pub month-from : 1 ≤ m
   pub month-to : m ≤ 12
   pub day-from : 1 ≤ d
@@ -95,27 +98,61 @@ real y m d r =
     let f = and-eq-true-iff (leb 1 d) (leb d (monthDays y m)) .0 (e .1) in
     record {
       since = leb-true _ _ (a .0);
+      until = leb-true _ _ (b .0);
       month-from = leb-true _ _ (c .0);
       month-to = leb-true _ _ (e .0);
       day-from = leb-true _ _ (f .0);
       day-to = leb-true _ _ (f .1);
     }
 
-pub consecutive : (x : Date) → isReal x ≡ true → dateNumber (after x) ≡ dateNumber x + 1
-unfolding after
-consecutive x r = go (x .year) (x .month) (x .day) (ltb (x .day) (monthDays (x .year) (x .month))) (ltb (x .month) 12) refl refl (real (x .year) (x .month) (x .day) r)
+told : {y m d : ℕ} → 2000 ≤ y → y ≤ 2099 → 1 ≤ m → m ≤ 12 → 1 ≤ d → d ≤ monthDays y m → realDate y m d ≡ true
+unfolding realDate
+told a b c e f g = simp (le-leb _ _ a, le-leb _ _ b, le-leb _ _ c, le-leb _ _ e, le-leb _ _ f, le-leb _ _ g)
+
+-- each month has a first day
+some-day : (y m : ℕ) → 1 ≤ monthDays y m
+unfolding monthDays
+some-day y m = or (eqb m 2) (or (leap y) (omega arith) (omega arith)) (or (eqb m 4) p (or (eqb m 6) p (or (eqb m 9) p (or (eqb m 11) p (omega arith)))))
   where
-    go : (y m d : ℕ) (t u : Bool) → ltb d (monthDays y m) ≡ t → ltb m 12 ≡ u → Real y m d
-        → dateNumber (cond t (record { year = y; month = m; day = d + 1 })
-        (cond u (record { year = y; month = m + 1; day = 1 }) (record { year = y + 1; month = 1; day = 1 }))) ≡ dayNumber y m d + 1
-    go y m d true u p q a = next-day y m d (a .day-from)
-    go y m d false true p q a =
-        let l = ltb-false d (monthDays y m) p in
-        first-of-next y m d (a .month-from) (ltb-true m 12 q) (a .day-from) (omega (arith, l, a .day-to))
-    go y m d false false p q a =
-        let l = ltb-false d (monthDays y m) p in
-        let k = ltb-false m 12 q in
-        let e : m ≡ 12 = omega (arith, k, a .month-to) in
-        let n = ap (monthDays y) e ∙ december y in
-        let f : d ≡ 31 = omega (arith, l, a .day-to, n) in
-        rw (e, f) (next-year y (a .since))
+    or : (t : Bool) {a b : ℕ} → 1 ≤ a → 1 ≤ b → 1 ≤ cond t a b
+    or = by-cond (λ (n : ℕ). 1 ≤ n)
+
+    p : 1 ≤ 30
+    p = omega arith
+
+-- the date after a real one is the next of its month, the first of the next month or the first of the next year
+by-date : (P : Date → Type 0) (x : Date) → isReal x ≡ true
+    → (Real (x .year) (x .month) (x .day) → x .day < monthDays (x .year) (x .month) → P (record { year = x .year; month = x .month; day = x .day + 1 }))
+    → (Real (x .year) (x .month) (x .day) → x .day ≡ monthDays (x .year) (x .month) → x .month < 12 → P (record { year = x .year; month = x .month + 1; day = 1 }))
+    → (Real (x .year) (x .month) (x .day) → x .month ≡ 12 → x .day ≡ 31 → P (record { year = x .year + 1; month = 1; day = 1 })) → P (after x)
+unfolding after
+by-date P x r same-month next first = go (ltb (x .day) (monthDays (x .year) (x .month))) (ltb (x .month) 12) refl refl (real (x .year) (x .month) (x .day) r)
+  where
+    go : (t u : Bool) → ltb (x .day) (monthDays (x .year) (x .month)) ≡ t → ltb (x .month) 12 ≡ u → Real (x .year) (x .month) (x .day)
+        → P (cond t (record { year = x .year; month = x .month; day = x .day + 1 })
+        (cond u (record { year = x .year; month = x .month + 1; day = 1 }) (record { year = x .year + 1; month = 1; day = 1 })))
+    go true u p q a = same-month a (ltb-true _ _ p)
+    go false true p q a = let l = ltb-false (x .day) (monthDays (x .year) (x .month)) p in next a (omega (arith, l, a .day-to)) (ltb-true _ _ q)
+    go false false p q a =
+        let l = ltb-false (x .day) (monthDays (x .year) (x .month)) p in
+        let k = ltb-false (x .month) 12 q in
+        let e : x .month ≡ 12 = omega (arith, k, a .month-to) in
+        let n = ap (monthDays (x .year)) e ∙ december (x .year) in
+        first a e (omega (arith, l, a .day-to, n))
+
+pub consecutive : (x : Date) → isReal x ≡ true → dateNumber (after x) ≡ dateNumber x + 1
+consecutive x r =
+    by-date (λ z. dateNumber z ≡ dateNumber x + 1) x r
+    (λ a l. next-day (x .year) (x .month) (x .day) (a .day-from))
+    (λ a e l. first-of-next (x .year) (x .month) (x .day) (a .month-from) l (a .day-from) e)
+    (λ a e f. rw (e, f) (next-year (x .year) (a .since)))
+
+-- every real date but the last of 2099 has a real date after it
+pub after-real : (x : Date) → isReal x ≡ true → (x .year ≡ 2099 → x .month ≡ 12 → x .day ≡ 31 → ⊥) → isReal (after x) ≡ true
+after-real x r other =
+    by-date (λ z. isReal z ≡ true) x r
+    (λ a l. told (a .since) (a .until) (a .month-from) (a .month-to) (omega arith) (omega (arith, l)))
+    (λ a e l. told (a .since) (a .until) (omega arith) (omega (arith, l)) (omega arith) (some-day (x .year) (x .month + 1)))
+    (λ a e f.
+    let n : x .year ≡ 2099 → ⊥ = λ y. other y e f in
+    told (omega (arith, a .since)) (omega (arith, n, a .until)) (omega arith) (omega arith) (omega arith) (some-day (x .year + 1) 1))

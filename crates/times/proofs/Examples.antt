@@ -8,7 +8,7 @@ use Rattle.pictures.specs.Picture.{digit, takes, fitsOf}
 use Rattle.pictures.specs.Number.{numberOf, numberAt}
 use Rattle.times.specs.Calendar.{leap, monthDays, realDate, daysBefore, leapDay, dayNumber, dayOf}
 use Rattle.times.specs.Times.{minuteOn, minuteAt, isMinute, dateTime, between, interval}
-use Rattle.times.specs.Periods.{quarterHours, dayStart, dayPeriod}
+use Rattle.times.specs.Periods.{quarterHours, dayBound, dayPeriod}
 use Rattle.times.specs.declared.Interval.{Interval}
 use Rattle.times.specs.declared.Interval.the-variants.{Minutes, NotInterval}
 
@@ -40,5 +40,5 @@ abbrev pub meanings : List Meaning
 meanings = is-date-time ∷ is-neither ∷ is-interval 96 true ∷ is-neither ∷ is-interval 92 true ∷ is-interval 100 true ∷ []
 
 pub examples : map meaning values ≡ meanings
-unfolding digit takes fitsOf numberOf numberAt leap monthDays realDate daysBefore leapDay dayNumber dayOf minuteOn minuteAt isMinute dateTime between interval quarterHours dayStart dayPeriod
+unfolding digit takes fitsOf numberOf numberAt leap monthDays realDate daysBefore leapDay dayNumber dayOf minuteOn minuteAt isMinute dateTime between interval quarterHours dayBound dayPeriod
 examples = refl

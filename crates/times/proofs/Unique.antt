@@ -6,14 +6,9 @@ use mathlib.Core.List.{List}
 use mathlib.Core.Bool.{Bool}
 use Rattle.lists.proofs.Unique.{one}
 use Rattle.characters.specs.Says.{says}
-use Rattle.times.specs.Calendar.{dayOf}
 use Rattle.times.specs.Times.{dateTime, interval}
 use Rattle.times.specs.Periods.{quarterHours, dayPeriod, costPeriod}
-use Rattle.times.specs.declared.Day.{Day}
 use Rattle.times.specs.declared.Interval.{Interval}
-
-pub day-of-one : (y m d : ℕ) {r r′ : Day} → r ≡ dayOf y m d → r′ ≡ dayOf y m d → r ≡ r′
-day-of-one y m d = one
 
 pub is-date-time-one : (v : List ℕ) {r r′ : Bool} → r ≡ dateTime (says v) → r′ ≡ dateTime (says v) → r ≡ r′
 is-date-time-one v = one

@@ -1,4 +1,4 @@
--- The date after a date.
+-- The date after a date. No contract cites it: proofs/Consecutive.antt holds the numbers of days against it.
 use Prim.Native.Nat.{ℕ, _+_}
 use mathlib.Core.Bool.{Bool, cond}
 use lib.Dec.{ltb}
@@ -9,7 +9,8 @@ pub record Date : Type 0 where
   pub month : ℕ
   pub day : ℕ
 
--- the next day of the month; after its last day the first of the next month; after the last month the first of the next year
+-- the next day of the month; after its last day the first of the next month; after the last month the first of the next year;
+-- of a real date other than 2099-12-31 it is a real date (`after-real`)
 unfoldable pub after : Date → Date
 after x =
     cond (ltb (x .day) (monthDays (x .year) (x .month))) (record { year = x .year; month = x .month; day = x .day + 1 })

@@ -9,7 +9,7 @@ use Rattle.times.specs.declared.Day.the-variants.{DayIs, NoDay}
 unfoldable pub leap : ℕ → Bool
 leap y = eqb (y % 4) 0
 
--- the days of a month
+-- the days of a month; months outside 1 to 12 are sorted out by `realDate`
 unfoldable pub monthDays : ℕ → ℕ → ℕ
 monthDays y m =
     cond (eqb m 2) (cond (leap y) 29 28)
@@ -19,7 +19,7 @@ monthDays y m =
 unfoldable pub realDate : ℕ → ℕ → ℕ → Bool
 realDate y m d = leb 2000 y && (leb y 2099 && (leb 1 m && (leb m 12 && (leb 1 d && leb d (monthDays y m)))))
 
--- the days of a year with no leap day before the first of a month
+-- the days of a year with no leap day before the first of a month; months outside 1 to 12 are sorted out by `realDate`
 unfoldable pub daysBefore : ℕ → ℕ
 daysBefore m =
     cond (eqb m 1) 0 (cond (eqb m 2) 31 (cond (eqb m 3) 59 (cond (eqb m 4) 90

@@ -7,13 +7,13 @@ use lib.Dec.{leb, ltb, eqb}
 unfoldable pub quarterHours : ℕ → ℕ → ℕ
 quarterHours from to = (to - from) / 15
 
--- "22:00Z or 23:00Z": a day begins at this minute
-unfoldable pub dayStart : ℕ → Bool
-dayStart t = cond (eqb (t % 1440) (22 * 60)) true (eqb (t % 1440) (23 * 60))
+-- "22:00Z or 23:00Z": a day begins or ends at this minute
+unfoldable pub dayBound : ℕ → Bool
+dayBound t = cond (eqb (t % 1440) (22 * 60)) true (eqb (t % 1440) (23 * 60))
 
 -- "Kind 1: TimePeriodCovered starts at 22:00Z or 23:00Z and ends at 22:00Z or 23:00Z on the next UTC date."
 unfoldable pub dayPeriod : ℕ → ℕ → Bool
-dayPeriod from to = dayStart from && (dayStart to && eqb (to / 1440) (from / 1440 + 1))
+dayPeriod from to = dayBound from && (dayBound to && eqb (to / 1440) (from / 1440 + 1))
 
 -- "Kind 2: its end is after its start, by a multiple of 15 minutes and at most 366 days."
 unfoldable pub costPeriod : ℕ → ℕ → Bool

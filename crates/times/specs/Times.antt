@@ -35,11 +35,12 @@ isMinute NoMinute = false
 unfoldable pub dateTime : List ℕ → Bool
 dateTime cs = fitsOf (text "9999-99-99T99:99:99Z") cs && (isMinute (minuteAt 0 cs) && leb (numberAt 17 2 cs) 59)
 
--- "two minute-times joined by `/`"
+-- both minutes are there
 unfoldable pub between : Minute → Minute → Interval
 between (MinuteIs a) (MinuteIs b) = Minutes a b
 between (MinuteIs a) NoMinute = NotInterval
 between NoMinute b = NotInterval
 
+-- "An interval is two minute-times joined by `/`."
 unfoldable pub interval : List ℕ → Interval
 interval cs = cond (fitsOf (text "9999-99-99T99:99Z/9999-99-99T99:99Z") cs) (between (minuteAt 0 cs) (minuteAt 18 cs)) NotInterval

@@ -6,15 +6,15 @@ ghost use Prim.Native.Nat.{_≤_, _<_};
 ghost use Rattle.characters.specs.Says.{says};
 ghost use Rattle.times.specs.Calendar.{leap, monthDays, daysBefore, leapDay, dayOf, dayCount};
 ghost use Rattle.times.specs.Times.{minuteAt, dateTime, interval};
-ghost use Rattle.times.specs.Periods.{quarterHours, dayStart, dayPeriod, costPeriod};
+ghost use Rattle.times.specs.Periods.{quarterHours, dayBound, dayPeriod, costPeriod};
 
-pub enum Day {
+enum Day {
     // days since 2000-01-01
     DayIs(u32),
     NoDay,
 }
 
-pub enum Minute {
+enum Minute {
     // minutes since 2000-01-01T00:00Z
     MinuteIs(u32),
     NoMinute,
@@ -95,8 +95,7 @@ fn leap_day(y: u32, m: u32) -> u32
 }
 
 // The number of a real date.
-// Ruled out: a number for 29 February of a common year; the same number for two dates; 1 for 2000-01-01.
-pub fn day_of(y: u32, m: u32, d: u32) -> Day
+fn day_of(y: u32, m: u32, d: u32) -> Day
     ensures day { λ r. ⌜ r ≡ dayOf y m d ⌝ }
     ensures size { λ r. ⌜ dayCount r < 40000 ⌝ }
 {
@@ -185,8 +184,8 @@ pub fn quarter_hours(from: u32, to: u32) -> u32
     (to - from) / 15
 }
 
-fn is_day_start(t: u32) -> bool
-    ensures { λ r. ⌜ r ≡ dayStart t ⌝ }
+fn is_day_bound(t: u32) -> bool
+    ensures { λ r. ⌜ r ≡ dayBound t ⌝ }
 {
     if t % 1440 == 22 * 60 {
         true
@@ -200,8 +199,8 @@ fn is_day_start(t: u32) -> bool
 pub fn is_day_period(from: u32, to: u32) -> bool
     ensures { λ r. ⌜ r ≡ dayPeriod from to ⌝ }
 {
-    if is_day_start(from) {
-        if is_day_start(to) {
+    if is_day_bound(from) {
+        if is_day_bound(to) {
             return to / 1440 == from / 1440 + 1;
         }
     }

@@ -1,0 +1,5 @@
+pub mod Ran
+pub mod Sheets
+pub mod Spans
+pub mod Unique
+pub mod Used

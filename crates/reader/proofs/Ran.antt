@@ -1,0 +1,142 @@
+-- The loop over the items: its invariant, `Ran`, and how it starts, goes on and ends. Assumes nothing.
+use Prim.Native.Nat.{ℕ, zero, suc, _+_, _≤_, _<_}
+use mathlib.Core.Path.{_≡_, refl, sym, ap, _∙_}
+use mathlib.Core.List.{List, [], _∷_}
+use mathlib.Core.Bool.{true, false}
+use native.Mathlib.Omega.{arith}
+use native.Mathlib.Nat.{add-zero}
+use lib.Dec.{eqb}
+use lib.IntN.{ℤ}
+use lib.ListN.{length, drop, drop-of-length-le, length-drop}
+use lib.Seq.{drop-drop}
+use Rattle.lists.proofs.Cases.{by-cond}
+use Rattle.items.specs.Item.{item, itemEnd}
+use Rattle.items.specs.declared.Item.{Item}
+use Rattle.items.specs.declared.Item.the-variants.{Refused as Unreadable}
+use Rattle.items.proofs.Promises.{Placed as At, item-placed}
+use Rattle.guideline.specs.Rows.{rowsOf}
+use Rattle.states.specs.Moves.{begun, step, stepOn, moved, kindTold}
+use Rattle.states.specs.declared.State.{State}
+use Rattle.states.specs.declared.Room.{Room}
+use Rattle.states.specs.declared.Entry.{Entry}
+use Rattle.states.specs.declared.Step.{Step}
+use Rattle.states.specs.declared.Step.the-variants.{Next, Refused}
+use Rattle.reader.specs.Items.{Placed, placed, itemsAfter, itemsFrom}
+use Rattle.reader.specs.Rows.{spanOf, seriesAfter, positionsAfter, amountsAfter}
+use Rattle.reader.specs.declared.Found.{Found}
+use Rattle.reader.specs.Reading.{Tables, roomIn, refusedAt, endedAt, withoutUsed, stepOf, tablesAfter, readItems, itemsRead}
+
+skip : (k at : ℕ) (l : List ℕ) → itemsAfter k at l ≡ itemsAfter 0 (at + k) (drop k l)
+unfolding itemsAfter
+skip zero at [] = refl
+skip zero at (b ∷ t) = rw add-zero
+skip (suc k) at [] = refl
+skip (suc k) at (b ∷ t) = skip k (suc at) t ∙ ap (λ (n : ℕ). itemsAfter 0 n (drop k t)) (omega arith)
+
+at-item : (at : ℕ) (l : List ℕ) (n : ℕ) → 0 < length l → itemEnd (item at l) ≡ n → 1 ≤ n
+    → itemsAfter 0 at l ≡ placed at l ∷ itemsAfter 0 (at + n) (drop n l)
+unfolding itemsAfter
+at-item at [] n p q h = absurd (omega arith)
+at-item at (b ∷ t) zero p q h = absurd (omega arith)
+at-item at (b ∷ t) (suc n) p q h =
+    rw (itemsAfter, q)
+    (ap (λ (l : List Placed). placed at (b ∷ t) ∷ l) (skip n (suc at) t ∙ ap (λ (m : ℕ). itemsAfter 0 m (drop n t)) (omega arith)))
+
+pub items-next : (doc : List ℕ) (at n : ℕ) → at < length doc → itemEnd (item at (drop at doc)) ≡ n → 1 ≤ n
+    → itemsFrom doc at ≡ placed at (drop at doc) ∷ itemsFrom doc (at + n)
+unfolding itemsFrom
+items-next doc at n h q m =
+    at-item at (drop at doc) n (rw length-drop (omega arith)) q m
+    ∙ ap (λ (l : List ℕ). placed at (drop at doc) ∷ itemsAfter 0 (at + n) l) (drop-drop n at doc)
+
+pub items-over : (doc : List ℕ) (at : ℕ) → length doc ≤ at → itemsFrom doc at ≡ []
+unfolding itemsFrom itemsAfter
+items-over doc at h = rw (drop-of-length-le doc h)
+
+module _ (doc : List ℕ) (room : Room) (p : Placed) (xs : List Placed) (st : State) (t : Tables) where
+  pub read-next : (st′ : State) (e : Entry) → stepOf doc (t .series) room p st ≡ Next st′ e
+      → readItems doc room (p ∷ xs) st t ≡ readItems doc room xs st′ (tablesAfter p st′ e t)
+  unfolding readItems
+  read-next st′ e q = rw (readItems, q)
+
+  pub read-stop : (n : ℕ) → stepOf doc (t .series) room p st ≡ Refused n
+      → readItems doc room (p ∷ xs) st t ≡ record { found = refusedAt n (p .at) st; tables = t }
+  unfolding readItems
+  read-stop n q = rw (readItems, q)
+
+-- the tables as the code has them
+abbrev pub tab : List ℕ → List ℕ → List ℤ → Tables
+tab ser pos ams = record { series = ser; positions = pos; amounts = ams }
+
+-- what is left of the items at the place `at` comes to what all of them come to
+pub record Ran (doc : List ℕ) (from : ℕ) (t : Tables) (one two : List ℕ) (room : Room) (ser pos : List ℕ) (ams : List ℤ) (st : State) (at : ℕ) : Type 0 where
+  pub ones : one ≡ rowsOf 1
+  pub twos : two ≡ rowsOf 2
+  pub rooms : room ≡ roomIn t
+  pub ser-same : length ser ≡ length (t .series)
+  pub pos-same : length pos ≡ length (t .positions)
+  pub ams-same : length ams ≡ length (t .amounts)
+  pub left : readItems doc (roomIn t) (itemsFrom doc at) st (tab ser pos ams) ≡ itemsRead doc from t
+
+module _ (doc : List ℕ) (from : ℕ) (t : Tables) where
+  pub ran-start : {one two : List ℕ} {room : Room} {st : State} → one ≡ rowsOf 1 → two ≡ rowsOf 2 → room ≡ roomIn t → st ≡ begun
+      → Ran doc from t one two room (t .series) (t .positions) (t .amounts) st from
+  unfolding itemsRead
+  ran-start e1 e2 er es =
+      record { ones = e1; twos = e2; rooms = er; ser-same = refl; pos-same = refl; ams-same = refl; left = rw es refl }
+
+unreadable : (st : State) (one two : List ℕ) (p : ℕ) (s : List ℕ) (room : Room) → step st one two (Unreadable p) s room ≡ Refused 2
+unfolding step stepOn moved
+unreadable st one two p s room =
+    by-cond (λ (y : Step). y ≡ Refused 2) (eqb (kindTold st (Unreadable p) s) 1) refl refl
+
+module _ {doc : List ℕ} {from : ℕ} {t : Tables} {one two : List ℕ} {room : Room} {ser pos : List ℕ} {ams : List ℤ} {st : State} {at : ℕ}
+    (r : Ran doc from t one two room ser pos ams st at) where
+  pub ran-end : length doc ≤ at → {f : Found} → f ≡ endedAt one two (length doc) st → record { found = f; tables = tab ser pos ams } ≡ itemsRead doc from t
+  unfolding readItems
+  ran-end h e = rw (e, r .ones, r .twos) (sym (ap (λ (xs : List Placed). readItems doc (roomIn t) xs st (tab ser pos ams)) (items-over doc at h)) ∙ r .left)
+
+  -- s is the part from `at` on, x its first item, y what the state came to
+  module _ {s : List ℕ} {x : Item} (h : at < length doc) (es : s ≡ drop at doc) (ex : x ≡ item at s) (m : 1 ≤ itemEnd x) where
+    ahead : itemsFrom doc at ≡ placed at (drop at doc) ∷ itemsFrom doc (at + itemEnd x)
+    ahead = items-next doc at (itemEnd x) h (sym (ap itemEnd (ex ∙ ap (item at) es))) m
+
+    turn : {y : Step} → y ≡ withoutUsed doc ser x s (step st one two x s room) → stepOf doc ser (roomIn t) (placed at (drop at doc)) st ≡ y
+    unfolding stepOf
+    turn ey = sym (rw (r .ones, r .twos, r .rooms, ex, es) at ey)
+
+    pub ran-stop : {y : Step} {n : ℕ} → y ≡ withoutUsed doc ser x s (step st one two x s room) → y ≡ Refused n
+        → record { found = refusedAt n at st; tables = tab ser pos ams } ≡ itemsRead doc from t
+    ran-stop {y} {n} ey q =
+        sym (read-stop doc (roomIn t) (placed at (drop at doc)) (itemsFrom doc (at + itemEnd x)) st (tab ser pos ams) n (turn ey ∙ q))
+        ∙ sym (ap (λ (xs : List Placed). readItems doc (roomIn t) xs st (tab ser pos ams)) ahead)
+        ∙ r .left
+
+    pub ran-next : {y : Step} {st′ : State} {e : Entry} {ser′ pos′ : List ℕ} {ams′ : List ℤ} → y ≡ withoutUsed doc ser x s (step st one two x s room) → y ≡ Next st′ e
+        → length ser′ ≡ length ser → length pos′ ≡ length pos → length ams′ ≡ length ams
+        → ser′ ≡ seriesAfter at (spanOf x) s st′ e ser → pos′ ≡ positionsAfter st′ e pos → ams′ ≡ amountsAfter (spanOf x) s st′ e ams
+        → Ran doc from t one two room ser′ pos′ ams′ st′ (at + itemEnd x)
+    unfolding tablesAfter
+    ran-next {y} {st′} {e} {ser′} {pos′} {ams′} ey q ls lp la qs qp qa =
+        let et : tab ser′ pos′ ams′ ≡ tablesAfter (placed at (drop at doc)) st′ e (tab ser pos ams) = rw (qs, qp, qa) (rw (ex, es) refl) in
+        record {
+          ones = r .ones;
+          twos = r .twos;
+          rooms = r .rooms;
+          ser-same = ls ∙ r .ser-same;
+          pos-same = lp ∙ r .pos-same;
+          ams-same = la ∙ r .ams-same;
+          left =
+              ap (λ (t′ : Tables). readItems doc (roomIn t) (itemsFrom doc (at + itemEnd x)) st′ t′) et
+              ∙ sym (read-next doc (roomIn t) (placed at (drop at doc)) (itemsFrom doc (at + itemEnd x)) st (tab ser pos ams) st′ e (turn ey ∙ q))
+              ∙ sym (ap (λ (xs : List Placed). readItems doc (roomIn t) xs st (tab ser pos ams)) ahead)
+              ∙ r .left;
+        }
+
+  -- "An item is either one of five kinds or a refusal with its place": the loop returns with that place
+  pub ran-unread : {s : List ℕ} {x : Item} {p : ℕ} → at < length doc → s ≡ drop at doc → x ≡ item at s → 1 ≤ itemEnd x → x ≡ Unreadable p
+      → (p ≡ at) × (record { found = refusedAt 2 p st; tables = tab ser pos ams } ≡ itemsRead doc from t)
+  unfolding withoutUsed At
+  ran-unread {s} {x} {p} h es ex m q =
+      let k : p ≡ at = rw (sym ex ∙ q) at (item-placed at s) in
+      (k, rw k (ran-stop h es ex m {y = Refused 2} (rw (q, unreadable st one two p s room) refl) refl))

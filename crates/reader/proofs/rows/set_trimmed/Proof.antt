@@ -1,0 +1,46 @@
+use mathlib.Core.Path.{ap}
+use native.Mathlib.Omega.{arith}
+use lib.ListN.{length}
+use Rattle.reader.proofs.Spans.{dropped-in}
+use Rattle.reader.specs.Rows.{withView}
+use borrow.Author.Needs.{needs}
+use Rattle.reader.proofs.rows.set_trimmed.Statement.{statement}
+use Rattle.reader.proofs.rows.set_trimmed.Tie as tie
+use Rattle.reader.proofs.rows.set_trimmed.Reads as reads
+use Rattle.reader.proofs.rows.set_trimmed.Lts as lts
+use Rattle.reader.proofs.rows.set_view.Reads as set-view-reads
+use Rattle.trims.proofs.leading_spaces.Reads as leading-spaces-reads
+use Rattle.trims.proofs.trimmed.Reads as trimmed-reads
+
+leading-spaces-requires : tie.Need-leading-spaces-requires
+leading-spaces-requires c κs = search needs
+
+add-from : tie.Need-add-from
+add-from c = search needs
+
+trimmed-requires : tie.Need-trimmed-requires
+trimmed-requires c κs = search needs
+
+set-view-requires : tie.Need-set-view-requires
+set-view-requires c κs = let r = c .before .before .leading-spaces .ensures in let b = c .before .before .before .before .before .args .b .now in omega (arith, ap length (c .before .trimmed .ensures), r .0, dropped-in b (rw (r .0) at (r .1)))
+
+-- call c .before .trimmed .ensures
+-- call c .before .before .leading-spaces .ensures .0
+
+same-length : tie.Need-same-length
+same-length c = search needs
+
+returns : tie.Need-returns
+unfolding withView
+returns c = simp (← c .before .before .set-view .ensures, ← c .before .before .before .before .trimmed .ensures, ← c .before .before .before .before .before .leading-spaces .ensures .0)
+
+pub set-trimmed-spec : {M : Type 1} → statement M
+set-trimmed-spec =
+    tie.close
+    (tie.spec
+    leading-spaces-requires
+    add-from
+    trimmed-requires
+    set-view-requires
+    same-length
+    returns)

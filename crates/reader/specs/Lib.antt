@@ -1,0 +1,4 @@
+pub mod Items
+pub mod Rows
+pub mod Reading
+pub mod Answer

@@ -1,0 +1,317 @@
+// The document reader: a sheet comes in, the lent tables are filled, and a note is written.
+mod rows;
+
+use guideline::rows_one;
+use guideline::rows_two;
+use items::Item;
+use items::item_at;
+use lists::clear_bytes;
+use notes::Note;
+use notes::Put;
+use notes::write_note;
+use prolog::Begin;
+use prolog::first_item;
+use rows::enter_amount;
+use rows::enter_position;
+use rows::enter_series;
+use rows::is_used_before;
+use rows::span_of;
+use slices::rest;
+use states::Entry;
+use states::Room;
+use states::State;
+use states::Step;
+use structure::is_over;
+use tables::clear_amounts;
+use tables::clear_numbers;
+use tags::Span;
+ghost use mathlib.Core.Path.{_≡_};
+ghost use Prim.Native.Nat.{_+_, _≤_};
+ghost use lib.ListN.{length};
+ghost use Rattle.lists.specs.Zeros.{zeros};
+ghost use Rattle.tables.specs.Cells.{noAmounts};
+ghost use Rattle.items.specs.Item.{itemEnd, itemValue};
+ghost use Rattle.notes.specs.Note.{noteOf, left};
+ghost use Rattle.states.specs.Moves.{step};
+ghost use Rattle.reader.specs.Rows.{spanOf, seriesAfter, positionsAfter, amountsAfter};
+ghost use Rattle.reader.specs.Reading.{roomOf, refusedAt, acceptedAt, endedAt, withoutUsed, itemsRead, readInto, readSheet};
+ghost use Rattle.reader.specs.Answer.{noteFor, told, readOf};
+
+// What the items of a document come to. `quarters` is N.
+struct Found {
+    refusal: u32,
+    place: u32,
+    kind: u32,
+    series: u32,
+    intervals: u32,
+    quarters: u32,
+}
+
+// The answer to a document: the five numbers of the note, N, and the note's length.
+pub struct Answer {
+    pub refusal: u32,
+    pub place: u32,
+    pub kind: u32,
+    pub series: u32,
+    pub intervals: u32,
+    pub quarters: u32,
+    pub note: usize,
+}
+
+fn item_len(item: Item) -> usize
+    ensures { λ r. ⌜ r ≡ itemEnd item ⌝ }
+{
+    match item {
+        Item::Start(t) => t.len,
+        Item::Empty(t) => t.len,
+        Item::End(_, n) => n,
+        Item::Text(_, n) => n,
+        Item::Comment(n) => n,
+        Item::Refused(_) => 1,
+    }
+}
+
+fn room_of(ns: usize, np: usize, na: usize) -> Room
+    ensures { λ r. ⌜ r ≡ roomOf ns np na ⌝ }
+{
+    if np <= na {
+        return Room {
+            series: ns / 8,
+            intervals: np,
+        };
+    }
+    Room {
+        series: ns / 8,
+        intervals: na,
+    }
+}
+
+fn refused_at(n: u32, place: u32, st: State) -> Found
+    ensures { λ r. ⌜ r ≡ refusedAt n place st ⌝ }
+{
+    Found {
+        refusal: n,
+        place,
+        kind: st.kind,
+        series: st.series,
+        intervals: st.intervals,
+        quarters: 0,
+    }
+}
+
+fn accepted_at(place: u32, st: State) -> Found
+    ensures { λ r. ⌜ r ≡ acceptedAt place st ⌝ }
+{
+    Found {
+        refusal: 0,
+        place,
+        kind: st.kind,
+        series: st.series,
+        intervals: st.intervals,
+        quarters: st.quarters,
+    }
+}
+
+// At the end of the document. `one` and `two` are the rows of the kinds.
+fn ended_at(place: u32, st: State, one: &[usize], two: &[usize]) -> Found
+    ensures { λ r. ⌜ r ≡ endedAt (now (one .entry)) (now (two .entry)) place st ⌝ }
+{
+    let row = st.row;
+    let inside = st.inside;
+    if st.kind == 1 {
+        if is_over(one, row, inside) {
+            return accepted_at(place, st);
+        }
+        return refused_at(3, place, st);
+    }
+    if is_over(two, row, inside) {
+        return accepted_at(place, st);
+    }
+    refused_at(3, place, st)
+}
+
+fn clear_tables(series: &mut [u32], positions: &mut [u32], amounts: &mut [i64])
+    ensures series { λ _. ⌜ now (series .exit) ≡ zeros (length (now (series .entry))) ⌝ }
+    ensures positions { λ _. ⌜ now (positions .exit) ≡ zeros (length (now (positions .entry))) ⌝ }
+    ensures amounts { λ _. ⌜ now (amounts .exit) ≡ noAmounts (length (now (amounts .entry))) ⌝ }
+{
+    clear_numbers(series);
+    clear_numbers(positions);
+    clear_amounts(amounts);
+}
+
+// An item moves the state, or is refused.
+fn step_in(
+    doc: &[u8],
+    t: &[u32],
+    room: Room,
+    item: Item,
+    s: &[u8],
+    st: State,
+    one: &[usize],
+    two: &[usize],
+) -> Step
+    ensures { λ r. ⌜ r ≡ withoutUsed (now (doc .entry)) (now (t .entry)) item (now (s .entry)) (step st (now (one .entry)) (now (two .entry)) item (now (s .entry)) room) ⌝ }
+{
+    match st.step(one, two, item, s, room) {
+        Step::Next(next, entry) => {
+            if is_used_before(doc, t, span_of(item), s, next.series, entry) {
+                return Step::Refused(9);
+            }
+            Step::Next(next, entry)
+        }
+        Step::Refused(n) => Step::Refused(n),
+    }
+}
+
+// What an item brings into the tables; st is the state after it.
+fn enter(
+    series: &mut [u32],
+    positions: &mut [u32],
+    amounts: &mut [i64],
+    at: usize,
+    item: Item,
+    s: &[u8],
+    st: State,
+    entry: Entry,
+)
+    requires { ⌜ at + itemValue item ≤ 4294967295 ⌝ }
+    ensures series { λ _. ⌜ now (series .exit) ≡ seriesAfter at (spanOf item) (now (s .entry)) st entry (now (series .entry)) ⌝ }
+    ensures positions { λ _. ⌜ now (positions .exit) ≡ positionsAfter st entry (now (positions .entry)) ⌝ }
+    ensures amounts { λ _. ⌜ now (amounts .exit) ≡ amountsAfter (spanOf item) (now (s .entry)) st entry (now (amounts .entry)) ⌝ }
+{
+    let v = span_of(item);
+    enter_series(series, at, v, s, st, entry);
+    enter_position(positions, st, entry);
+    enter_amount(amounts, v, s, st, entry);
+}
+
+// The items from the place `from` on, into tables that are blank.
+fn read_items(
+    doc: &[u8],
+    from: usize,
+    series: &mut [u32],
+    positions: &mut [u32],
+    amounts: &mut [i64],
+) -> Found
+    requires { ⌜ length (now doc) ≤ 1048576 ⌝ }
+    ensures found { λ r. ⌜ r ≡ itemsRead (now (doc .entry)) from (record { series = now (series .entry); positions = now (positions .entry); amounts = now (amounts .entry) }) .found ⌝ }
+    ensures series { λ _. ⌜ now (series .exit) ≡ itemsRead (now (doc .entry)) from (record { series = now (series .entry); positions = now (positions .entry); amounts = now (amounts .entry) }) .tables .series ⌝ }
+    ensures positions { λ _. ⌜ now (positions .exit) ≡ itemsRead (now (doc .entry)) from (record { series = now (series .entry); positions = now (positions .entry); amounts = now (amounts .entry) }) .tables .positions ⌝ }
+    ensures amounts { λ _. ⌜ now (amounts .exit) ≡ itemsRead (now (doc .entry)) from (record { series = now (series .entry); positions = now (positions .entry); amounts = now (amounts .entry) }) .tables .amounts ⌝ }
+{
+    let one = rows_one();
+    let two = rows_two();
+    let room = room_of(series.len(), positions.len(), amounts.len());
+    let mut st = State::begin();
+    let mut at = from;
+    while at < doc.len() {
+        let s = rest(doc, at);
+        let item = item_at(at, s);
+        if let Item::Refused(p) = item {
+            return refused_at(2, p as u32, st);
+        }
+        match step_in(doc, series, room, item, s, st, &one, &two) {
+            Step::Next(next, entry) => {
+                enter(series, positions, amounts, at, item, s, next, entry);
+                st = next;
+            }
+            Step::Refused(n) => return refused_at(n, at as u32, st),
+        }
+        at += item_len(item);
+    }
+    ended_at(doc.len() as u32, st, &one, &two)
+}
+
+// From the first item on, or not at all where the XML declaration is unreadable.
+fn read_all(doc: &[u8], series: &mut [u32], positions: &mut [u32], amounts: &mut [i64]) -> Found
+    requires { ⌜ length (now doc) ≤ 1048576 ⌝ }
+    ensures found { λ r. ⌜ r ≡ readInto (now (doc .entry)) (record { series = now (series .entry); positions = now (positions .entry); amounts = now (amounts .entry) }) .found ⌝ }
+    ensures series { λ _. ⌜ now (series .exit) ≡ readInto (now (doc .entry)) (record { series = now (series .entry); positions = now (positions .entry); amounts = now (amounts .entry) }) .tables .series ⌝ }
+    ensures positions { λ _. ⌜ now (positions .exit) ≡ readInto (now (doc .entry)) (record { series = now (series .entry); positions = now (positions .entry); amounts = now (amounts .entry) }) .tables .positions ⌝ }
+    ensures amounts { λ _. ⌜ now (amounts .exit) ≡ readInto (now (doc .entry)) (record { series = now (series .entry); positions = now (positions .entry); amounts = now (amounts .entry) }) .tables .amounts ⌝ }
+{
+    match first_item(doc) {
+        Begin::From(n) => read_items(doc, n, series, positions, amounts),
+        Begin::Unreadable(p) => refused_at(2, p as u32, State::begin()),
+    }
+}
+
+// The tables are blank where the document is refused.
+fn read_sheet(doc: &[u8], series: &mut [u32], positions: &mut [u32], amounts: &mut [i64]) -> Found
+    ensures found { λ r. ⌜ r ≡ readSheet (now (doc .entry)) (length (now (series .entry))) (length (now (positions .entry))) (length (now (amounts .entry))) .found ⌝ }
+    ensures series { λ _. ⌜ now (series .exit) ≡ readSheet (now (doc .entry)) (length (now (series .entry))) (length (now (positions .entry))) (length (now (amounts .entry))) .tables .series ⌝ }
+    ensures positions { λ _. ⌜ now (positions .exit) ≡ readSheet (now (doc .entry)) (length (now (series .entry))) (length (now (positions .entry))) (length (now (amounts .entry))) .tables .positions ⌝ }
+    ensures amounts { λ _. ⌜ now (amounts .exit) ≡ readSheet (now (doc .entry)) (length (now (series .entry))) (length (now (positions .entry))) (length (now (amounts .entry))) .tables .amounts ⌝ }
+{
+    clear_tables(series, positions, amounts);
+    if 1048576 < doc.len() {
+        return refused_at(1, 0, State::begin());
+    }
+    let found = read_all(doc, series, positions, amounts);
+    if found.refusal == 0 {
+        return found;
+    }
+    clear_tables(series, positions, amounts);
+    found
+}
+
+// Writes the note of what was found.
+fn tell(note: &mut [u8], f: Found) -> Answer
+    ensures answer { λ r. ⌜ r ≡ told (length (now (note .entry))) f ⌝ }
+    ensures note { λ _. ⌜ now (note .exit) ≡ left (noteOf (noteFor f)) (length (now (note .entry))) ⌝ }
+{
+    let n = Note {
+        refusal: f.refusal,
+        place: f.place,
+        kind: f.kind,
+        series: f.series,
+        intervals: f.intervals,
+    };
+    let len = match write_note(note, n) {
+        Put::Written(k) => k,
+        Put::NoRoom => 0,
+    };
+    Answer {
+        refusal: f.refusal,
+        place: f.place,
+        kind: f.kind,
+        series: f.series,
+        intervals: f.intervals,
+        quarters: f.quarters,
+        note: len,
+    }
+}
+
+// Reads a document into the lent tables, and writes the note of it.
+// Ruled out: rows left behind where a later item is refused; a place inside the item; an answer that is the same for all; counts of
+// start tags that stand after the faulty item; a note that holds anything else than the five numbers.
+pub fn read(
+    doc: &[u8],
+    series: &mut [u32],
+    positions: &mut [u32],
+    amounts: &mut [i64],
+    note: &mut [u8],
+) -> Answer
+    ensures answer { λ r. ⌜ r ≡ readOf (now (doc .entry)) (length (now (series .entry))) (length (now (positions .entry))) (length (now (amounts .entry))) (length (now (note .entry))) .answer ⌝ }
+    ensures series { λ _. ⌜ now (series .exit) ≡ readOf (now (doc .entry)) (length (now (series .entry))) (length (now (positions .entry))) (length (now (amounts .entry))) (length (now (note .entry))) .tables .series ⌝ }
+    ensures positions { λ _. ⌜ now (positions .exit) ≡ readOf (now (doc .entry)) (length (now (series .entry))) (length (now (positions .entry))) (length (now (amounts .entry))) (length (now (note .entry))) .tables .positions ⌝ }
+    ensures amounts { λ _. ⌜ now (amounts .exit) ≡ readOf (now (doc .entry)) (length (now (series .entry))) (length (now (positions .entry))) (length (now (amounts .entry))) (length (now (note .entry))) .tables .amounts ⌝ }
+    ensures note { λ _. ⌜ now (note .exit) ≡ readOf (now (doc .entry)) (length (now (series .entry))) (length (now (positions .entry))) (length (now (amounts .entry))) (length (now (note .entry))) .note ⌝ }
+{
+    if note.len() < 16 {
+        clear_tables(series, positions, amounts);
+        clear_bytes(note);
+        return Answer {
+            refusal: 10,
+            place: 0,
+            kind: 0,
+            series: 0,
+            intervals: 0,
+            quarters: 0,
+            note: 0,
+        };
+    }
+    let found = read_sheet(doc, series, positions, amounts);
+    tell(note, found)
+}

@@ -1,0 +1,80 @@
+-- What the paper says of the program, over the definition `replyTo`.
+--     empty-reply    of the empty input, computed
+--     long-reply     of longer input
+--     reply-fits     a buffer of 48 bytes has room for every reply
+--     reply-whole    so that what is printed from it is the reply
+-- Assumes nothing.
+use mathlib.Core.Path.{_≡_, refl, ap, sym, _∙_}
+use mathlib.Core.List.{List, [], _∷_}
+use mathlib.Core.Logic.{⊎-elim}
+use Prim.Native.Nat.{ℕ, _+_, _-_, _*_, _≤_, _<_, min}
+use native.Mathlib.Omega.{arith}
+use lib.ListN.{length, take, drop, length-append, length-take, length-replicate}
+use lib.Seq.{sets, sets-eq, take-at}
+use Rattle.lists.proofs.Cases.{leb-cases, ltb-cases}
+use Rattle.lists.proofs.Zeros.{length-padded}
+use Rattle.slices.specs.Same.{same, begins}
+use Rattle.slices.specs.Text.{text}
+use Rattle.elements.specs.Names.{elementNo, numberIn, names}
+use Rattle.structure.specs.Rows.{nameOf, parentOf, required, endsIn, endAt, endOf, closesDocument, overOf}
+use Rattle.guideline.specs.Rows.{kostenblatt, rowsOf}
+use Rattle.prolog.specs.Prolog.{markLen, beginAfter, begin}
+use Rattle.states.specs.Moves.{begun}
+use Rattle.notes.specs.Note.{groupsIn, flat, noteOf, wrote, left}
+use Rattle.reader.specs.Items.{itemsAfter, itemsFrom}
+use Rattle.reader.specs.Reading.{blank, refusedAt, acceptedAt, endedAt, readItems, itemsRead, readAfter, readInto, orBlank, readSheet}
+use Rattle.reader.specs.Answer.{noteFor, answerOf, told, noted, readOf}
+use Rattle.lines.specs.Text.{glyphOf, hexText}
+use Rattle.replies.specs.Reply.{lineFor, noteIn, replyTo}
+use Rattle.replies.proofs.Replies.{reply-long, reply-note}
+
+-- "Empty input prints exactly `03 00 00 00 00`."
+pub empty-reply : replyTo [] ≡ lineFor (text "03 00 00 00 00")
+unfolding replyTo lineFor noteIn hexText glyphOf readOf noted told answerOf noteFor groupsIn flat wrote left readSheet orBlank blank readInto readAfter itemsRead readItems endedAt acceptedAt refusedAt itemsFrom itemsAfter begin beginAfter markLen begins same begun overOf closesDocument endOf endAt endsIn nameOf parentOf required rowsOf kostenblatt elementNo numberIn names
+empty-reply = refl
+
+-- "for longer input it prints `too long` and one newline"
+pub long-reply : (input : List ℕ) → 65536 < length input → replyTo input ≡ lineFor (text "too long")
+long-reply = reply-long
+
+-- two digits a byte, and a space between two
+hex-size : (s : List ℕ) → length (hexText s) ≤ 3 * length s - 1
+unfolding hexText
+hex-size [] = omega arith
+hex-size (b ∷ []) = omega arith
+hex-size (b ∷ c ∷ s) = let h = hex-size (c ∷ s) in omega arith
+
+left-size : (w : List ℕ) → length (left w 16) ≡ 16
+unfolding left
+left-size w =
+    ⊎-elim (λ y. simp (y .1) (length-padded 16 w (y .0))) (λ y. simp (y .1) (length-replicate {A = ℕ} 16 0)) (leb-cases (length w) 16)
+
+note-size : (input : List ℕ) (ns np na : ℕ) → length (noteIn (readOf input ns np na 16)) ≤ 16
+unfolding noteIn readOf noted
+note-size input ns np na =
+    let f = readSheet input ns np na .found in
+    let w = noteOf (noteFor f) in
+    omega (arith, length-take (told 16 f .note) (left w 16), left-size w)
+
+line-size : (w : List ℕ) → length w ≤ 47 → length (lineFor w) ≤ 48
+unfolding lineFor
+line-size w h = omega (arith, length-append w (10 ∷ []))
+
+pub reply-fits : (input : List ℕ) → length (replyTo input) ≤ 48
+reply-fits input =
+    ⊎-elim
+    (λ y. rw (reply-long input (y .0)) (line-size _ (omega arith)))
+    (λ y.
+    let w = noteIn (readOf input 512 2048 2048 16) in
+    rw (reply-note input (y .0)) (line-size (hexText w) (omega (arith, hex-size w, note-size input 512 2048 2048))))
+    (ltb-cases 65536 (length input))
+
+-- n and out′ are what `put_reply` answers and leaves
+pub reply-whole : (input out out′ : List ℕ) (n : ℕ) → 48 ≤ length out → n ≡ min (length (replyTo input)) (length out) → out′ ≡ sets out 0 (replyTo input)
+    → take n out′ ≡ replyTo input
+reply-whole input out out′ n h en eo =
+    let w = replyTo input in
+    let f = reply-fits input in
+    let k : n ≡ length w = omega (arith, f) in
+    let g : 0 + length w ≤ length out = omega (arith, f) in
+    ap (take n) (eo ∙ sets-eq w out 0 g) ∙ take-at w (drop (0 + length w) out) n (sym k)

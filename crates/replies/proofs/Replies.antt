@@ -1,0 +1,62 @@
+-- A line that is put into a buffer, its newline last; and what is replied to an input that is too long, and to any other.
+-- Assumes nothing.
+use mathlib.Core.Path.{_≡_, refl, sym, ap, _∙_}
+use mathlib.Core.List.{List, [], _∷_, _++_}
+use mathlib.Core.Logic.{⊎-elim}
+use Prim.Native.Nat.{ℕ, suc, _+_, _≤_, _<_, min}
+use native.Mathlib.Omega.{arith}
+use lib.ListN.{length, take, set, length-set, length-append}
+use lib.Seq.{sets, length-sets, set-out, length-take-le}
+use borrow.Author.Tests.{lt-ltb, le-ltb}
+use Rattle.lists.proofs.Cases.{leb-cases}
+use Rattle.io.specs.Counts.{Counts}
+use Rattle.slices.specs.Text.{text}
+use Rattle.lines.specs.Text.{hexText}
+use Rattle.reader.specs.Answer.{Outcome, readOf}
+use Rattle.replies.specs.Reply.{lineFor, noteIn, replyTo}
+
+-- what the contract says of w: the count, the buffer, and that the count lies within it
+abbrev pub Shows : List ℕ → List ℕ → ℕ → List ℕ → Type 0
+Shows w out₀ m out = (m ≡ min (length w) (length out₀)) × ((out ≡ sets out₀ 0 w) × Counts m out)
+
+sets-more : (w out : List ℕ) (i : ℕ) (v : List ℕ) → sets out i (w ++ v) ≡ sets (sets out i w) (i + length w) v
+sets-more [] out i v = let e : i ≡ i + 0 = omega arith in ap (λ (k : ℕ). sets out k v) e
+sets-more (a ∷ w) out i v =
+    let e : suc i + length w ≡ i + suc (length w) = omega arith in
+    sets-more w (set out i a) (suc i) v ∙ ap (λ (k : ℕ). sets (sets (set out i a) (suc i) w) k v) e
+
+-- a byte after w, dropped where w fills the buffer
+byte-more : (w out : List ℕ) (n b : ℕ) → n ≡ min (length w) (length out) → set (sets out 0 w) n b ≡ sets out 0 (w ++ (b ∷ []))
+byte-more w out n b e =
+    ⊎-elim
+    (λ y. let z : n ≡ 0 + length w = omega (arith, y .0) in ap (λ (k : ℕ). set (sets out 0 w) k b) z)
+    (λ y.
+    let l = length-sets out 0 w in
+    set-out (sets out 0 w) n b (omega (arith, l, y .0)) ∙ sym (set-out (sets out 0 w) (0 + length w) b (omega (arith, l, y .0))))
+    (leb-cases (length w) (length out))
+    ∙ sym (sets-more w out 0 (b ∷ []))
+
+-- w is put, and then "one newline"
+pub put-line : (w out₀ out l : List ℕ) (n m : ℕ) → n ≡ min (length w) (length out₀) → out ≡ sets out₀ 0 w → m ≡ min (n + 1) (length out) → l ≡ set out n 10
+    → Shows (lineFor w) out₀ m l
+unfolding lineFor
+put-line w out₀ out l n m en eo em el =
+    let o : length out ≡ length out₀ = ap length eo ∙ length-sets out₀ 0 w in
+    let q : length l ≡ length out = ap length el ∙ length-set out n 10 in
+    let h : m ≤ length l = omega (arith, em, q) in (
+      omega (arith, en, em, o, length-append w (10 ∷ [])),
+      (el ∙ ap (λ (t : List ℕ). set t n 10) eo ∙ byte-more w out₀ n 10 en, (h, sym (length-take-le m l h))),
+    )
+
+-- the part of the buffer that is the note
+pub note-part : (o : Outcome) (n : ℕ) (note part : List ℕ) → n ≡ o .answer .note → note ≡ o .note → part ≡ take n note → part ≡ noteIn o
+unfolding noteIn
+note-part o n note part en eo ep = ep ∙ ap (λ (k : ℕ). take k note) en ∙ ap (take (o .answer .note)) eo
+
+pub reply-long : (input : List ℕ) → 65536 < length input → replyTo input ≡ lineFor (text "too long")
+unfolding replyTo
+reply-long input h = simp (lt-ltb _ _ h)
+
+pub reply-note : (input : List ℕ) → length input ≤ 65536 → replyTo input ≡ lineFor (hexText (noteIn (readOf input 512 2048 2048 16)))
+unfolding replyTo
+reply-note input h = simp (le-ltb _ _ h)

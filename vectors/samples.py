@@ -1,0 +1,1198 @@
+"""A reader of document 01, written from the paper alone, and samples with their expected answers.
+
+    samples.py          prints a line for each sample, sorted by name, and stops where a file of crates/samples_run/data is not the sample
+    samples.py NAME     prints the sample
+
+The line is
+
+    NAME refusal place kind series intervals N notelen NOTEHEX S P A
+
+S, P and A are check numbers of the series, position and amount tables that the program of 01 lends. Each sample states its
+expected answer by hand; the script stops where the reader answers otherwise. It writes no file. All parties, objects and
+amounts are invented.
+"""
+
+import re
+import sys
+from collections import namedtuple
+from datetime import datetime, timedelta
+from pathlib import Path
+
+# ---------------------------------------------------------------- Items
+
+WHITE = rb"[ \t\r\n]"
+NAME = rb"[A-Za-z_][A-Za-z0-9_.:-]*"
+EQUALS = WHITE + rb"*=" + WHITE + rb"*"
+VALUE = rb"(?:\"[^\"<&\t\r\n]*\"|'[^'<&\t\r\n]*')"
+
+DECLARATION = re.compile(
+    rb"<\?xml" + WHITE + rb"+version" + EQUALS + rb"(?:\"1\.0\"|'1\.0')"
+    rb"(?:" + WHITE + rb"+encoding" + EQUALS + rb"(?:\"[Uu][Tt][Ff]-8\"|'[Uu][Tt][Ff]-8'))?" + WHITE + rb"*\?>")
+ATTRIBUTE = re.compile(WHITE + rb"+(" + NAME + rb")" + EQUALS + rb"(" + VALUE + rb")")
+TAG = re.compile(rb"<(" + NAME + rb")((?:" + WHITE + rb"+" + NAME + EQUALS + VALUE + rb")*)" + WHITE + rb"*(/?)>")
+END_TAG = re.compile(rb"</(" + NAME + rb")" + WHITE + rb"*>")
+
+# sort: start, empty, end, white, other, comment or unreadable. attributes: name to (start, length) of its value.
+Item = namedtuple("Item", "sort after name attributes", defaults=(b"", {}))
+UNREADABLE = Item("unreadable", 0)
+
+
+def xml_characters(part):
+    """Bytes are UTF-8 (RFC 3629) and XML 1.0 characters."""
+    try:
+        said = part.decode("utf-8")
+    except UnicodeDecodeError:
+        return False
+    return all(c in "\t\n\r" or " " <= c <= "\ud7ff" or "\ue000" <= c <= "\ufffd" or "\U00010000" <= c for c in said)
+
+
+def comment_at(doc, at):
+    """So does `--` inside a comment: the first one has to be that of `-->`."""
+    dashes = doc.find(b"--", at + 4)
+    if dashes < 0 or doc[dashes + 2:dashes + 3] != b">" or not xml_characters(doc[at:dashes]):
+        return UNREADABLE
+    return Item("comment", dashes + 3)
+
+
+def text_at(doc, at):
+    """Text is a longest run of bytes without `<`."""
+    after = doc.find(b"<", at)
+    after = len(doc) if after < 0 else after
+    run = doc[at:after]
+    if b"&" in run or b"]]>" in run or not xml_characters(run):
+        return UNREADABLE
+    return Item("other" if run.strip(b" \t\r\n") else "white", after)
+
+
+def tag_at(doc, at):
+    end = END_TAG.match(doc, at)
+    if end:
+        return Item("end", end.end(), end[1])
+    tag = TAG.match(doc, at)
+    if not tag or not xml_characters(tag[0]):
+        return UNREADABLE
+    found = list(ATTRIBUTE.finditer(doc, *tag.span(2)))
+    attributes = {a[1]: (a.start(2) + 1, len(a[2]) - 2) for a in found}
+    if len(attributes) < len(found):
+        return UNREADABLE
+    return Item("empty" if tag[3] else "start", tag.end(), tag[1], attributes)
+
+
+def item_at(doc, at):
+    if doc[at:at + 1] != b"<":
+        return text_at(doc, at)
+    if doc[at:at + 4] == b"<!--":
+        return comment_at(doc, at)
+    return tag_at(doc, at)
+
+
+# ---------------------------------------------------------------- Forms of values: each rule gives 0 or a refusal number
+
+def form(fits):
+    return lambda value: 0 if fits(value) else 6
+
+
+def codes(*listed):
+    return lambda value: 0 if value in listed else 7
+
+
+def collapse(rule):
+    """Leading and trailing spaces are dropped."""
+    return lambda value: rule(value.strip(" "))
+
+
+def pattern(text):
+    return form(re.compile(text).fullmatch)
+
+
+def moment(value, with_seconds):
+    """Years 2000 to 2099, real calendar dates, seconds only in date-times, in UTC with `Z`; None for anything else."""
+    seconds = ":[0-9]{2}" if with_seconds else ""
+    if not re.fullmatch("20[0-9]{2}-[0-9]{2}-[0-9]{2}T[0-9]{2}:[0-9]{2}" + seconds + "Z", value):
+        return None
+    try:
+        return datetime(*(int(number) for number in re.findall("[0-9]+", value)))
+    except ValueError:
+        return None
+
+
+def interval(value):
+    """Two minute-times joined by `/`; None for anything else."""
+    ends = [moment(part, False) for part in value.split("/")]
+    return ends if len(ends) == 2 and None not in ends else None
+
+
+def thousandths(value):
+    """An optional minus, 1 to 12 digits, optionally a point with 1 to 3 digits; None for anything else."""
+    parts = re.fullmatch(r"(-?)([0-9]{1,12})(?:\.([0-9]{1,3}))?", value)
+    if not parts:
+        return None
+    size = int(parts[2]) * 1000 + int((parts[3] or "").ljust(3, "0"))
+    return -size if parts[1] else size
+
+
+IDENTIFICATION = form(lambda value: len(value) <= 35)
+PARTNER = pattern("[0-9]{13}")
+OBJECT = pattern("[ABC][A-Z0-9]{9}[0-9]")
+PARTY = pattern("[A-Z0-9-]{16}")
+VERSION = pattern("[1-9][0-9]{0,2}")
+POS = pattern("[1-9][0-9]{0,4}")
+DATE_TIME = form(lambda value: moment(value, True))
+INTERVAL = form(interval)
+AMOUNT = form(lambda value: thousandths(value) is not None)
+AREA = codes("10YDE-ENBW-----N", "10YDE-EON------1", "10YDE-RWENET---I", "10YDE-VE-------2", "10YFLENSBURG---3")
+
+
+# ---------------------------------------------------------------- Structure tables
+
+Row = namedtuple("Row", "name least most attributes children")
+
+
+def leaf(name, v, codingScheme=None, least=1):
+    attributes = {"v": v} if codingScheme is None else {"v": v, "codingScheme": collapse(codes(*codingScheme))}
+    return Row(name, least, 1, attributes, ())
+
+
+def root(name, document_type, sender_roles, series):
+    return Row(name, 1, 1, {"DtdBDEWNachrichtenVersion": pattern(r"1\.0")}, (
+        leaf("DocumentIdentification", IDENTIFICATION),
+        leaf("DocumentVersion", collapse(VERSION)),
+        leaf("DocumentType", collapse(codes(document_type))),
+        leaf("ProcessType", collapse(codes("A14"))),
+        leaf("SenderIdentification", PARTNER, ("A10", "NDE")),
+        leaf("SenderRole", collapse(codes(*sender_roles))),
+        leaf("ReceiverIdentification", PARTNER, ("A10", "NDE")),
+        leaf("ReceiverRole", collapse(codes("A18", "A39"))),
+        leaf("DocumentDateTime", collapse(DATE_TIME)),
+        leaf("TimePeriodCovered", INTERVAL),
+        series))
+
+
+def series(name, rows, fewest, most):
+    return Row(name, 1, sys.maxsize, {}, rows + (
+        leaf("OriginalSenderIdentification", PARTNER, ("A10", "NDE"), least=0),
+        leaf("OriginalDocumentIdentification", IDENTIFICATION, least=0),
+        leaf("OriginalDocumentVersion", VERSION, least=0),
+        leaf("OriginalDocumentDateTime", collapse(DATE_TIME), least=0),
+        leaf("OriginalTimeSeriesIdentification", IDENTIFICATION, least=0),
+        Row("Period", 1, 1, {}, (
+            leaf("TimeInterval", INTERVAL),
+            leaf("Resolution", collapse(lambda value: 0 if value == "PT15M" else 8)),
+            Row("Interval", fewest, most, {}, (
+                leaf("Pos", collapse(POS)),
+                leaf("Qty", collapse(AMOUNT))))))))
+
+
+KIND_1 = root("Beschaffungsanforderung", "Z07", ("A18", "A39"), series("ScheduleTimeSeries", (
+    leaf("TimeSeriesIdentification", IDENTIFICATION),
+    leaf("BusinessType", collapse(codes("A02"))),
+    leaf("Product", collapse(codes("8716867000016"))),
+    leaf("InArea", AREA, ("A01",)),
+    leaf("OutArea", AREA, ("A01",)),
+    leaf("InParty", PARTY, ("A01",)),
+    leaf("OutParty", PARTY, ("A01",)),
+    leaf("MeasurementUnit", collapse(codes("MAW")))), 92, 100))
+
+KIND_2 = root("Kostenblatt", "Z05", ("A18", "A27", "A39"), series("CostTimeSeries", (
+    leaf("TimeSeriesIdentification", IDENTIFICATION),
+    leaf("BusinessType", collapse(codes("A01", "A04", "Z01", "Z02", "Z03"))),
+    leaf("Direction", collapse(codes("A01", "A02")), least=0),
+    leaf("Product", collapse(codes("8716867000016"))),
+    leaf("ConnectingArea", AREA, ("A01",), least=0),
+    leaf("ResourceObject", OBJECT, ("NDE",)),
+    leaf("ResourceProvider", PARTNER, ("A10", "NDE")),
+    leaf("CurveType", collapse(codes("A03"))),
+    leaf("MeasurementUnit", collapse(codes("Z01", "Z02", "Z03"))),
+    leaf("Status", collapse(codes("Z01", "Z02", "Z03", "Z04", "Z05")), least=0)), 1, sys.maxsize))
+
+KINDS = {"Beschaffungsanforderung": 1, "Kostenblatt": 2}
+ROOTS = {0: None, 1: KIND_1, 2: KIND_2}
+QUARTER = timedelta(minutes=15)
+
+
+# ---------------------------------------------------------------- Reading
+
+class Reading:
+    """The state between two items. `open` has the open elements: row, index of its last child, how often that came."""
+
+    def __init__(self, doc, series_room, interval_room):
+        self.doc, self.series_room, self.interval_room = doc, series_room, interval_room
+        self.open, self.kind, self.period, self.n = [], 0, None, 0
+        self.series, self.used, self.originals = [], set(), 0
+        self.intervals, self.positions, self.amounts = 0, [], []
+
+    def due(self, name):
+        """The row of an element that is due with this name, or None."""
+        if not self.open:
+            return None if self.kind else ROOTS[KINDS.get(name, 0)]
+        row, last, times = self.open[-1]
+        for at in range(last, len(row.children)):
+            came = times if at == last else 0
+            if row.children[at].name == name and came < row.children[at].most:
+                return row.children[at]
+            if came < row.children[at].least:
+                return None
+        return None
+
+    def complete(self):
+        row, last, times = self.open[-1]
+        return all((times if at == last else 0) >= row.children[at].least for at in range(last, len(row.children)))
+
+    def inside(self):
+        """Intervals of the series that is being read."""
+        return self.intervals - self.series[-1][6]
+
+    def values(self, item):
+        """On the root, attributes named `xmlns` or beginning `xmlns:` or `xsi:` are passed over."""
+        said = {name.decode(): self.doc[start:start + length].decode() for name, (start, length) in item.attributes.items()}
+        if self.open:
+            return said
+        return {name: v for name, v in said.items() if not re.match("xmlns$|xmlns:|xsi:", name)}
+
+    def faults(self, item):
+        """All numbers that an item could be refused with."""
+        if item.sort in ("white", "comment"):
+            return []
+        if item.sort == "unreadable":
+            return [2]
+        if item.sort == "other":
+            return [3]
+        if item.sort == "end":
+            return self.faults_of_end(item)
+        return self.faults_of_start(item)
+
+    def faults_of_end(self, item):
+        if not self.open or self.open[-1][0].name != item.name.decode() or not self.complete():
+            return [3]
+        return [8] if item.name == b"Period" and self.kind == 1 and self.inside() != self.n else []
+
+    def faults_of_start(self, item):
+        row = self.due(item.name.decode())
+        if row is None:
+            return [3]
+        given, numbers = self.values(item), []
+        if item.sort == "empty" and row.children:
+            numbers.append(3)
+        if row.name in ("ScheduleTimeSeries", "CostTimeSeries") and len(self.series) >= self.series_room:
+            numbers.append(4)
+        if row.name == "Interval" and self.intervals >= self.interval_room:
+            numbers.append(4)
+        if given.keys() != row.attributes.keys():
+            numbers.append(5)
+        own = {name: row.attributes[name](value) for name, value in given.items() if name in row.attributes}
+        numbers += own.values()
+        if row.name == "Period" or own.get("v") == 0:
+            numbers.append(self.against_others(row.name, given.get("v", "")))
+        return [number for number in numbers if number]
+
+    def against_others(self, name, value):
+        """A value of good form against the values before it."""
+        wrong = {
+            "Period": lambda: 8 if 0 < self.originals < 5 else 0,
+            "TimePeriodCovered": lambda: 0 if self.period_fits(*interval(value)) else 8,
+            "TimeInterval": lambda: 0 if value == self.period else 8,
+            "TimeSeriesIdentification": lambda: 9 if value in self.used else 0,
+            "Pos": lambda: 0 if self.pos_fits(int(value.strip(" "))) else 8}
+        return wrong[name]() if name in wrong else 0
+
+    def period_fits(self, start, end):
+        if self.kind == 1:
+            hours = all((time.hour, time.minute) in ((22, 0), (23, 0)) for time in (start, end))
+            return hours and end.date() == start.date() + timedelta(days=1)
+        return timedelta(0) < end - start <= timedelta(days=366) and not (end - start) % QUARTER
+
+    def pos_fits(self, pos):
+        if pos > self.n:
+            return False
+        if self.kind == 1 or self.inside() == 1:
+            return pos == self.inside()
+        return pos > self.positions[-1]
+
+    def move(self, item):
+        """An item without a fault moves the state."""
+        if item.sort == "end":
+            self.open.pop()
+        elif item.sort in ("start", "empty"):
+            row = self.due(item.name.decode())
+            self.count_child(row)
+            self.keep(row, item)
+            if item.sort == "start":
+                self.open.append([row, 0, 0])
+
+    def count_child(self, row):
+        if self.open:
+            parent = self.open[-1]
+            at = parent[0].children.index(row)
+            parent[2] = parent[2] + 1 if at == parent[1] else 1
+            parent[1] = at
+
+    def keep(self, row, item):
+        start, length = item.attributes.get(b"v", (0, 0))
+        raw = self.doc[start:start + length]
+        if row.name in KINDS:
+            self.kind = KINDS[row.name]
+        elif row.name == "TimePeriodCovered":
+            self.period = raw.decode()
+            first, last = interval(self.period)
+            self.n = (last - first) // QUARTER
+        elif row.name in ("ScheduleTimeSeries", "CostTimeSeries"):
+            self.series.append([0, 0, 0, 0, 0, 0, self.intervals, 0])
+            self.originals = 0
+        elif row.name == "TimeSeriesIdentification":
+            self.used.add(raw.decode())
+            self.series[-1][0:2] = start, length
+        elif row.name == "InParty" or row.name == "ResourceObject":
+            self.series[-1][2:4] = start, length
+        elif row.name == "BusinessType":
+            self.series[-1][4:6] = start + len(raw) - len(raw.lstrip(b" ")), len(raw.strip(b" "))
+        elif row.name.startswith("Original"):
+            self.originals += 1
+        elif row.name == "Interval":
+            self.intervals += 1
+            self.series[-1][7] += 1
+        elif row.name == "Pos":
+            self.positions.append(int(raw.strip(b" ")))
+        elif row.name == "Qty":
+            self.amounts.append(thousandths(raw.decode().strip(" ")))
+
+    def run(self):
+        """The first item with a fault decides: its smallest number and its place."""
+        at = 3 if self.doc.startswith(b"\xef\xbb\xbf") else 0
+        declaration = DECLARATION.match(self.doc, at)
+        at = declaration.end() if declaration else at
+        while at < len(self.doc):
+            item = item_at(self.doc, at)
+            numbers = self.faults(item)
+            if numbers:
+                return min(numbers), at
+            self.move(item)
+            at = item.after
+        return (0 if self.kind and not self.open else 3), at
+
+
+# ---------------------------------------------------------------- Tables and note
+
+Answer = namedtuple("Answer", "refusal place kind series intervals n note series_table position_table amount_table")
+
+
+def groups(number):
+    """Groups of seven bits, lowest first, the top bit set on all but the last, in the fewest groups."""
+    return bytes([number]) if number < 128 else bytes([number % 128 + 128]) + groups(number // 128)
+
+
+def filled(cells, size):
+    return list(cells) + [0] * (size - len(cells))
+
+
+def read(doc, series_cells=512, position_cells=2048, amount_cells=2048, note_bytes=16):
+    """The note is given without the zeros after it."""
+    def refused(refusal, place, kind, series, intervals, note):
+        return Answer(refusal, place, kind, series, intervals, 0, note, *([0] * c for c in (series_cells, position_cells, amount_cells)))
+
+    def note_of(*numbers):
+        return b"".join(groups(number) for number in numbers)
+
+    if note_bytes < 16:
+        return refused(10, 0, 0, 0, 0, b"")
+    if len(doc) > 1_048_576:
+        return refused(1, 0, 0, 0, 0, note_of(1, 0, 0, 0, 0))
+    reading = Reading(doc, series_cells // 8, min(position_cells, amount_cells))
+    numbers = (*reading.run(), reading.kind, len(reading.series), reading.intervals)
+    if numbers[0]:
+        return refused(*numbers, note_of(*numbers))
+    return Answer(*numbers, reading.n, note_of(*numbers), filled(sum(reading.series, []), series_cells),
+                  filled(reading.positions, position_cells), filled(reading.amounts, amount_cells))
+
+
+def check_number(cells):
+    h = 0
+    for cell in cells:
+        h = (h * 31 + cell % 2**32) % 2**32
+    return h
+
+
+# ---------------------------------------------------------------- Templates
+
+# In a refused sample the mark stands where the faulty item begins, or at the end of the document; it is no part of the sample.
+# A byte that isn't UTF-8 is written as its escape, U+DC80 to U+DCFF.
+MARK = "@@"
+Sample = namedtuple("Sample", "doc refusal place kind series intervals n rows")
+SAMPLES = {}
+
+
+def raw(text):
+    return text.encode("utf-8", "surrogateescape")
+
+
+def put(name, sample):
+    assert name not in SAMPLES and re.fullmatch("[a-z0-9-]+", name), name
+    assert len(sample.doc) < 65_536, name
+    SAMPLES[name] = sample
+
+
+def refused(name, refusal, kind, series, intervals, text):
+    """Kind, series and intervals are those of the items before the mark."""
+    assert text.count(MARK) == 1, name
+    doc = raw(text.replace(MARK, ""))
+    put(name, Sample(doc, refusal, len(raw(text.split(MARK)[0])), kind, series, intervals, 0, None))
+
+
+def taken(name, kind, n, rows, text):
+    """For each series: identification, object, BusinessType and its intervals, each with position and thousandths."""
+    assert MARK not in text, name
+    doc = raw(text)
+    put(name, Sample(doc, 0, len(doc), kind, len(rows), sum(len(row[3]) for row in rows), n, rows))
+
+
+def edited(text, *edits):
+    """Each edit replaces a part that comes exactly once."""
+    for old, new in edits:
+        assert text.count(old) == 1, (text.count(old), old)
+        text = text.replace(old, new)
+    return text
+
+
+DECLARED = '<?xml version="1.0" encoding="UTF-8"?>\n'
+START_1 = '<Beschaffungsanforderung DtdBDEWNachrichtenVersion="1.0">'
+START_2 = '<Kostenblatt DtdBDEWNachrichtenVersion="1.0">'
+END_1 = "</Beschaffungsanforderung>"
+END_2 = "</Kostenblatt>"
+DAY = "2024-05-06T22:00Z/2024-05-07T22:00Z"
+ORIGINALS = """<OriginalSenderIdentification v="4012345000047" codingScheme="NDE"/>
+<OriginalDocumentIdentification v="OD-7"/>
+<OriginalDocumentVersion v="7"/>
+<OriginalDocumentDateTime v="2024-05-05T10:11:12Z"/>
+<OriginalTimeSeriesIdentification v="OS-7"/>
+"""
+AREAS = ("10YDE-ENBW-----N", "10YDE-EON------1", "10YDE-RWENET---I", "10YDE-VE-------2", "10YFLENSBURG---3")
+DIRECTION = '<Direction v="A02"/>\n'
+CONNECTING = '<ConnectingArea v="10YDE-EON------1" codingScheme="A01"/>\n'
+STATUS = '<Status v="Z02"/>\n'
+SOME = [(1, "10.5"), (5, "-3.25")]
+SOME_ROWS = [(1, 10500), (5, -3250)]
+
+
+def head(document_type, role, period):
+    return f"""
+<DocumentIdentification v="D-1"/>
+<DocumentVersion v="3"/>
+<DocumentType v="{document_type}"/>
+<ProcessType v="A14"/>
+<SenderIdentification v="4012345000016" codingScheme="A10"/>
+<SenderRole v="{role}"/>
+<ReceiverIdentification v="4012345000023" codingScheme="NDE"/>
+<ReceiverRole v="A39"/>
+<DocumentDateTime v="2024-05-06T07:08:09Z"/>
+<TimePeriodCovered v="{period}"/>
+"""
+
+
+def intervals_of(pairs):
+    return "".join(f'<Interval><Pos v="{pos}"/><Qty v="{qty}"/></Interval>\n' for pos, qty in pairs)
+
+
+def cost(identification="S-1", pairs=SOME, period=DAY, business="A01", direction="", area="", resource="C0ABCDEFGH1",
+         unit="Z02", status="", originals=""):
+    return f"""<CostTimeSeries>
+<TimeSeriesIdentification v="{identification}"/>
+<BusinessType v="{business}"/>
+{direction}<Product v="8716867000016"/>
+{area}<ResourceObject v="{resource}" codingScheme="NDE"/>
+<ResourceProvider v="4012345000030" codingScheme="A10"/>
+<CurveType v="A03"/>
+<MeasurementUnit v="{unit}"/>
+{status}{originals}<Period>
+<TimeInterval v="{period}"/>
+<Resolution v="PT15M"/>
+{intervals_of(pairs)}</Period>
+</CostTimeSeries>
+"""
+
+
+def two(*costs, period=DAY):
+    return DECLARED + START_2 + head("Z05", "A27", period) + "".join(costs) + END_2 + "\n"
+
+
+def schedule(pairs, identification="T-1", period=DAY, originals=""):
+    return f"""<ScheduleTimeSeries>
+<TimeSeriesIdentification v="{identification}"/>
+<BusinessType v="A02"/>
+<Product v="8716867000016"/>
+<InArea v="10YDE-VE-------2" codingScheme="A01"/>
+<OutArea v="10YDE-RWENET---I" codingScheme="A01"/>
+<InParty v="11XINVENTED-IN-A" codingScheme="A01"/>
+<OutParty v="11XINVENTED-OUT9" codingScheme="A01"/>
+<MeasurementUnit v="MAW"/>
+{originals}<Period>
+<TimeInterval v="{period}"/>
+<Resolution v="PT15M"/>
+{intervals_of(pairs)}</Period>
+</ScheduleTimeSeries>
+"""
+
+
+def one(*schedules, period=DAY):
+    return DECLARED + START_1 + head("Z07", "A18", period) + "".join(schedules) + END_1 + "\n"
+
+
+def first(count):
+    """Intervals 1, 2, 3 and so on, with the amounts 0.5, 1.5, 2.5 and so on."""
+    return [(pos, f"{pos - 1}.5") for pos in range(1, count + 1)]
+
+
+def first_rows(count):
+    return [(pos, pos * 1000 - 500) for pos in range(1, count + 1)]
+
+
+TWO = two(cost())
+ALL_TWO = two(cost(direction=DIRECTION, area=CONNECTING, status=STATUS, originals=ORIGINALS))
+TWO_ROW = ("S-1", "C0ABCDEFGH1", "A01", SOME_ROWS)
+# Kind 1 with all optional parts, given up after its second interval: for faults that come earlier.
+BEGUN_ONE = one(schedule(first(2), originals=ORIGINALS)).partition("</Period>")[0]
+SPRING = "2024-03-30T23:00Z/2024-03-31T22:00Z"
+AUTUMN = "2024-10-26T22:00Z/2024-10-27T23:00Z"
+
+
+def in_two(name, refusal, series, intervals, *edits):
+    """A fault in the kind 2 document that has all optional parts, one series and two intervals."""
+    refused(name, refusal, 2, series, intervals, edited(ALL_TWO, *edits))
+
+
+def in_one(name, refusal, series, intervals, *edits):
+    refused(name, refusal, 1, series, intervals, edited(BEGUN_ONE, *edits))
+
+
+def after_root(name, refusal, text):
+    """A fault in an item that comes some way after the root start of kind 2."""
+    refused(name, refusal, 2, 0, 0, START_2 + text)
+
+
+# 150 attributes that a root may have, some the beginning of others.
+MANY = "".join(f" xmlns:a{i}='{i}'" for i in range(150))
+
+
+# ---------------------------------------------------------------- Accepted, kind 2
+
+def accepted_two():
+    taken("two-plain", 2, 96, [TWO_ROW], TWO)
+    taken("two-all-optional", 2, 96, [TWO_ROW], ALL_TWO)
+    taken("two-direction-only", 2, 96, [TWO_ROW], two(cost(direction=DIRECTION)))
+    taken("two-connecting-area-only", 2, 96, [TWO_ROW], two(cost(area=CONNECTING)))
+    taken("two-status-only", 2, 96, [TWO_ROW], two(cost(status=STATUS)))
+    taken("two-originals-only", 2, 96, [TWO_ROW], two(cost(originals=ORIGINALS)))
+    taken("two-compact", 2, 96, [TWO_ROW], re.sub("\n", "", ALL_TWO))
+    taken("two-one-interval", 2, 96, [("S-1", "C0ABCDEFGH1", "A01", [(1, 7000)])], two(cost(pairs=[(1, 7)])))
+    taken("two-pos-gaps", 2, 96, [("S-1", "C0ABCDEFGH1", "A01", [(1, 1), (2, 20), (9, 300), (95, 4000), (96, 0)])],
+          two(cost(pairs=[(1, "0.001"), (2, "0.02"), (9, "0.3"), (95, "4"), (96, "0")])))
+    taken("two-same-amount-again", 2, 96, [("S-1", "C0ABCDEFGH1", "A01", [(1, 2000), (2, 2000)])],
+          two(cost(pairs=[(1, 2), (2, 2)])))
+    short = "2024-05-06T00:07Z/2024-05-06T00:22Z"
+    taken("two-n-1", 2, 1, [("S-1", "C0ABCDEFGH1", "A01", [(1, 7000)])], two(cost(pairs=[(1, 7)], period=short), period=short))
+    year = "2024-01-01T00:00Z/2025-01-01T00:00Z"
+    taken("two-n-35136", 2, 35136, [("S-1", "C0ABCDEFGH1", "A01", [(1, 1000), (9999, 2000), (10000, 3000), (35136, -4000)])],
+          two(cost(pairs=[(1, 1), (9999, 2), (10000, 3), (35136, -4)], period=year), period=year))
+    more = "2023-01-01T00:00Z/2024-01-02T00:00Z"
+    taken("two-366-days-from-2023", 2, 35136, [("S-1", "C0ABCDEFGH1", "A01", [(1, 7000)])],
+          two(cost(pairs=[(1, 7)], period=more), period=more))
+    late = "2099-12-31T23:30Z/2099-12-31T23:45Z"
+    taken("two-last-year", 2, 1, [("S-1", "C0ABCDEFGH1", "A01", [(1, 7000)])], two(cost(pairs=[(1, 7)], period=late), period=late))
+    leap = "2000-02-28T23:45Z/2000-03-01T00:00Z"
+    taken("two-29-february-2000", 2, 97, [("S-1", "C0ABCDEFGH1", "A01", [(1, 0), (97, 1000)])],
+          edited(two(cost(pairs=[(1, "-0"), (97, 1)], period=leap), period=leap),
+                 ("2024-05-06T07:08:09Z", "2024-02-29T23:59:59Z")))
+    taken("two-64-series", 2, 96, [(f"S-{i}", f"A0000000{i:02}9", "A01", [(1, i * 1000)]) for i in range(64)],
+          two(*(cost(identification=f"S-{i}", resource=f"A0000000{i:02}9", pairs=[(1, i)]) for i in range(64))))
+    taken("two-three-series", 2, 96,
+          [("S-1", "C0ABCDEFGH1", "A01", SOME_ROWS), ("S-2", "A1234567890", "Z03", [(1, -1)]),
+           ("S-3", "B0000000000", "A04", SOME_ROWS + [(96, 99000)])],
+          two(cost(originals=ORIGINALS), cost("S-2", resource="A1234567890", business="Z03", pairs=[(1, "-0.001")]),
+              cost("S-3", resource="B0000000000", business="A04", pairs=SOME + [(96, 99)], status=STATUS)))
+
+
+def accepted_values():
+    rows = [("S-1", "C0ABCDEFGH1", code, [(1, 1000)]) for code in ("A01", "A04", "Z01", "Z02", "Z03")]
+    rows = [(f"S-{i}", *row[1:]) for i, row in enumerate(rows)]
+    taken("two-every-code", 2, 96, rows, edited(two(*(
+        cost(f"S-{i}", business=rows[i][2], pairs=[(1, 1)], direction=f'<Direction v="A0{i % 2 + 1}"/>', unit=f"Z0{i % 3 + 1}",
+             area=f'<ConnectingArea v="{AREAS[i]}" codingScheme="A01"/>', status=f'<Status v="Z0{i + 1}"/>') for i in range(5))),
+        ('<SenderRole v="A27"/>', '<SenderRole v="A39"/>'), ('<ReceiverRole v="A39"/>', '<ReceiverRole v="A18"/>'),
+        ('000016" codingScheme="A10"', '000016" codingScheme="NDE"'), ('000023" codingScheme="NDE"', '000023" codingScheme="A10"'),
+        ('<DocumentVersion v="3"/>', '<DocumentVersion v="999"/>')).replace('000030" codingScheme="A10"', '000030" codingScheme="NDE"'))
+    amounts = [("-0", 0), ("-0.001", -1), ("999999999999.999", 999999999999999), ("-999999999999.999", -999999999999999),
+               ("000000000000", 0), ("007", 7000), ("-0.000", 0), ("  12.34 ", 12340), ("0.1", 100), ("-1.20", -1200),
+               ("4294967.296", 4294967296), ("000000000001.050", 1050)]
+    taken("two-amounts", 2, 96, [("S-1", "C0ABCDEFGH1", "A01", [(i + 1, amount) for i, (_, amount) in enumerate(amounts)])],
+          two(cost(pairs=[(i + 1, text) for i, (text, _) in enumerate(amounts)])))
+    taken("two-business-spaces", 2, 96, [("S-1", "C0ABCDEFGH1", "A04", SOME_ROWS)], two(cost(business="   A04  ")))
+    taken("two-spaces-dropped", 2, 96, [TWO_ROW], edited(ALL_TWO, *(
+        (f'v="{value}"', f'v="  {value} "') for value in (
+            "3", "Z05", "A14", "A27", "A39", "2024-05-06T07:08:09Z", "8716867000016", "A03", "2024-05-05T10:11:12Z", "PT15M",
+            "1", "5", "10.5", "-3.25")),
+        ('<BusinessType v="A01"/>', '<BusinessType v=" A01"/>'), ('<Direction v="A02"/>', '<Direction v="A02 "/>'),
+        ('<MeasurementUnit v="Z02"/>', '<MeasurementUnit v=" Z02 "/>'), ('<Status v="Z02"/>', '<Status v=" Z02"/>'),
+        ('codingScheme="A01"', 'codingScheme=" A01 "'), ('000047" codingScheme="NDE"', '000047" codingScheme=" NDE"'),
+        ('FGH1" codingScheme="NDE"', 'FGH1" codingScheme="NDE  "')))
+    taken("two-id-empty", 2, 96, [("", "C0ABCDEFGH1", "A01", SOME_ROWS)],
+          edited(two(cost("")), ('<DocumentIdentification v="D-1"/>', '<DocumentIdentification v=""/>')))
+    taken("two-id-35", 2, 96, [(35 * "x", "C0ABCDEFGH1", "A01", SOME_ROWS)], two(cost(35 * "x")))
+    taken("two-id-umlauts-20", 2, 96, [(20 * "ä", "C0ABCDEFGH1", "A01", SOME_ROWS)], two(cost(20 * "ä")))
+    taken("two-id-four-bytes-35", 2, 96, [(35 * "\U0001f4a1", "C0ABCDEFGH1", "A01", SOME_ROWS)], two(cost(35 * "\U0001f4a1")))
+    odd = "\x7f\x80\x85\u07ff\u0800\ud7ff\ue000\ufffd\U00010000\U0001fffe\U0010ffff"
+    taken("two-id-edge-characters", 2, 96, [(odd, "C0ABCDEFGH1", "A01", SOME_ROWS)], two(cost(odd)))
+    taken("two-ids-by-bytes", 2, 96, [(i, "C0ABCDEFGH1", "A01", [(1, 1000)]) for i in ("s-1", "S-1", " S-1", "S-1 ", "ä", "a\u0308")],
+          edited(two(*(cost(i, pairs=[(1, 1)]) for i in ("s-1", "S-1", " S-1", "S-1 ", "ä", "a\u0308"))), ('v="D-1"', 'v="S-1"')))
+    taken("two-original-ids-as-they-are", 2, 96, [TWO_ROW], edited(
+        ALL_TWO, ('"OD-7"', '" %s "' % (33 * "ß")), ('"OS-7"', '""'), ('"D-1"', '"  D"'),
+        ('000047" codingScheme="NDE"', '000047" codingScheme="A10"'),
+        ('<OriginalDocumentVersion v="7"/>', '<OriginalDocumentVersion v="999"/>')))
+
+
+def accepted_items():
+    taken("two-no-declaration", 2, 96, [TWO_ROW], TWO.replace(DECLARED, ""))
+    for name, declaration in (
+            ("bom", "\ufeff"), ("bom-declaration", "\ufeff" + DECLARED), ("declaration-version-only", '<?xml version="1.0"?>'),
+            ("declaration-mixed-quotes", "<?xml version='1.0' encoding=\"uTf-8\"?>"),
+            ("declaration-white", "<?xml\r\n\tversion =\n'1.0'\tencoding= 'utf-8'  ?>\r\n"),
+            ("comment-first", "<!-- ä & ]]> < -->\n<!----><!--->-->")):
+        taken("two-" + name, 2, 96, [TWO_ROW], TWO.replace(DECLARED, declaration))
+    taken("two-single-quotes", 2, 96, [TWO_ROW], ALL_TWO.replace('"', "'"))
+    taken("two-attributes-turned", 2, 96, [TWO_ROW], re.sub(r'( v="[^"]*")( codingScheme=)"([^"]*)"', r"\2'\3'\1", ALL_TWO))
+    taken("two-quotes-in-values", 2, 96, [("it's > ]]> -->", "C0ABCDEFGH1", "A01", SOME_ROWS)],
+          edited(two(cost("it's > ]]> -->")), ('v="D-1"', "v='\"D\"/>'")))
+    taken("two-start-with-end", 2, 96, [TWO_ROW], re.sub(r"<(\w+)( [^>]*)/>", r"<\1\2></\1>", ALL_TWO))
+    taken("two-text-in-leaves", 2, 96, [TWO_ROW], re.sub(r"<(\w+)( [^>]*)/>", "<\\1\\2>\r\n<!-- \\1 -->\t</\\1 \n>", ALL_TWO))
+    taken("two-white-in-tags", 2, 96, [TWO_ROW],
+          re.sub(r"<(/?\w+)>", "<\\1\r\n>", re.sub(r' (\w+)=("[^"]*")', "\r\n\t\\1 \t=\n \\2 ", ALL_TWO[len(DECLARED):])))
+    taken("two-comments-everywhere", 2, 96, [TWO_ROW],
+          re.sub("\n", '<!-- Qty v="1" & <Pos> ]]> Größe - -->\t\r\n', ALL_TWO[len(DECLARED):]))
+    taken("two-after-root", 2, 96, [TWO_ROW], TWO + "<!-- after -->\r\n\t <!---->")
+    taken("two-65535-bytes", 2, 96, [TWO_ROW], TWO + "<!--" + (65_535 - 7 - len(TWO)) * "&" + "-->")
+    taken("two-root-namespaces", 2, 96, [TWO_ROW], edited(TWO, (START_2, (
+        '<Kostenblatt xmlns="urn:x" xmlns:xsi=\'urn:"y\' DtdBDEWNachrichtenVersion="1.0" xsi:schemaLocation="ä b" xsi:="" xmlns:="">'))))
+    taken("two-root-many-namespaces", 2, 96, [TWO_ROW], edited(TWO, (START_2, START_2.replace(">", MANY + ">"))))
+
+
+# ---------------------------------------------------------------- Accepted, kind 1
+
+def accepted_one():
+    def row(count):
+        return [("T-1", "11XINVENTED-IN-A", "A02", first_rows(count))]
+    taken("one-plain", 1, 96, row(96), one(schedule(first(96))))
+    taken("one-all-optional", 1, 96, row(96), one(schedule(first(96), originals=ORIGINALS)))
+    taken("one-92", 1, 92, row(92), one(schedule(first(92), period=SPRING), period=SPRING))
+    taken("one-100", 1, 100, row(100), one(schedule(first(100), period=AUTUMN), period=AUTUMN))
+    winter = "2023-12-31T23:00Z/2024-01-01T23:00Z"
+    taken("one-23-to-23", 1, 96, row(96), one(schedule(first(96), period=winter), period=winter))
+    leap = "2024-02-28T22:00Z/2024-02-29T22:00Z"
+    taken("one-to-29-february", 1, 96, row(96), one(schedule(first(96), period=leap), period=leap))
+    any_day = "2024-07-01T23:00Z/2024-07-02T22:00Z"
+    taken("one-92-on-any-date", 1, 92, row(92), one(schedule(first(92), period=any_day), period=any_day))
+    taken("one-two-series", 1, 96, row(96) + [("T-2", "11XINVENTED-IN-A", "A02", first_rows(96))],
+          one(schedule(first(96)), schedule(first(96), "T-2", originals=ORIGINALS)))
+    taken("one-negative", 1, 96, [("T-1", "11XINVENTED-IN-A", "A02", [(1, -500)] + first_rows(96)[1:])],
+          edited(one(schedule(first(96))), ('<Qty v="0.5"/>', '<Qty v="-0.5"/>')))
+    taken("one-spaces-dropped", 1, 96, row(96), edited(one(schedule(first(96), originals=ORIGINALS)), *(
+        (f'v="{value}"', f'v="  {value} "') for value in (
+            "Z07", "A14", "A18", "A39", "2024-05-06T07:08:09Z", "A02", "8716867000016", "MAW", "2024-05-05T10:11:12Z", "PT15M",
+            "1", "96", "0.5", "95.5")), ('<DocumentVersion v="3"/>', '<DocumentVersion v=" 3"/>'),
+        ('000016" codingScheme="A10"', '000016" codingScheme=" A10 "'),
+        ('OUT9" codingScheme="A01"', 'OUT9" codingScheme="A01 "'), ('IN-A" codingScheme="A01"', 'IN-A" codingScheme=" A01"')))
+    taken("one-every-code", 1, 96, [(f"T-{i}", "11XINVENTED-IN-A", "A02", first_rows(96)) for i in range(5)], edited(one(*(
+        schedule(first(96), f"T-{i}").replace("10YDE-VE-------2", AREAS[i]).replace("10YDE-RWENET---I", AREAS[4 - i]) for i in range(5))),
+        ('<SenderRole v="A18"/>', '<SenderRole v="A39"/>'), ('<ReceiverRole v="A39"/>', '<ReceiverRole v="A18"/>'),
+        ('000016" codingScheme="A10"', '000016" codingScheme="NDE"'), ('000023" codingScheme="NDE"', '000023" codingScheme="A10"')))
+    taken("one-compact-single-quotes", 1, 96, row(96), one(schedule(first(96))).replace("\n", "").replace('"', "'"))
+
+
+# ---------------------------------------------------------------- Refused: short documents and the examples of 01
+
+def short_documents():
+    def short(name, refusal, text, kind=0):
+        refused(name, refusal, kind, 0, 0, text)
+    short("p1-empty", 3, "@@")
+    short("p2-root-no-attribute", 5, "@@<Kostenblatt>")
+    short("p3-root-empty-tag", 3, "@@<Kostenblatt/>")
+    short("p4-root-alone", 3, '<Kostenblatt DtdBDEWNachrichtenVersion="1.0">@@', 2)
+    short("p5-root-1-1", 6, '@@<Kostenblatt DtdBDEWNachrichtenVersion="1.1">')
+    short("bom-alone", 3, "\ufeff@@")
+    short("bom-half", 2, "@@\udcef\udcbb")
+    short("bom-twice", 3, "\ufeff@@\ufeff" + START_2)
+    short("bom-then-fault", 5, "\ufeff@@<Kostenblatt>")
+    short("bom-after-declaration", 3, DECLARED.strip() + "@@\ufeff" + START_2)
+    short("white-alone", 3, " \t\r\n@@")
+    short("comment-alone", 3, "<!-- -->@@")
+    short("root-end-first", 3, "@@" + END_2)
+    short("root-other-name", 3, '\n@@<Kaskade DtdBDEWNachrichtenVersion="1.0">')
+    short("root-small-letter", 3, '@@<kostenblatt DtdBDEWNachrichtenVersion="1.0">')
+    short("root-prefixed", 3, '@@<bdew:Kostenblatt DtdBDEWNachrichtenVersion="1.0">')
+    short("root-name-with-colons", 3, "@@<a:b:c/>")
+    short("root-text-first", 3, "@@ x " + START_2)
+    short("one-root-no-attribute", 5, "<!-- -->@@<Beschaffungsanforderung xmlns='1.0'>")
+    short("one-root-space-1-0", 6, "@@<Beschaffungsanforderung DtdBDEWNachrichtenVersion='1.0 '>")
+    short("one-root-alone", 3, START_1 + "@@", 1)
+    short("root-space-1-0", 6, '@@<Kostenblatt DtdBDEWNachrichtenVersion=" 1.0">')
+    short("root-empty-tag-complete", 3, "@@" + START_2.replace(">", "/>"))
+    for name, attribute in (("xsi", "xsi"), ("xmlnsx", "xmlnsx"), ("xml-lang", "xml:lang"), ("v", "v"), ("upper-xmlns", "XMLNS:a")):
+        short("root-unknown-" + name, 5, "@@" + START_2.replace(">", f' {attribute}="1.0">'))
+    short("root-xmlns-twice", 2, "@@" + START_2.replace(">", ' xmlns="a" xmlns="a">'))
+    short("root-many-namespaces-one-twice", 2, "@@" + START_2.replace(">", MANY + " xmlns:a7=''>"))
+    short("root-many-unknown", 5, "@@" + START_2.replace(">", MANY.replace("xmlns:a149", "xmlna:a149") + ">"))
+    short("root-xsi-ampersand", 2, "@@" + START_2.replace(">", ' xsi:a="&amp;">'))
+    short("root-unknown-and-1-1", 5, "@@" + START_2.replace("1.0", "1.1").replace(">", ' w="">'))
+
+
+def declarations():
+    def wrong(name, declaration, text=START_2):
+        refused("declaration-" + name, 2, 0, 0, 0, declaration + text)
+    refused("declaration-alone", 3, 0, 0, 0, '<?xml version="1.0"?>@@')
+    wrong("after-space", " @@" + DECLARED)
+    wrong("after-comment", "<!-- -->@@" + DECLARED)
+    wrong("twice", DECLARED.strip() + "@@" + DECLARED)
+    wrong("after-bom-standalone", '\ufeff@@<?xml version="1.0" encoding="UTF-8" standalone="yes"?>')
+    wrong("no-version", '@@<?xml encoding="UTF-8"?>')
+    wrong("order", '@@<?xml encoding="UTF-8" version="1.0"?>')
+    wrong("version-1-1", '@@<?xml version="1.1"?>')
+    wrong("latin-1", '@@<?xml version="1.0" encoding="ISO-8859-1"?>')
+    wrong("upper-names", '@@<?xml VERSION="1.0"?>')
+    wrong("upper-xml", '@@<?XML version="1.0"?>')
+    wrong("no-space", '@@<?xml version="1.0"encoding="UTF-8"?>')
+    wrong("quotes-differ", "@@<?xml version=\"1.0'?>")
+    wrong("cut", '@@<?xml version="1.0" encoding="UTF-8"?', "")
+
+
+def unreadable_items():
+    value = '@@<DocumentIdentification v="%s"/>'
+    for name, text in (
+            ("stylesheet", '@@<?xml-stylesheet href="a"?>'), ("doctype", "\n@@<!DOCTYPE Kostenblatt>"),
+            ("cdata", "@@<![CDATA[ ]]>"), ("text-reference", "@@ &amp;\n"), ("text-other-and-ampersand", "@@abc &"),
+            ("text-brackets", "@@ ]]> "), ("text-control", "@@ \x01"), ("text-latin-1", "@@ \udce4 "),
+            ("text-cut-character", "@@\n\udce2\udc82"), ("value-ampersand", value % "a&amp;b"), ("value-less-than", value % "a<b"),
+            ("value-tab", value % "a\tb"), ("value-lf", value % "a\nb"), ("value-cr", value % "\r"), ("value-control", value % "\x1f"),
+            ("value-fffe", value % "\ufffe"), ("value-surrogate", value % "\udced\udca0\udc80"),
+            ("value-long-c1", value % "\udcc1\udcbf"),
+            ("value-long-e0", value % "\udce0\udc9f\udcbf"), ("value-long-f0", value % "\udcf0\udc8f\udcbf\udcbf"),
+            ("value-past-f4", value % "\udcf4\udc90\udc80\udc80"), ("value-f5", value % "\udcf5\udc80\udc80\udc80"),
+            ("value-lone-80", value % "a\udc80"), ("value-lead-then-quote", value % "a\udcc3"),
+            ("attribute-twice", '@@<DocumentIdentification v="a" v="b"/>'),
+            ("attribute-twice-not-due", '@@<Qty a="1" v="1" a=\'2\'/>'),
+            ("attribute-no-space", '@@<SenderIdentification v="a"codingScheme="A10"/>'),
+            ("attribute-no-quotes", "@@<DocumentIdentification v=1/>"), ("attribute-no-value", "@@<DocumentIdentification v/>"),
+            ("attribute-quotes-differ", "@@<DocumentIdentification v=\"1'/>"),
+            ("name-colon-first", "@@<:a/>"), ("name-digit-first", "@@<1a/>"),
+            ("name-umlaut", "@@<ä/>"), ("attribute-name-umlaut", '@@<DocumentIdentification v="1" ö="1"/>'),
+            ("tag-space-first", "@@< DocumentIdentification v='1'/>"), ("tag-slash-space", "@@<DocumentIdentification v='1'/ >"),
+            ("tag-cut", "\n@@<DocumentIdentification v='1'"),
+            ("tag-only-less-than", "@@<"), ("end-tag-space-first", "@@</ Kostenblatt>"),
+            ("end-tag-attribute", '@@</Kostenblatt v="1">'), ("end-tag-cut", "@@</Kostenblatt "),
+            ("comment-dashes", "@@<!-- a -- b -->"), ("comment-three-dashes", "@@<!-- --->"), ("comment-cut", "@@<!-- a --"),
+            ("comment-opened-and-closed", "@@<!-->"), ("comment-ffff", "@@<!-- \uffff -->"), ("comment-bad-utf-8", "@@<!-- \udcff -->")):
+        after_root("item-" + name, 2, text)
+
+
+def other_text():
+    after_root("text-other", 3, "\n <!-- -->@@ x\n")
+    after_root("text-no-break-space", 3, "@@\u00a0")
+    after_root("text-white-then-other", 3, "@@ \t\r\nä")
+    after_root("text-greater-than", 3, "@@]]\n>")
+    after_root("text-in-leaf", 3, '<DocumentIdentification v="1">@@1</DocumentIdentification>')
+
+
+# ---------------------------------------------------------------- Refused: the rows of kind 2
+
+def rows_of_head():
+    def fault(name, refusal, old, new):
+        in_two("two-" + name, refusal, 0, 0, (old, new))
+    fault("document-id-36", 6, '<DocumentIdentification v="D-1"/>', f'@@<DocumentIdentification v="{36 * "x"}"/>')
+    fault("document-version-0", 6, '<DocumentVersion v="3"/>', '@@<DocumentVersion v="0"/>')
+    fault("document-version-1000", 6, '<DocumentVersion v="3"/>', '@@<DocumentVersion v="1000"/>')
+    fault("document-version-03", 6, '<DocumentVersion v="3"/>', '@@<DocumentVersion v="03"/>')
+    fault("document-version-twice", 3, '<DocumentVersion v="3"/>', '<DocumentVersion v="3"/>@@<DocumentVersion v="3"/>')
+    fault("document-type-of-one", 7, '<DocumentType v="Z05"/>', '@@<DocumentType v="Z07"/>')
+    fault("document-type-late", 3, '<DocumentType v="Z05"/>\n<ProcessType v="A14"/>', '@@<ProcessType v="A14"/><DocumentType v="Z05"/>')
+    fault("process-type-code", 7, '<ProcessType v="A14"/>', '@@<ProcessType v="a14"/>')
+    fault("process-type-no-v", 5, '<ProcessType v="A14"/>', "@@<ProcessType/>")
+    sender = '<SenderIdentification v="4012345000016" codingScheme="A10"/>'
+    fault("sender-12-digits", 6, sender, '@@<SenderIdentification v="401234500001" codingScheme="A10"/>')
+    fault("sender-other-digits", 6, sender, f'@@<SenderIdentification v="{13 * chr(0x663)}" codingScheme="A10"/>')
+    fault("sender-scheme", 7, sender, '@@<SenderIdentification v="4012345000016" codingScheme="A01"/>')
+    fault("sender-no-scheme", 5, sender, '@@<SenderIdentification v="4012345000016"/>')
+    fault("sender-both-wrong", 6, sender, '@@<SenderIdentification codingScheme="A01" v="401234500001"/>')
+    fault("sender-no-v-wrong-scheme", 5, sender, '@@<SenderIdentification codingScheme="A01"/>')
+    fault("sender-role-code", 7, '<SenderRole v="A27"/>', '@@<SenderRole v="A21"/>')
+    fault("sender-role-unknown-attribute", 5, '<SenderRole v="A27"/>', '@@<SenderRole v="A27" codingScheme="A10"/>')
+    receiver = '<ReceiverIdentification v="4012345000023" codingScheme="NDE"/>'
+    fault("receiver-14-digits", 6, receiver, '@@<ReceiverIdentification v="40123450000230" codingScheme="NDE"/>')
+    fault("receiver-space", 6, receiver, '@@<ReceiverIdentification v="4012345000023 " codingScheme="NDE"/>')
+    fault("receiver-scheme-empty", 7, receiver, '@@<ReceiverIdentification v="4012345000023" codingScheme=""/>')
+    fault("receiver-role-of-sender", 7, '<ReceiverRole v="A39"/>', '@@<ReceiverRole v="A27"/>')
+    fault("receiver-role-twice", 3, '<ReceiverRole v="A39"/>', '<ReceiverRole v="A39"/>@@<ReceiverRole v="A39"/>')
+    for name, value in (("no-seconds", "2024-05-06T07:08Z"), ("second-60", "2024-05-06T07:08:60Z"), ("hour-24", "2024-05-06T24:00:00Z"),
+                        ("29-february-2023", "2023-02-29T07:08:09Z"), ("month-13", "2024-13-06T07:08:09Z"),
+                        ("day-0", "2024-05-00T07:08:09Z"),
+                        ("minute-60", "2024-05-06T07:60:09Z"), ("no-z", "2024-05-06T07:08:09"), ("year-1999", "1999-05-06T07:08:09Z")):
+        fault("date-time-" + name, 6, '<DocumentDateTime v="2024-05-06T07:08:09Z"/>', f'@@<DocumentDateTime v="{value}"/>')
+    for name, refusal, value in (
+            ("seconds", 6, "2024-05-06T22:00:00Z/2024-05-07T22:00:00Z"), ("space", 6, DAY + " "), ("one-time", 6, "2024-05-06T22:00Z"),
+            ("end-2100", 6, "2099-12-31T00:00Z/2100-01-01T00:00Z"), ("31-june", 6, "2024-06-30T00:00Z/2024-06-31T00:00Z"),
+            ("end-before-start", 8, "2024-05-07T22:00Z/2024-05-06T22:00Z"), ("no-length", 8, "2024-05-06T22:00Z/2024-05-06T22:00Z"),
+            ("20-minutes", 8, "2024-05-06T22:00Z/2024-05-06T22:20Z"), ("over-366-days", 8, "2024-01-01T00:00Z/2025-01-01T00:15Z")):
+        fault("period-covered-" + name, refusal, f'<TimePeriodCovered v="{DAY}"/>', f'@@<TimePeriodCovered v="{value}"/>')
+    covered = f'<TimePeriodCovered v="{DAY}"/>'
+    fault("period-covered-twice", 3, covered, covered + "@@" + covered)
+    fault("series-attribute", 5, "<CostTimeSeries>", '@@<CostTimeSeries v="">')
+    fault("series-empty-tag", 3, "<CostTimeSeries>", "@@<CostTimeSeries/>")
+    fault("series-of-one", 3, "<CostTimeSeries>", "@@<ScheduleTimeSeries>")
+    refused("two-series-missing", 3, 2, 0, 0, two().replace(END_2, "@@" + END_2))
+
+
+def rows_of_series():
+    def fault(name, refusal, old, new):
+        in_two("two-" + name, refusal, 1, 0, (old, new))
+    fault("series-id-36", 6, '<TimeSeriesIdentification v="S-1"/>', f'@@<TimeSeriesIdentification v="{36 * "ä"}"/>')
+    fault("series-id-xmlns", 5, '<TimeSeriesIdentification v="S-1"/>', '@@<TimeSeriesIdentification v="S-1" xmlns="urn:x"/>')
+    fault("business-type-of-one", 7, '<BusinessType v="A01"/>', '@@<BusinessType v="A02"/>')
+    fault("business-type-space-inside", 7, '<BusinessType v="A01"/>', '@@<BusinessType v="A 01"/>')
+    fault("business-type-no-v", 5, '<BusinessType v="A01"/>', '@@<BusinessType V="A01"/>')
+    fault("direction-code", 7, DIRECTION, '@@<Direction v="A03"/>\n')
+    fault("direction-twice", 3, DIRECTION, DIRECTION + "@@" + DIRECTION)
+    fault("direction-late", 3, DIRECTION + '<Product v="8716867000016"/>', '<Product v="8716867000016"/>@@' + DIRECTION)
+    fault("product-code", 7, '<Product v="8716867000016"/>', '@@<Product v="8716867000017"/>')
+    fault("area-lost-dash", 7, CONNECTING, '@@<ConnectingArea v="10YDE-EON-----1" codingScheme="A01"/>')
+    fault("area-space", 7, CONNECTING, '@@<ConnectingArea v=" 10YDE-EON------1" codingScheme="A01"/>')
+    fault("area-scheme", 7, CONNECTING, '@@<ConnectingArea v="10YDE-EON------1" codingScheme="NDE"/>')
+    fault("area-no-scheme", 5, CONNECTING, '@@<ConnectingArea v="10YDE-EON------1"/>')
+    thing = '<ResourceObject v="C0ABCDEFGH1" codingScheme="NDE"/>\n'
+    fault("object-d", 6, thing, '@@<ResourceObject v="D0ABCDEFGH1" codingScheme="NDE"/>')
+    fault("object-letter-last", 6, thing, '@@<ResourceObject v="C0ABCDEFGHI" codingScheme="NDE"/>')
+    fault("object-small-letter", 6, thing, '@@<ResourceObject v="C0ABcDEFGH1" codingScheme="NDE"/>')
+    fault("object-scheme", 7, thing, '@@<ResourceObject v="C0ABCDEFGH1" codingScheme="A10"/>')
+    fault("object-before-area", 3, CONNECTING + thing, thing + "@@" + CONNECTING)
+    provider = '<ResourceProvider v="4012345000030" codingScheme="A10"/>\n'
+    fault("provider-form", 6, provider, '@@<ResourceProvider v="401234500003X" codingScheme="A10"/>')
+    fault("provider-scheme", 7, provider, '@@<ResourceProvider v="4012345000030" codingScheme="A01"/>')
+    fault("curve-type-code", 7, '<CurveType v="A03"/>', '@@<CurveType v="A01"/>')
+    fault("curve-type-unknown-attribute", 5, '<CurveType v="A03"/>', '@@<CurveType v="A03" w="A03"/>')
+    fault("unit-of-one", 7, '<MeasurementUnit v="Z02"/>', '@@<MeasurementUnit v="MAW"/>')
+    fault("unit-twice", 3, '<MeasurementUnit v="Z02"/>', '<MeasurementUnit v="Z02"/>@@<MeasurementUnit v="Z02"/>')
+    fault("status-code", 7, STATUS, '@@<Status v="Z06"/>')
+    fault("status-late", 3, STATUS + ORIGINALS, ORIGINALS + "@@" + STATUS)
+
+
+def rows_of_originals():
+    def fault(name, refusal, old, new):
+        in_two("two-original-" + name, refusal, 1, 0, (old, new))
+    sender = '<OriginalSenderIdentification v="4012345000047" codingScheme="NDE"/>'
+    fault("sender-space", 6, sender, '@@<OriginalSenderIdentification v=" 4012345000047" codingScheme="NDE"/>')
+    fault("sender-scheme", 7, sender, '@@<OriginalSenderIdentification v="4012345000047" codingScheme="A01"/>')
+    fault("sender-no-scheme", 5, sender, '@@<OriginalSenderIdentification v="4012345000047"/>')
+    fault("sender-misspelt", 3, sender, '@@<OriginalSenderIdIdentification v="4012345000047" codingScheme="NDE"/>')
+    fault("document-id-36", 6, '<OriginalDocumentIdentification v="OD-7"/>', f'@@<OriginalDocumentIdentification v="{36 * "x"}"/>')
+    fault("version-space", 6, '<OriginalDocumentVersion v="7"/>', '@@<OriginalDocumentVersion v=" 7"/>')
+    fault("version-twice", 3, '<OriginalDocumentVersion v="7"/>', '<OriginalDocumentVersion v="7"/>@@<OriginalDocumentVersion v="7"/>')
+    fault("date-time-no-seconds", 6, '<OriginalDocumentDateTime v="2024-05-05T10:11:12Z"/>',
+          '@@<OriginalDocumentDateTime v="2024-05-05T10:11Z"/>')
+    fault("series-id-36", 6, '<OriginalTimeSeriesIdentification v="OS-7"/>', f'@@<OriginalTimeSeriesIdentification v="{36 * "y"}"/>')
+    fault("series-id-first", 3, sender, '<OriginalTimeSeriesIdentification v="OS-8"/>@@' + sender)
+    fault("only-one", 8, ORIGINALS + "<Period>", sender + "\n@@<Period>")
+    in_two("two-original-one-missing", 8, 1, 0, ('<OriginalDocumentVersion v="7"/>\n', ""), ("<Period>", "@@<Period>"))
+    in_two("two-original-one-missing-attribute", 5, 1, 0, ('<OriginalDocumentVersion v="7"/>\n', ""), ("<Period>", '@@<Period v="1">'))
+    in_two("two-original-one-missing-empty-tag", 3, 1, 0, ('<OriginalDocumentVersion v="7"/>\n', ""), ("<Period>", "@@<Period/>"))
+
+
+def rows_of_period():
+    def fault(name, refusal, intervals, old, new):
+        in_two("two-" + name, refusal, 1, intervals, (old, new))
+    fault("period-attribute", 5, 0, "<Period>", '@@<Period x="">')
+    fault("period-empty-tag", 3, 0, "<Period>", "@@<Period/>")
+    refused("two-period-missing", 3, 2, 1, 0, re.sub("(?s)<Period>.*</Period>\n", "@@", ALL_TWO))
+    fault("period-twice", 3, 2, "</Period>\n", "</Period>\n@@<Period>\n")
+    fault("time-interval-form", 6, 0, f'<TimeInterval v="{DAY}"/>', f'@@<TimeInterval v="{DAY[:-1]}"/>')
+    fault("time-interval-differs", 8, 0, f'<TimeInterval v="{DAY}"/>', '@@<TimeInterval v="2024-05-06T22:00Z/2024-05-07T21:45Z"/>')
+    fault("resolution-pt1h", 8, 0, '<Resolution v="PT15M"/>', '@@<Resolution v="PT1H"/>')
+    fault("resolution-pt900s", 8, 0, '<Resolution v="PT15M"/>', '@@<Resolution v="PT900S"/>')
+    fault("resolution-empty", 8, 0, '<Resolution v="PT15M"/>', '@@<Resolution v=""/>')
+    fault("resolution-no-v", 5, 0, '<Resolution v="PT15M"/>', "@@<Resolution/>")
+    fault("resolution-twice", 3, 0, '<Resolution v="PT15M"/>', '<Resolution v="PT15M"/>@@<Resolution v="PT15M"/>')
+    refused("two-intervals-none", 3, 2, 1, 0, re.sub("(?s)<Interval>.*</Interval>\n", "@@", ALL_TWO))
+    one_of_two = '<Interval><Pos v="5"/>'
+    fault("interval-attribute", 5, 1, one_of_two, '@@<Interval v="5"><Pos v="5"/>')
+    fault("interval-empty-tag", 3, 1, one_of_two, '@@<Interval/>' + one_of_two)
+    fault("interval-nothing-in-it", 3, 2, one_of_two, '<Interval>@@</Interval>')
+    for name, value in (("0", "0"), ("100000", "100000"), ("05", "05"), ("minus", "-5"), ("empty", ""), ("space-inside", "1 0")):
+        fault("pos-" + name, 6, 2, '<Pos v="5"/>', f'@@<Pos v="{value}"/>')
+    fault("pos-first-2", 8, 1, '<Pos v="1"/>', '@@<Pos v="2"/>')
+    fault("pos-again", 8, 2, '<Pos v="5"/>', '@@<Pos v="1"/>')
+    fault("pos-over-n", 8, 2, '<Pos v="5"/>', '@@<Pos v="97"/>')
+    fault("pos-99999", 8, 2, '<Pos v="5"/>', '@@<Pos v="99999"/>')
+    fault("pos-wrong-unknown-attribute", 5, 2, '<Pos v="5"/>', '@@<Pos v="1" w="1"/>')
+    fault("pos-missing", 3, 2, '<Pos v="5"/>', "@@")
+    fault("pos-twice", 3, 2, '<Pos v="5"/>', '<Pos v="5"/>@@<Pos v="6"/>')
+    fault("pos-late", 3, 2, '<Pos v="5"/><Qty v="-3.25"/>', '@@<Qty v="-3.25"/><Pos v="5"/>')
+    in_two("two-pos-falls", 8, 1, 3, ("</Period>", '<Interval>@@<Pos v="4"/><Qty v="1"/></Interval>\n</Period>'))
+    for name, value in (("point-last", "5."), ("point-first", ".5"), ("plus", "+5"), ("four-places", "1.0000"),
+                        ("13-digits", "1234567890123"), ("13-zeros", "0000000000000"), ("empty", ""), ("comma", "1,5"), ("minus-only", "-"),
+                        ("exponent", "1e3"), ("two-minus", "--1"), ("space-inside", "- 1"), ("other-digits", "\u0661")):
+        fault("qty-" + name, 6, 2, '<Qty v="-3.25"/>', f'@@<Qty v="{value}"/>')
+    fault("qty-missing", 3, 2, '<Qty v="-3.25"/>', "@@")
+    fault("qty-twice", 3, 2, '<Qty v="-3.25"/>', '<Qty v="-3.25"/>@@<Qty v="-3.25"/>')
+    fault("qty-no-v", 5, 2, '<Qty v="-3.25"/>', "@@<Qty/>")
+
+
+# ---------------------------------------------------------------- Refused: the rows of kind 1
+
+def rows_of_one():
+    def fault(name, refusal, series, intervals, old, new):
+        in_one("one-" + name, refusal, series, intervals, (old, new))
+    fault("document-id-twice", 3, 0, 0, '<DocumentIdentification v="D-1"/>',
+          '<DocumentIdentification v="D-1"/>@@<DocumentIdentification v="D-1"/>')
+    fault("document-version-form", 6, 0, 0, '<DocumentVersion v="3"/>', '@@<DocumentVersion v="3.0"/>')
+    fault("document-type-of-two", 7, 0, 0, '<DocumentType v="Z07"/>', '@@<DocumentType v="Z05"/>')
+    fault("sender-16-characters", 6, 0, 0, '<SenderIdentification v="4012345000016"', '@@<SenderIdentification v="4012345000016000"')
+    fault("sender-role-of-two", 7, 0, 0, '<SenderRole v="A18"/>', '@@<SenderRole v="A27"/>')
+    receiver = '<ReceiverIdentification v="4012345000023" codingScheme="NDE"/>'
+    fault("receiver-no-v", 5, 0, 0, receiver, '@@<ReceiverIdentification codingScheme="NDE"/>')
+    fault("receiver-role-early", 3, 0, 0, receiver + '\n<ReceiverRole v="A39"/>', '@@<ReceiverRole v="A39"/>\n' + receiver)
+    fault("date-time-day-31", 6, 0, 0, '<DocumentDateTime v="2024-05-06', '@@<DocumentDateTime v="2024-04-31')
+    for name, refusal, value in (
+            ("21-00", 8, "2024-05-06T21:00Z/2024-05-07T22:00Z"), ("22-15", 8, "2024-05-06T22:15Z/2024-05-07T22:15Z"),
+            ("two-days", 8, "2024-05-06T22:00Z/2024-05-08T22:00Z"), ("same-date", 8, "2024-05-06T22:00Z/2024-05-06T23:00Z"),
+            ("29-february-2023", 6, "2023-02-28T23:00Z/2023-02-29T23:00Z"), ("end-2100", 6, "2099-12-31T23:00Z/2100-01-01T23:00Z")):
+        fault("period-covered-" + name, refusal, 0, 0, f'<TimePeriodCovered v="{DAY}"/>', f'@@<TimePeriodCovered v="{value}"/>')
+    fault("series-of-two", 3, 0, 0, "<ScheduleTimeSeries>", "@@<CostTimeSeries>")
+    fault("series-attribute", 5, 0, 0, "<ScheduleTimeSeries>", '@@<ScheduleTimeSeries codingScheme="A01">')
+    fault("series-id-no-v", 5, 1, 0, '<TimeSeriesIdentification v="T-1"/>', "@@<TimeSeriesIdentification/>")
+    fault("business-type-of-two", 7, 1, 0, '<BusinessType v="A02"/>', '@@<BusinessType v="A01"/>')
+    fault("direction", 3, 1, 0, '<Product v="8716867000016"/>', '@@<Direction v="A01"/>')
+    fault("product-twice", 3, 1, 0, '<Product v="8716867000016"/>', '<Product v="8716867000016"/>@@<Product v="8716867000016"/>')
+    into, out = '<InArea v="10YDE-VE-------2" codingScheme="A01"/>\n', '<OutArea v="10YDE-RWENET---I" codingScheme="A01"/>\n'
+    fault("in-area-lost-dashes", 7, 1, 0, into, '@@<InArea v="10YDE-VE-----2" codingScheme="A01"/>')
+    fault("out-area-scheme", 7, 1, 0, out, '@@<OutArea v="10YDE-RWENET---I" codingScheme="A10"/>')
+    fault("out-area-first", 3, 1, 0, into + out, "@@" + out + into)
+    taking, giving = '<InParty v="11XINVENTED-IN-A" codingScheme="A01"/>', '<OutParty v="11XINVENTED-OUT9" codingScheme="A01"/>'
+    fault("in-party-17", 6, 1, 0, taking, '@@<InParty v="11XINVENTED-IN-A " codingScheme="A01"/>')
+    fault("in-party-both-wrong", 6, 1, 0, taking, '@@<InParty v="11XINVENTED-IN-a" codingScheme="NDE"/>')
+    fault("in-party-no-scheme", 5, 1, 0, taking, '@@<InParty v="11XINVENTED-IN-A"/>')
+    fault("out-party-15", 6, 1, 0, giving, '@@<OutParty v="11XINVENTED-OUT" codingScheme="A01"/>')
+    fault("out-party-scheme", 7, 1, 0, giving, '@@<OutParty v="11XINVENTED-OUT9" codingScheme="A01A"/>')
+    fault("out-party-unknown-attribute", 5, 1, 0, giving, '@@<OutParty v="11XINVENTED-OUT9" codingScheme="A01" role="A01"/>')
+    fault("unit-of-two", 7, 1, 0, '<MeasurementUnit v="MAW"/>', '@@<MeasurementUnit v="Z02"/>')
+    fault("original-sender-form", 6, 1, 0, '<OriginalSenderIdentification v="4012345000047"', '@@<OriginalSenderIdentification v=""')
+    fault("original-version-1000", 6, 1, 0, '<OriginalDocumentVersion v="7"/>', '@@<OriginalDocumentVersion v="1000"/>')
+    fault("original-date-time-no-v", 5, 1, 0, '<OriginalDocumentDateTime v="2024-05-05T10:11:12Z"/>', "@@<OriginalDocumentDateTime/>")
+    in_one("one-original-document-id-missing", 8, 1, 0, ('<OriginalDocumentIdentification v="OD-7"/>\n', ""), ("<Period>", "@@<Period>"))
+    in_one("one-original-sender-missing", 8, 1, 0, (re.match("(?s).*?\n", ORIGINALS)[0], ""), ("<Period>", "@@<Period>"))
+    fault("time-interval-later", 8, 1, 0, f'<TimeInterval v="{DAY}"/>', '@@<TimeInterval v="2024-05-06T22:15Z/2024-05-07T22:00Z"/>')
+    fault("resolution-pt60m", 8, 1, 0, '<Resolution v="PT15M"/>', '@@<Resolution v="PT60M"/>')
+    fault("pos-skips", 8, 1, 2, '<Pos v="2"/>', '@@<Pos v="3"/>')
+    fault("pos-101", 8, 1, 2, '<Pos v="2"/>', '@@<Pos v="101"/>')
+    fault("pos-100000", 6, 1, 2, '<Pos v="2"/>', '@@<Pos v="100000"/>')
+    fault("qty-five-point", 6, 1, 2, '<Qty v="1.5"/>', '@@<Qty v="5."/>')
+    scheme = 'codingScheme="X99"'
+    for name, refusal, series, old, new in (
+            ("document-id-36", 6, 0, '<DocumentIdentification v="D-1"', f'<DocumentIdentification v="{36 * "x"}"'),
+            ("process-type-code", 7, 0, '<ProcessType v="A14"', '<ProcessType v="A15"'),
+            ("sender-scheme", 7, 0, '<SenderIdentification v="4012345000016" codingScheme="A10"',
+             '<SenderIdentification v="4012345000016" ' + scheme),
+            ("receiver-form", 6, 0, '<ReceiverIdentification v="4012345000023"', '<ReceiverIdentification v="401234500002Z"'),
+            ("receiver-scheme", 7, 0, receiver[:-2], '<ReceiverIdentification v="4012345000023" ' + scheme),
+            ("receiver-role-code", 7, 0, '<ReceiverRole v="A39"', '<ReceiverRole v="A27"'),
+            ("series-id-36", 6, 1, '<TimeSeriesIdentification v="T-1"', f'<TimeSeriesIdentification v="{36 * "x"}"'),
+            ("product-code", 7, 1, '<Product v="8716867000016"', '<Product v="8716867000023"'),
+            ("in-area-scheme", 7, 1, into[:-3], '<InArea v="10YDE-VE-------2" ' + scheme),
+            ("out-area-space", 7, 1, '<OutArea v="10YDE-RWENET---I"', '<OutArea v="10YDE-RWENET---I "'),
+            ("in-party-scheme", 7, 1, taking[:-2], '<InParty v="11XINVENTED-IN-A" ' + scheme),
+            ("original-sender-scheme", 7, 1, '<OriginalSenderIdentification v="4012345000047" codingScheme="NDE"',
+             '<OriginalSenderIdentification v="4012345000047" ' + scheme),
+            ("original-document-id-36", 6, 1, '<OriginalDocumentIdentification v="OD-7"',
+             f'<OriginalDocumentIdentification v="{36 * "ü"}"'),
+            ("original-date-time-no-seconds", 6, 1, '<OriginalDocumentDateTime v="2024-05-05T10:11:12Z"',
+             '<OriginalDocumentDateTime v="2024-05-05T10:11Z"'),
+            ("original-series-id-36", 6, 1, '<OriginalTimeSeriesIdentification v="OS-7"',
+             f'<OriginalTimeSeriesIdentification v="{36 * "x"}"'),
+            ("time-interval-form", 6, 1, f'<TimeInterval v="{DAY}"', f'<TimeInterval v=" {DAY}"')):
+        fault(name, refusal, series, 0, old, MARK + new)
+    fault("period-ends-at-2", 3, 1, 2, '<Qty v="1.5"/></Interval>\n', '<Qty v="1.5"/></Interval>\n@@</Period>')
+
+
+def counts_of_one():
+    def counted(name, refusal, count, period):
+        """Some intervals, and the mark at the end tag of Period."""
+        text = one(schedule(first(count), period=period), period=period)
+        refused("one-" + name, refusal, 1, 1, count, edited(text, ("</Period>", "@@</Period>")))
+    counted("91-of-92", 3, 91, SPRING)
+    counted("91-of-96", 3, 91, DAY)
+    counted("95-of-96", 8, 95, DAY)
+    counted("92-of-100", 8, 92, AUTUMN)
+    counted("99-of-100", 8, 99, AUTUMN)
+    refused("one-93-of-92", 8, 1, 1, 93, one(schedule(first(93), period=SPRING), period=SPRING).replace('<Pos v="93"/>', '@@<Pos v="93"/>'))
+    refused("one-97-of-96", 8, 1, 1, 97, one(schedule(first(97))).replace('<Pos v="97"/>', '@@<Pos v="97"/>'))
+    refused("one-101-of-100", 3, 1, 1, 100, one(schedule(first(101), period=AUTUMN), period=AUTUMN).replace(
+        '<Interval><Pos v="101"/>', '@@<Interval><Pos v="101"/>'))
+
+
+# ---------------------------------------------------------------- Refused: tables full, identifications used, several faults, late faults
+
+def missing_rows():
+    """Missing elements show at the next tag that can't follow: each element is followed by the one that the mark stands at."""
+    def missing(document, text, kind, series, order):
+        for name, following in zip(order, order[1:]):
+            own = re.search(f"<{name}[ >].*\n", text)[0]
+            assert text.count(own + "<" + following) == 1, name
+            words = re.sub("([A-Z])", r"-\1", name).lower()
+            refused(document + "-missing" + words, 3, kind, series, 0, text.replace(own, MARK))
+    top = ("DocumentIdentification DocumentVersion DocumentType ProcessType SenderIdentification SenderRole "
+           "ReceiverIdentification ReceiverRole DocumentDateTime TimePeriodCovered ").split()
+    missing("two", ALL_TWO, 2, 0, top + ["CostTimeSeries"])
+    missing("one", BEGUN_ONE, 1, 0, top + ["ScheduleTimeSeries"])
+    missing("two", ALL_TWO.replace(DIRECTION, "").replace(CONNECTING, ""), 2, 1,
+            "TimeSeriesIdentification BusinessType Product ResourceObject ResourceProvider CurveType MeasurementUnit Status".split())
+    missing("one", BEGUN_ONE, 1, 1, ("TimeSeriesIdentification BusinessType Product InArea OutArea InParty OutParty MeasurementUnit "
+                                     "OriginalSenderIdentification").split())
+    for document, text, kind in (("two", ALL_TWO, 2), ("one", BEGUN_ONE, 1)):
+        missing(document, text, kind, 1, ["TimeInterval", "Resolution", "Interval"])
+
+
+def near_names():
+    in_two("near-element-document-version", 3, 0, 0, ('<DocumentVersion v="3"/>', '@@<DocumentVersiom v="3"/>'))
+    in_two("near-element-original", 3, 1, 0, ('<OriginalDocumentVersion v="7"/>', '@@<OriginalDocumentVersions v="7"/>'))
+    in_two("near-element-interval", 3, 1, 1, ('<Interval><Pos v="5"/>', '@@<InterVal><Pos v="5"/>'))
+    in_two("near-element-pos", 3, 1, 2, ('<Pos v="5"/>', '@@<Po v="5"/>'))
+    in_two("near-element-qty", 3, 1, 2, ('<Qty v="-3.25"/>', '@@<Qtz v="-3.25"/>'))
+    in_two("near-end-tag", 3, 1, 2, ("</CostTimeSeries>", "@@</CostTimeSerie>"))
+    in_one("near-element-in-party", 3, 1, 0, ("<InParty", "@@<InPartY"))
+    in_one("near-element-in-area", 3, 1, 0, ("<InArea", "@@<inArea"))
+    in_one("near-attribute-scheme", 5, 1, 0, ('<OutArea v="10YDE-RWENET---I" codingScheme', '@@<OutArea v="10YDE-RWENET---I" codingscheme'))
+    refused("near-attribute-of-root", 5, 0, 0, 0, "@@" + START_2.replace("Version", "version"))
+
+
+def places_in_notes():
+    """Places with one, two and three groups of seven bits."""
+    for place in (127, 128, 16383, 16384):
+        refused(f"place-{place}", 3, 0, 0, 0, place * " " + "@@<a/>")
+
+
+def full_tables():
+    full = two(*(cost(f"S-{i}", pairs=[(1, 1)]) for i in range(64)))
+    for name, refusal, start in (("65-series", 4, "<CostTimeSeries>"), ("65-series-attribute", 4, '<CostTimeSeries v="1">'),
+                                 ("65-series-empty-tag", 3, "<CostTimeSeries/>"), ("64-series-other-name", 3, "<ScheduleTimeSeries>"),
+                                 ("64-series-attribute-twice", 2, '<CostTimeSeries v="1" v="1">')):
+        refused("two-" + name, refusal, 2, 64, 64, edited(full, (END_2, f"@@{start}" + cost("S-64").partition("\n")[2] + END_2)))
+
+
+def used_identifications():
+    used = '<TimeSeriesIdentification v="%s"/>'
+    refused("two-id-used-next", 9, 2, 2, 2, two(cost(), cost("S-2").replace(used % "S-2", "@@" + used % "S-1")))
+    refused("two-id-used-not-neighbours", 9, 2, 4, 5, two(
+        cost("ä"), cost("b", pairs=[(1, 1)]), cost("c"), cost("S").replace(used % "S", "@@" + used % "ä")))
+    refused("two-id-used-by-the-first-of-64", 9, 2, 64, 63, two(
+        *(cost(f"S-{i}", pairs=[(1, i)]) for i in range(63)), cost("S").replace(used % "S", "@@" + used % "S-0")))
+    refused("two-id-used-empty", 9, 2, 3, 4, two(cost(""), cost("b"), cost("S").replace(used % "S", "@@" + used % "")))
+    refused("two-id-used-unknown-attribute", 5, 2, 2, 2, two(
+        cost(), cost("S").replace(used % "S", '@@<TimeSeriesIdentification w="" v="S-1"/>')))
+    refused("two-id-used-not-due", 3, 2, 1, 0, two(cost().replace("<Product", "@@" + used % "S-1" + "<Product")))
+    refused("two-id-used-other-quotes", 9, 2, 2, 2, two(
+        cost(), cost("S").replace(used % "S", "@@<TimeSeriesIdentification v = 'S-1' ></TimeSeriesIdentification>")))
+    refused("one-id-used", 9, 1, 2, 96, one(schedule(first(96)), schedule([], "T").replace(used % "T", "@@" + used % "T-1")))
+
+
+def several_faults():
+    in_two("several-6-then-2", 6, 0, 0, ('<DocumentVersion v="3"/>', '@@<DocumentVersion v=""/>'), ("<Direction", "<&"))
+    in_two("several-7-then-3", 7, 0, 0, ('<ProcessType v="A14"/>', '@@<ProcessType v=""/>'), (STATUS, STATUS + STATUS))
+    in_two("several-8-then-5", 8, 1, 1, ('<Pos v="1"/>', '@@<Pos v="3"/>'), ('<Qty v="10.5"/>', "<Qty/>"))
+    in_two("several-3-then-2", 3, 0, 0, ('\n<DocumentVersion v="3"/>', '@@\nx'), ("<Direction", "<&"))
+    in_two("several-not-due-and-wrong-value", 3, 0, 0, ('<DocumentVersion v="3"/>', '@@<Qty w="x"/>'))
+    in_two("several-differs-and-unknown", 5, 1, 0, (f'<TimeInterval v="{DAY}"/>', f'@@<TimeInterval v="{SPRING}" w=""/>'))
+    in_two("several-resolution-and-unknown", 5, 1, 0, ('<Resolution v="PT15M"/>', '@@<Resolution v="" w=""/>'))
+    in_two("several-area-and-scheme", 7, 1, 0, (CONNECTING, '@@<ConnectingArea v="" codingScheme=""/>'))
+
+
+def late_faults():
+    whole = ALL_TWO.rstrip("\n")
+    for name, refusal, text in (("text", 3, "@@\n."), ("second-root", 3, "@@" + START_2), ("second-root-empty-tag", 3, "@@<a/>"),
+                                ("end-tag-again", 3, "@@" + END_2), ("reference", 2, "@@&#10;"), ("comment-cut", 2, "\n@@<!-- "),
+                                ("bad-utf-8", 2, "@@\n\udcc3"), ("declaration", 2, "\n@@" + DECLARED)):
+        refused("late-" + name, refusal, 2, 1, 2, whole + text)
+    in_two("late-no-root-end", 3, 1, 2, (END_2 + "\n", "\n@@"))
+    in_two("late-wrong-root-end", 3, 1, 2, (END_2, "@@" + END_1))
+    in_two("late-wrong-leaf-end", 3, 1, 2, ('<Qty v="-3.25"/>', '<Qty v="-3.25">@@</Pos>'))
+    in_two("late-start-in-leaf", 3, 1, 2, ('<Qty v="-3.25"/>', '<Qty v="-3.25">@@<Qty v="1"/></Qty>'))
+    in_two("late-leaf-not-ended", 3, 1, 2, ('<Qty v="-3.25"/>', '<Qty v="-3.25">@@'))
+    in_two("late-series-not-ended", 3, 1, 2, ("</CostTimeSeries>\n", "@@"))
+    refused("late-third-series", 6, 2, 3, 5, two(cost(), cost("S-2"), cost("S-3").replace('<Qty v="10.5"/>', '@@<Qty v="10.5.0"/>')))
+    full = one(schedule(first(96)))
+    refused("one-late-qty", 6, 1, 1, 96, edited(full, ('<Qty v="95.5"/>', '@@<Qty v="95,5"/>')))
+    refused("one-late-text", 3, 1, 1, 96, edited(full, ("</Period>\n</ScheduleTimeSeries>", "</Period>@@\n-</ScheduleTimeSeries>")))
+    refused("one-late-second-root", 3, 1, 1, 96, full.rstrip("\n") + "@@" + START_2)
+    refused("one-late-cut", 2, 1, 1, 96, full.rpartition(END_1)[0] + "@@</Beschaffung")
+    refused("one-late-no-root-end", 3, 1, 1, 96, full.rpartition(END_1)[0] + "@@")
+
+
+# ---------------------------------------------------------------- Examples of 01 that a sample cannot show
+
+def other_examples():
+    assert groups(300) == b"\xac\x02"
+    assert [thousandths(text) for text in ("-0", "-0.001", "999999999999.999")] == [0, -1, 999999999999999]
+    assert all(thousandths(text) is None for text in ("5.", ".5", "+5", "1.0000", "1234567890123"))
+    assert read(b"", note_bytes=15)[:7] == (10, 0, 0, 0, 0, 0, b"")
+    assert read(bytes(1_048_577))[:7] == (1, 0, 0, 0, 0, 0, bytes((1, 0, 0, 0, 0)))
+    assert read(b" " * 1_048_576)[:2] == (3, 1_048_576)
+    # 2,049 intervals are longer than 65,536 bytes, so that smaller tables show the full ones.
+    doc = raw(ALL_TWO)
+    second, start = doc.rindex(b"<Interval>"), doc.index(b"<CostTimeSeries>")
+    assert read(doc, 8, 2, 2).refusal == 0
+    assert read(doc, 15, 2, 9).amount_table == [10500, -3250, 0, 0, 0, 0, 0, 0, 0]
+    assert read(doc, 7, 0, 0)[:6] == (4, start, 2, 0, 0, 0)
+    assert read(doc, 8, 1, 2)[:6] == read(doc, 8, 2, 1)[:6] == (4, second, 2, 1, 1, 0)
+    assert read(doc.replace(b"<Interval><Pos v=\"5\"/>", b"<Interval v=''>"), 8, 1, 1)[:2] == (4, second)
+    assert read(doc.replace(b"<Interval><Pos v=\"5\"/>", b"<Interval/>"), 8, 1, 1)[:2] == (3, second)
+    hundred = raw(one(schedule(first(101), period=AUTUMN), period=AUTUMN))
+    assert read(hundred, 8, 100, 100)[:2] == (3, hundred.rindex(b"<Interval>"))
+
+
+# ---------------------------------------------------------------- The script
+
+def check(name, sample, answer):
+    """The reader's answer is the one that the sample states."""
+    assert answer[:6] == sample[1:7], (name, answer[:6], sample[1:7])
+    if sample.rows is None:
+        assert not any(answer.series_table + answer.position_table + answer.amount_table), name
+        return
+    at = 0
+    for i, (identification, thing, business, pairs) in enumerate(sample.rows):
+        row = answer.series_table[8 * i:8 * i + 8]
+        said = [sample.doc[row[k]:row[k] + row[k + 1]] for k in (0, 2, 4)]
+        assert said == [raw(identification), raw(thing), raw(business)] and row[6:] == [at, len(pairs)], (name, i, said)
+        assert sample.doc[row[0] - 1:row[0]] in (b'"', b"'"), (name, i)
+        assert answer.position_table[at:at + len(pairs)] == [pos for pos, _ in pairs], (name, i)
+        assert answer.amount_table[at:at + len(pairs)] == [amount for _, amount in pairs], (name, i)
+        at += len(pairs)
+    assert not any(answer.series_table[8 * len(sample.rows):] + answer.position_table[at:] + answer.amount_table[at:]), name
+
+
+def line(name, answer):
+    checks = [check_number(table) for table in answer[7:]]
+    return " ".join(str(word) for word in (name, *answer[:6], len(answer.note), answer.note.hex().upper(), *checks))
+
+
+def main():
+    for group in (accepted_two, accepted_values, accepted_items, accepted_one, short_documents, declarations, unreadable_items,
+                  other_text, rows_of_head, rows_of_series, rows_of_originals, rows_of_period, rows_of_one, counts_of_one,
+                  missing_rows, near_names, places_in_notes, full_tables, used_identifications, several_faults, late_faults,
+                  other_examples):
+        group()
+    if len(sys.argv) > 1:
+        sys.stdout.buffer.write(SAMPLES[sys.argv[1]].doc)
+        return
+    folder = Path(__file__).resolve().parent.parent / "crates" / "samples_run"
+    names = sorted(SAMPLES)
+    for name in names:
+        answer = read(SAMPLES[name].doc)
+        check(name, SAMPLES[name], answer)
+        assert (folder / "data" / (name + ".xml")).read_bytes() == SAMPLES[name].doc, name
+        print(line(name, answer))
+    assert (folder / "args").read_text().split() == [name + ".xml" for name in names]
+    assert len(list((folder / "data").iterdir())) == len(names), "data has other files"
+
+
+if __name__ == "__main__":
+    main()
