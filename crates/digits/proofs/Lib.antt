@@ -1,0 +1,12 @@
+pub mod Places
+pub mod Tests
+pub mod Runs
+pub mod Chars
+pub mod Pieces
+pub mod Spans
+pub mod Ends
+pub mod Others
+pub mod Items
+pub mod Parts
+pub mod Begins
+pub mod Values

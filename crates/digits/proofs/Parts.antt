@@ -1,0 +1,186 @@
+-- Where the parts of an item stand, and which of them are the same where digits are changed. Assumes nothing.
+use Prim.Native.Nat.{ℕ, suc, _+_, _≤_, _<_}
+use mathlib.Core.Path.{_≡_, refl}
+use mathlib.Core.List.{List, [], _∷_}
+use mathlib.Core.Logic.{_⊎_, inl, inr, ⊎-elim}
+use native.Mathlib.Omega.{arith}
+use lib.Dec.{eqb, ltb}
+use lib.ListN.{take, drop}
+use Rattle.lists.proofs.Cases.{by-cond}
+use Rattle.slices.specs.Bytes.{byte}
+use Rattle.slices.specs.Run.{run}
+use Rattle.slices.specs.Same.{same, firstAt}
+use Rattle.slices.specs.Text.{text}
+use Rattle.characters.specs.Says.{allChars}
+use Rattle.attributes.specs.Names.{nameStart, nameByte, white}
+use Rattle.attributes.specs.Attribute.{partOf}
+use Rattle.tags.specs.Known.{absent, noneKnown, noted}
+use Rattle.tags.specs.Tail.{Attr, Ends, closed, torn, ends, keep, twice}
+use Rattle.tags.specs.declared.Span.{Span}
+use Rattle.tags.specs.declared.Known.{Known}
+use Rattle.items.specs.Comment.{commentTo, comment}
+use Rattle.items.specs.Text.{textByte, textTo, textItem}
+use Rattle.items.specs.Item.{tagOf, tagItem, startTag, endTag, endName, endClose, commentItem, commentTag, item}
+use Rattle.items.specs.declared.Tag.{Tag}
+use Rattle.items.specs.declared.Item.the-variants.{Start, Empty, End}
+use Rattle.digits.specs.Alike.{Alike}
+use Rattle.digits.specs.Items.{InSpan, InV, SameButV, Stands, Apart, IsTag, ValuesLaid, TagLaid, Laid, valueIn, PartsSame}
+use Rattle.digits.proofs.Places.{alike-part, part-same}
+use Rattle.digits.proofs.Spans.{Within, ends-ordered}
+
+-- what is kept of the attributes up to the place `to` of a tag whose name has n bytes
+abbrev Kept : ℕ → ℕ → Known → Type 0
+Kept n to k = ValuesLaid n to (k .v) (k .coding) (k .version)
+
+stands-on : (n to more : ℕ) (x : Span) → to ≤ more → Stands n to x → Stands n more x
+stands-on n to more x h (inl e) = inl e
+stands-on n to more x h (inr e) = inr (e .0, omega (arith, e .1))
+
+-- no place of a value stands behind it
+ended : (n to : ℕ) (x : Span) → Stands n to x → (i : ℕ) → InSpan i x → i < to
+ended n to x (inl e) i h = omega (arith, h .1, h .0, e .0, e .1)
+ended n to x (inr e) i h = omega (arith, h .1, e .1)
+
+-- one more value a, behind `from`
+module _ (n from : ℕ) (k : Known) (name : List ℕ) (a : Span) (low : 1 + n ≤ from) (h : from < a .start) (r : Kept n (suc from) k) where
+  new : Stands n (suc (a .start + a .len)) a
+  new = inr (omega arith, omega arith)
+
+  old : (x : Span) → Stands n (suc from) x → Stands n (suc (a .start + a .len)) x
+  old x s = stands-on n (suc from) (suc (a .start + a .len)) x (omega arith) s
+
+  apart : (x : Span) → Stands n (suc from) x → (i : ℕ) → InSpan i a → InSpan i x → ⊥
+  apart x s i p q = let e = ended n (suc from) x s i q in omega (arith, p .0, e)
+
+  noted-kept : Kept n (suc (a .start + a .len)) (noted k name a)
+  unfolding noted
+  noted-kept =
+      by-cond P (same name (text "v"))
+      (record { v = new; coding = old (k .coding) (r .coding); version = old (k .version) (r .version); v-coding = apart (k .coding) (r .coding); v-version = apart (k .version) (r .version) })
+      (by-cond P (same name (text "codingScheme"))
+      (record { v = old (k .v) (r .v); coding = new; version = old (k .version) (r .version); v-coding = λ i p q. apart (k .v) (r .v) i q p; v-version = r .v-version })
+      (by-cond P (same name (text "DtdBDEWNachrichtenVersion"))
+      (record { v = old (k .v) (r .v); coding = old (k .coding) (r .coding); version = new; v-coding = r .v-coding; v-version = λ i p q. apart (k .v) (r .v) i q p })
+      (record { v = old (k .v) (r .v); coding = old (k .coding) (r .coding); version = old (k .version) (r .version); v-coding = r .v-coding; v-version = r .v-version })))
+    where
+      P : Known → Type 0
+      P = Kept n (suc (a .start + a .len))
+
+keep-kept : (n from to : ℕ) (k : Known) (more : List Attr) → 1 + n ≤ from → from < to → Within from to more → Kept n (suc from) k → Kept n to (keep k more)
+unfolding keep Within
+keep-kept n from to k [] l h w r =
+    record {
+      v = stands-on n (suc from) to (k .v) h (r .v);
+      coding = stands-on n (suc from) to (k .coding) h (r .coding);
+      version = stands-on n (suc from) to (k .version) h (r .version);
+      v-coding = r .v-coding;
+      v-version = r .v-version;
+    }
+keep-kept n from to k (a ∷ more) l h w r =
+    keep-kept n (a .value .start + a .value .len) to (noted k (a .name) (a .value)) more (omega (arith, w .0)) (w .1) (w .2)
+    (noted-kept n from k (a .name) (a .value) l (w .0) r)
+
+none-kept : (n to : ℕ) → Kept n to noneKnown
+unfolding noneKnown absent
+none-kept n to =
+    record { v = inl (refl, refl); coding = inl (refl, refl); version = inl (refl, refl); v-coding = off; v-version = off }
+  where
+    off : Apart (record { start = 0; len = 0 }) (record { start = 0; len = 0 })
+    off i p q = omega (arith, p .1)
+
+module _ (before : ℕ) (s : List ℕ) where
+  ends-laid : (n : ℕ) (x : Ends) → ends s (1 + n) ≡ x → Laid (tagItem before n x)
+  unfolding tagItem tagOf ends Laid
+  ends-laid n torn q = tt
+  ends-laid n (closed more empty e) q = by-cond Laid (twice more) tt (by-cond Laid empty laid laid)
+    where
+      laid : TagLaid (tagOf n (keep noneKnown more) e)
+      laid =
+          let o = ends-ordered (drop (1 + n) s) 0 (1 + n) more empty e q in
+          let k = keep-kept n (1 + n + 0) e noneKnown more (omega arith) (o .end) (o .values) (none-kept n _) in
+          record { name = omega (arith, o .end); values = k }
+
+  start-laid : Laid (startTag before s)
+  unfolding startTag Laid
+  start-laid = by-cond Laid (nameStart (byte s 1)) (ends-laid _ _ refl) tt
+
+  end-laid : Laid (endTag before s)
+  unfolding endTag endName endClose Laid
+  end-laid =
+      let n = run nameByte (drop 2 s) in
+      by-cond Laid (nameStart (byte s 2)) (by-cond Laid (eqb (byte s (2 + n + run white (drop (2 + n) s))) 0x3E) (omega arith) tt) tt
+
+  reach-laid : (l : List ℕ) → Laid (commentItem before (comment l))
+  unfolding comment commentTo commentItem Laid
+  reach-laid l =
+      let n = firstAt (text "--") l in
+      by-cond (λ x. Laid (commentItem before x)) (eqb (byte l (n + 2)) 0x3E) (by-cond (λ x. Laid (commentItem before x)) (allChars (take n l)) tt tt) tt
+
+  comment-laid : Laid (commentTag before s)
+  unfolding commentTag Laid
+  comment-laid = by-cond Laid (eqb (byte s 2) 0x2D) (by-cond Laid (eqb (byte s 3) 0x2D) (reach-laid (drop 4 s)) tt) tt
+
+  text-laid : (n : ℕ) → Laid (textTo before s n)
+  unfolding textTo Laid
+  text-laid n =
+      by-cond Laid (eqb n 0) tt
+      (by-cond Laid (eqb (run white s) n) tt
+      (by-cond Laid (allChars (take n s))
+      (by-cond Laid (ltb (firstAt (text "&") (take n s)) n) tt (by-cond Laid (ltb (firstAt (text "]]>") (take n s)) n) tt tt))
+      tt))
+
+  pub item-laid : Laid (item before s)
+  unfolding item textItem
+  item-laid =
+      by-cond Laid (eqb (byte s 0) 0x3C)
+      (by-cond Laid (eqb (byte s 1) 0x2F) end-laid (by-cond Laid (eqb (byte s 1) 0x21) comment-laid start-laid))
+      (text-laid (run textByte s))
+
+-- a value that no changed digit stands in
+value-same : (t : Tag) (x : Span) {s s′ : List ℕ} → Stands (t .name) (t .len) x → Alike s s′
+    → ((i : ℕ) → i < t .len → InSpan i x → byte s i ≡ byte s′ i) → valueIn s x ≡ valueIn s′ x
+value-same t x stands r h = part-same (x .start) (x .len) r (λ i p q. h i (ended (t .name) (t .len) x stands i (p, q)) (p, q))
+
+module _ (t : Tag) (laid : TagLaid t) {s s′ : List ℕ} (r : Alike s s′)
+    (h : (i : ℕ) → i < t .len → (byte s i ≡ byte s′ i) ⊎ InSpan i (t .v)) where
+  other : (x : Span) → Stands (t .name) (t .len) x → Apart (t .v) x → valueIn s x ≡ valueIn s′ x
+  other x stands apart = value-same t x stands r (λ i p q. ⊎-elim (λ e. e) (λ e. absurd (apart i e q)) (h i p))
+
+  behind : (i : ℕ) → i < 1 + t .name → InSpan i (t .v) → ⊥
+  behind i p e = ⊎-elim (λ z. omega (arith, z .0, z .1, e .1)) (λ z. omega (arith, z .0, e .0)) (laid .values .v)
+
+  parts : PartsSame t s s′
+  parts =
+      record {
+        name = part-same 1 (t .name) r (λ i p q. ⊎-elim (λ e. e) (λ e. absurd (behind i q e)) (h i (omega (arith, laid .name))));
+        v = alike-part (t .v .start) (t .v .len) r;
+        coding = other (t .coding) (laid .values .coding) (laid .values .v-coding);
+        version = other (t .version) (laid .values .version) (laid .values .v-version);
+      }
+
+module _ (before : ℕ) (s : List ℕ) (t : Tag) (is : IsTag (item before s) t) where
+  pub tag-laid : TagLaid t
+  unfolding Laid
+  tag-laid = ⊎-elim (λ e. rw e at (item-laid before s)) (λ e. rw e at (item-laid before s)) is
+
+  -- what a tag says where digits are changed in its `v` and behind it
+  pub tag-parts : (s′ : List ℕ) → SameButV (item before s) s s′ → PartsSame t s s′
+  unfolding InV
+  tag-parts s′ h =
+      parts t tag-laid (h .alike)
+      (⊎-elim
+      (λ e. let g : SameButV (Start t) s s′ = rw e at h in g .inside)
+      (λ e. let g : SameButV (Empty t) s s′ = rw e at h in g .inside)
+      is)
+
+  -- where digits are changed behind it alone, its `v` is the same too
+  pub tag-v : (s′ : List ℕ) → Alike s s′ → ((i : ℕ) → i < t .len → byte s i ≡ byte s′ i) → valueIn s (t .v) ≡ valueIn s′ (t .v)
+  tag-v s′ r h = value-same t (t .v) (tag-laid .values .v) r (λ i p q. h i p)
+
+-- the name of an end tag
+pub end-name : (before : ℕ) (s s′ : List ℕ) (n e : ℕ) → item before s ≡ End n e → SameButV (item before s) s s′ → partOf s 2 n ≡ partOf s′ 2 n
+unfolding InV Laid
+end-name before s s′ n e q h =
+    let l : 2 + n < e = rw q at (item-laid before s) in
+    let g : SameButV (End n e) s s′ = rw q at h in
+    part-same 2 n (h .alike) (λ i p u. ⊎-elim (λ z. z) (λ z. absurd z) (g .inside i (omega arith)))

@@ -1,0 +1,74 @@
+-- A part of the document in which digits are changed, seen from the item at its front.
+use Prim.Native.Nat.{ℕ, _+_, _≤_, _<_}
+use mathlib.Core.Path.{_≡_}
+use mathlib.Core.List.{List}
+use mathlib.Core.Logic.{_⊎_}
+use Rattle.slices.specs.Bytes.{byte}
+use Rattle.attributes.specs.Attribute.{partOf}
+use Rattle.tags.specs.declared.Span.{Span}
+use Rattle.items.specs.Item.{itemEnd}
+use Rattle.items.specs.declared.Tag.{Tag}
+use Rattle.items.specs.declared.Item.{Item}
+use Rattle.items.specs.declared.Item.the-variants.{Start, Empty, End, Text, Comment, Refused}
+use Rattle.digits.specs.Alike.{Alike}
+
+abbrev pub InSpan : ℕ → Span → Type 0
+InSpan i x = (x .start ≤ i) × (i < x .start + x .len)
+
+-- "between the quotes of the attribute `v` in a start or empty tag": the place i, counted from the item's first byte
+unfoldable pub InV : Item → ℕ → Type 0
+InV (Start t) i = InSpan i (t .v)
+InV (Empty t) i = InSpan i (t .v)
+InV (End n e) i = ⊥
+InV (Text w e) i = ⊥
+InV (Comment e) i = ⊥
+InV (Refused p) i = ⊥
+
+-- s and s′ differ in digits alone; in the item x at their front, in those of its `v` alone
+pub record SameButV (x : Item) (s s′ : List ℕ) : Type 0 where
+  pub alike : Alike s s′
+  pub inside : (i : ℕ) → i < itemEnd x → (byte s i ≡ byte s′ i) ⊎ InV x i
+
+-- a value that is not there, or one behind the tag's name and before its end
+abbrev pub Stands : ℕ → ℕ → Span → Type 0
+Stands name len x = ((x .start ≡ 0) × (x .len ≡ 0)) ⊎ ((1 + name < x .start) × (x .start + x .len < len))
+
+-- two values that share no place
+abbrev pub Apart : Span → Span → Type 0
+Apart x y = (i : ℕ) → InSpan i x → InSpan i y → ⊥
+
+-- the item is this tag
+abbrev pub IsTag : Item → Tag → Type 0
+IsTag x t = (x ≡ Start t) ⊎ (x ≡ Empty t)
+
+-- where the values x of `v`, y of codingScheme and z of DtdBDEWNachrichtenVersion stand
+pub record ValuesLaid (name len : ℕ) (x y z : Span) : Type 0 where
+  pub v : Stands name len x
+  pub coding : Stands name len y
+  pub version : Stands name len z
+  pub v-coding : Apart x y
+  pub v-version : Apart x z
+
+-- where the parts of a tag stand
+pub record TagLaid (t : Tag) : Type 0 where
+  pub name : 1 + t .name < t .len
+  pub values : ValuesLaid (t .name) (t .len) (t .v) (t .coding) (t .version)
+
+unfoldable pub Laid : Item → Type 0
+Laid (Start t) = TagLaid t
+Laid (Empty t) = TagLaid t
+Laid (End n e) = 2 + n < e
+Laid (Text w e) = Unit {0}
+Laid (Comment e) = Unit {0}
+Laid (Refused p) = Unit {0}
+
+-- a value's bytes
+abbrev pub valueIn : List ℕ → Span → List ℕ
+valueIn s x = partOf s (x .start) (x .len)
+
+-- what a tag says in s and in s′: the same but for the digits of its `v`
+pub record PartsSame (t : Tag) (s s′ : List ℕ) : Type 0 where
+  pub name : partOf s 1 (t .name) ≡ partOf s′ 1 (t .name)
+  pub v : Alike (valueIn s (t .v)) (valueIn s′ (t .v))
+  pub coding : valueIn s (t .coding) ≡ valueIn s′ (t .coding)
+  pub version : valueIn s (t .version) ≡ valueIn s′ (t .version)

@@ -1,0 +1,11 @@
+pub mod Promises
+pub mod Examples
+pub mod Sheet
+pub mod Refusals
+pub mod Marks
+pub mod Steps
+pub mod Cells
+pub mod Readings
+pub mod Starts
+pub mod Counted
+pub mod Answers

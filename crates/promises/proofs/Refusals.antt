@@ -1,0 +1,152 @@
+-- The numbers with which a tag is refused: of those up to 9, and never 1, which is given to a document that is too long. Assumes nothing.
+use Prim.Native.Nat.{ℕ, _≤_, _<_, _-_}
+use mathlib.Core.Path.{_≡_, refl}
+use mathlib.Core.List.{List}
+use mathlib.Core.Bool.{Bool, true, false, cond}
+use mathlib.Core.Logic.{⊎-elim}
+use native.Mathlib.Omega.{arith}
+use lib.Dec.{leb, eqb}
+use lib.ListN.{getD}
+use borrow.Author.Tests.{leb-false}
+use Rattle.lists.proofs.Cases.{by-cond, leb-cases, zero-not-one}
+use Rattle.characters.specs.Says.{says}
+use Rattle.attributes.specs.Attribute.{partOf}
+use Rattle.trims.specs.Trim.{dropped}
+use Rattle.codes.specs.Lists.{listed, codesOf}
+use Rattle.forms.specs.Forms.{fixedVersion, quarterHour}
+use Rattle.times.specs.Times.{interval}
+use Rattle.times.specs.declared.Interval.{Interval}
+use Rattle.times.specs.declared.Interval.the-variants.{Minutes, NotInterval}
+use Rattle.numbers.specs.Number.{numberOf}
+use Rattle.numbers.specs.declared.Number.{Number}
+use Rattle.numbers.specs.declared.Number.the-variants.{Is, NotNumber}
+use Rattle.guideline.specs.Columns.{formOf, schemeOf, roleOf}
+use Rattle.guideline.specs.Kinds.{hasEnough}
+use Rattle.rules.specs.Rules.{unless, version, formRefusal, refused, periodFits, judgePeriodBy, judgePeriod, judgeIntervalBy, judgeInterval, positionFits, judgePositionBy, judgePosition, judge}
+use Rattle.rules.specs.declared.Held.{Held}
+use Rattle.rules.specs.declared.Judged.{Judged}
+use Rattle.items.specs.declared.Tag.{Tag}
+use Rattle.tags.specs.declared.Span.{Span}
+use Rattle.states.specs.Attributes.{attributesFit, valueOf, schemeRefusal, least, alsoScheme, judgeTag}
+use Rattle.states.specs.Moves.{heldOf, cutShort, tooMany, noRoom, halfOriginals, valuesJudged, judgedAt, startJudged, countRefusal, endRefusal}
+use Rattle.states.specs.declared.State.{State}
+use Rattle.states.specs.declared.Room.{Room}
+
+-- 0, which is none, or 2 to 9
+abbrev pub given : ℕ → Bool
+given n = cond (leb n 9) (cond (eqb n 1) false true) false
+
+abbrev pub Given : ℕ → Type 0
+Given n = given n ≡ true
+
+pub given-small : (n : ℕ) → Given n → n ≤ 9
+given-small n g =
+    ⊎-elim (λ y. y .0) (λ y. let z : false ≡ true = rw (y .1) at g in absurd (zero-not-one (cc))) (leb-cases n 9)
+
+pub given-not-one : (n : ℕ) → Given n → n ≡ 1 → ⊥
+given-not-one n g e = let z : false ≡ true = rw e at g in zero-not-one (cc)
+
+abbrev GivenBy : Judged → Type 0
+GivenBy j = Given (j .number)
+
+unless-given : (n : ℕ) (t : Bool) → Given n → Given (unless n t)
+unfolding unless
+unless-given n t h = by-cond Given t refl h
+
+form-given : (form : ℕ) (cs : List ℕ) → Given (formRefusal form cs)
+unfolding formRefusal
+form-given form cs =
+    by-cond Given (eqb form 1) (unless-given 6 _ refl)
+    (by-cond Given (eqb form 2) (unless-given 6 _ refl)
+    (by-cond Given (eqb form 3) (unless-given 6 _ refl)
+    (by-cond Given (eqb form 4) (unless-given 6 _ refl)
+    (by-cond Given (eqb form 5) (unless-given 6 _ refl)
+    (by-cond Given (eqb form 10) (unless-given 6 _ refl)
+    (by-cond Given (eqb form 11) (unless-given 6 _ refl)
+    (by-cond Given (eqb form 12) (unless-given 6 _ refl)
+    (by-cond Given (leb 32 form) (unless-given 7 _ refl) refl))))))))
+
+period-given : (kind : ℕ) (i : Interval) → GivenBy (judgePeriodBy kind i)
+unfolding judgePeriodBy
+period-given kind (Minutes from to) = by-cond GivenBy (periodFits kind from to) refl refl
+period-given kind NotInterval = refl
+
+interval-given : (from to : ℕ) (i : Interval) → GivenBy (judgeIntervalBy from to i)
+unfolding judgeIntervalBy
+interval-given from to (Minutes a b) = by-cond GivenBy (eqb a from) (by-cond GivenBy (eqb b to) refl refl) refl
+interval-given from to NotInterval = refl
+
+position-given : (kind quarters last : ℕ) (n : Number) → GivenBy (judgePositionBy kind quarters last n)
+unfolding judgePositionBy
+position-given kind quarters last (Is p) = by-cond GivenBy (positionFits kind quarters last p) refl refl
+position-given kind quarters last NotNumber = refl
+
+judge-given : (form : ℕ) (h : Held) (cs : List ℕ) → GivenBy (judge form h cs)
+unfolding judge judgePeriod judgeInterval judgePosition
+judge-given form h cs =
+    by-cond GivenBy (eqb form 6) (period-given (h .kind) (interval cs))
+    (by-cond GivenBy (eqb form 7) (interval-given (h .from) (h .to) (interval cs))
+    (by-cond GivenBy (eqb form 8) (unless-given 8 (quarterHour cs) refl)
+    (by-cond GivenBy (eqb form 9) (position-given (h .kind) (h .quarters) (h .last) (numberOf cs 5))
+    (form-given form cs))))
+
+scheme-given : (w : ℕ) (x : Span) (s : List ℕ) → Given (schemeRefusal w x s)
+unfolding schemeRefusal
+scheme-given w x s =
+    by-cond Given (eqb (schemeOf w) 0) refl
+    (by-cond Given (listed (codesOf (schemeOf w - 1)) (says (dropped (partOf s (x .start) (x .len))))) refl refl)
+
+least-given : (a b : ℕ) → Given a → Given b → Given (least a b)
+unfolding least
+least-given a b g h = by-cond Given (eqb a 0) h (by-cond Given (eqb b 0) g (by-cond Given (leb a b) g h))
+
+tag-given : (w : ℕ) (t : Tag) (h : Held) (s : List ℕ) → GivenBy (judgeTag w t h s)
+unfolding judgeTag alsoScheme
+tag-given w t h s =
+    by-cond GivenBy (eqb (roleOf w) 1)
+    (by-cond GivenBy (fixedVersion (says (partOf s (t .version .start) (t .version .len)))) refl refl)
+    (by-cond GivenBy (eqb (formOf w) 0) refl
+    (least-given (judge (formOf w) h (says (valueOf w (t .v) s)) .number) (schemeRefusal w (t .coding) s)
+    (judge-given (formOf w) h (says (valueOf w (t .v) s))) (scheme-given w (t .coding) s)))
+
+module _ (x : State) (kind : ℕ) (rows : List ℕ) (r : ℕ) (t : Tag) (s : List ℕ) (empty : Bool) (room : Room) where
+  pub start-given : Given (startJudged x kind rows r t s empty room .number)
+  unfolding startJudged judgedAt valuesJudged
+  start-given =
+      let w = getD rows r 0 in
+      by-cond GivenBy (cutShort empty rows r) refl
+      (by-cond GivenBy (tooMany x (roleOf w) kind) refl
+      (by-cond GivenBy (noRoom x (roleOf w) room) refl
+      (by-cond GivenBy (attributesFit w t) (by-cond GivenBy (halfOriginals x (roleOf w)) refl (tag-given w t (heldOf x kind) s)) refl)))
+
+-- a tag that is not refused passed the tests before
+past-number : (t : Bool) (n : ℕ) (j : Judged) → (n ≡ 0 → ⊥) → cond t (refused n) j .number ≡ 0 → (t ≡ false) × (j .number ≡ 0)
+past-number true n j f e = absurd (f e)
+past-number false n j f e = (refl, e)
+
+module _ (x : State) (kind : ℕ) (rows : List ℕ) (r : ℕ) (t : Tag) (s : List ℕ) (empty : Bool) (room : Room) where
+  -- among them that for room: "4: a due series or Interval start finds its table full"
+  roomy : startJudged x kind rows r t s empty room .number ≡ 0 → noRoom x (roleOf (getD rows r 0)) room ≡ false
+  unfolding startJudged judgedAt
+  roomy e =
+      let w = getD rows r 0 in
+      let a = past-number (cutShort empty rows r) 3 _ (λ z. omega arith) e in
+      let b = past-number (tooMany x (roleOf w) kind) 3 _ (λ z. omega arith) (a .1) in
+      past-number (noRoom x (roleOf w) room) 4 _ (λ z. omega arith) (b .1) .0
+
+  module _ (e : startJudged x kind rows r t s empty room .number ≡ 0) where
+    pub series-room : roleOf (getD rows r 0) ≡ 2 → x .series < room .series
+    unfolding noRoom
+    series-room q = leb-false (room .series) (x .series) (rw q at (roomy e))
+
+    pub interval-room : roleOf (getD rows r 0) ≡ 4 → x .intervals < room .intervals
+    unfolding noRoom
+    interval-room q = leb-false (room .intervals) (x .intervals) (rw q at (roomy e))
+
+pub end-given : (x : State) (rows : List ℕ) (r : ℕ) → Given (endRefusal x rows r)
+unfolding endRefusal countRefusal
+end-given x rows r =
+    let n = x .intervals - x .first in
+    by-cond Given (eqb (roleOf (getD rows r 0)) 3)
+    (by-cond Given (hasEnough (x .kind) n) (by-cond Given (eqb (x .kind) 1) (by-cond Given (eqb n (x .quarters)) refl refl) refl) refl)
+    refl
