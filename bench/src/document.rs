@@ -1,4 +1,4 @@
-//! A Kostenblatt of about a given size, made in memory. All values are invented.
+//! Sheets of about a given size, made in memory. All values are invented.
 
 struct Sheet {
     text: String,
@@ -34,13 +34,13 @@ impl Sheet {
     }
 }
 
-fn head(s: &mut Sheet) {
+fn head(s: &mut Sheet, document_type: &str, sender_role: &str) {
     s.leaf("DocumentIdentification", "KOB-2031-02-03-000417");
     s.leaf("DocumentVersion", "1");
-    s.leaf("DocumentType", "Z05");
+    s.leaf("DocumentType", document_type);
     s.leaf("ProcessType", "A14");
     s.coded("SenderIdentification", "9900000000017", "NDE");
-    s.leaf("SenderRole", "A27");
+    s.leaf("SenderRole", sender_role);
     s.coded("ReceiverIdentification", "9900000000024", "NDE");
     s.leaf("ReceiverRole", "A18");
     s.leaf("DocumentDateTime", "2031-02-02T10:15:00Z");
@@ -90,7 +90,7 @@ pub fn kostenblatt(size: usize, pretty: bool) -> Vec<u8> {
     const FRONT: usize = 1500; // a series without its intervals takes less
     let mut s = Sheet { text: String::new(), pretty, depth: 0 };
     s.open("<Kostenblatt DtdBDEWNachrichtenVersion=\"1.0\">");
-    head(&mut s);
+    head(&mut s, "Z05", "A27");
     let mut k = 0;
     while k == 0 || s.text.len() + FRONT < size {
         series(&mut s, k, size);
@@ -100,8 +100,45 @@ pub fn kostenblatt(size: usize, pretty: bool) -> Vec<u8> {
     s.text.into_bytes()
 }
 
+/// A series of a Beschaffungsanforderung, which has all of its 96 intervals.
+fn request(s: &mut Sheet, k: usize) {
+    s.open("<ScheduleTimeSeries>");
+    s.leaf("TimeSeriesIdentification", &format!("TS-{k:06}"));
+    s.leaf("BusinessType", "A02");
+    s.leaf("Product", "8716867000016");
+    s.coded("InArea", "10YDE-EON------1", "A01");
+    s.coded("OutArea", "10YDE-VE-------2", "A01");
+    s.coded("InParty", &format!("11X{k:012}A"), "A01");
+    s.coded("OutParty", "11XINVENTED----B", "A01");
+    s.leaf("MeasurementUnit", "MAW");
+    s.open("<Period>");
+    s.leaf("TimeInterval", "2031-02-02T23:00Z/2031-02-03T23:00Z");
+    s.leaf("Resolution", "PT15M");
+    for pos in 1..=96 {
+        interval(s, k, pos);
+    }
+    s.close("Period");
+    s.close("ScheduleTimeSeries");
+}
+
+/// As many whole series as `size` bytes hold, and one at least: a series has 96 intervals, so that no document of 4 KiB can hold one.
+pub fn beschaffungsanforderung(size: usize, pretty: bool) -> Vec<u8> {
+    let mut s = Sheet { text: String::new(), pretty, depth: 0 };
+    s.open("<Beschaffungsanforderung DtdBDEWNachrichtenVersion=\"1.0\">");
+    head(&mut s, "Z07", "A18");
+    let (mut k, mut one) = (0, 0);
+    while k == 0 || s.text.len() + one + TAIL < size {
+        let before = s.text.len();
+        request(&mut s, k);
+        one = one.max(s.text.len() - before);
+        k += 1;
+    }
+    s.close("Beschaffungsanforderung");
+    s.text.into_bytes()
+}
+
 /// A name that no other number has, of at least three letters and digits.
-fn name(mut k: usize) -> String {
+pub(crate) fn name(mut k: usize) -> String {
     const MARKS: &[u8] = b"abcdefghijklmnopqrstuvwxyzABCDEFGHIJKLMNOPQRSTUVWXYZ0123456789-_.:";
     let mut s = String::from((b'a' + (k % 26) as u8) as char);
     k /= 26;

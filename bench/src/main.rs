@@ -1,9 +1,5 @@
 //! Walks the items of a Kostenblatt with the reader, with expat and with quick-xml, side by side.
-mod document;
-mod peers;
-
-use std::hint::black_box;
-use std::time::Instant;
+use side_by_side::{best, document, peers, Walk};
 
 extern "C" {
     fn readable_len(doc: *const u8, len: usize) -> usize;
@@ -12,21 +8,6 @@ extern "C" {
 /// The place of the first unreadable item, or the length.
 fn reader(doc: &[u8]) -> usize {
     unsafe { readable_len(doc.as_ptr(), doc.len()) }
-}
-
-type Walk = fn(&[u8]) -> usize;
-
-/// Seconds of the quickest round of each walk; the walks take turns, so that all meet the same machine.
-fn best(doc: &[u8], walks: &[(&str, Walk)], rounds: usize) -> Vec<f64> {
-    let mut best = vec![f64::MAX; walks.len()];
-    for _ in 0..rounds {
-        for (k, (_, walk)) in walks.iter().enumerate() {
-            let began = Instant::now();
-            black_box(walk(black_box(doc)));
-            best[k] = best[k].min(began.elapsed().as_secs_f64());
-        }
-    }
-    best
 }
 
 fn main() {

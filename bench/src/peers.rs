@@ -1,4 +1,4 @@
-//! The peers: expat with handlers that do nothing, and quick-xml with every event and attribute taken.
+//! The peers: expat and libxml2 with handlers that do nothing, and quick-xml with every event and attribute taken.
 use quick_xml::events::Event;
 use quick_xml::Reader;
 use std::os::raw::{c_char, c_int, c_void};
@@ -53,4 +53,37 @@ pub fn quick(doc: &[u8]) -> usize {
             Err(_) => return 0,
         }
     }
+}
+
+/// libxml2's table of handlers (its header `parser.h`): 27 of them, a mark that the last ones are used, and those for names with their prefixes.
+#[repr(C)]
+struct Handlers {
+    first: [*const c_void; 27],
+    mark: u32,
+    own: *const c_void,
+    start: *const c_void,
+    end: *const c_void,
+    fault: *const c_void,
+}
+
+const CHARACTERS: usize = 17;
+const WHITE: usize = 18;
+const COMMENT: usize = 20;
+const SAX2: u32 = 0xDEED_BEAF;
+
+extern "C" {
+    fn xmlSAXUserParseMemory(handlers: *mut Handlers, own: *mut c_void, s: *const c_char, len: c_int) -> c_int;
+}
+
+type Name = *const c_char;
+extern "C" fn on_start_named(_: *mut c_void, _: Name, _: Name, _: Name, _: c_int, _: *const Name, _: c_int, _: c_int, _: *const Name) {}
+extern "C" fn on_end_named(_: *mut c_void, _: Name, _: Name, _: Name) {}
+
+pub fn libxml2(doc: &[u8]) -> usize {
+    let mut handlers = Handlers { first: [null(); 27], mark: SAX2, own: null(), start: on_start_named as *const c_void, end: on_end_named as *const c_void, fault: null() };
+    handlers.first[CHARACTERS] = on_data as *const c_void;
+    handlers.first[WHITE] = on_data as *const c_void;
+    handlers.first[COMMENT] = on_end as *const c_void;
+    let refused = unsafe { xmlSAXUserParseMemory(&mut handlers, std::ptr::null_mut(), doc.as_ptr().cast(), doc.len() as c_int) };
+    if refused == 0 { doc.len() } else { 0 }
 }

@@ -1,5 +1,4 @@
 pub mod Reading
 pub mod Forms
 pub mod Blind
-pub mod Examples
 pub mod Unique

@@ -1,7 +1,7 @@
 -- What holds of the document reader's answer, tables and note, from what holds of what was found. Assumes nothing.
-use Prim.Native.Nat.{ℕ, zero, suc, _-_, _^_, _≤_, _<_}
+use Prim.Native.Nat.{ℕ, _^_, _≤_, _<_}
 use mathlib.Core.Path.{_≡_, refl}
-use mathlib.Core.List.{List, [], _∷_, _++_}
+use mathlib.Core.List.{List}
 use mathlib.Core.Logic.{⊎-elim}
 use native.Mathlib.Omega.{arith}
 use lib.ListN.{length, take}
@@ -18,17 +18,13 @@ use Rattle.states.specs.Moves.{begun}
 use Rattle.reader.specs.Reading.{Out, blank, refusedAt, readSheet}
 use Rattle.reader.specs.Answer.{Outcome, noteFor, answerOf, told, noted, unnoted, readOf}
 use Rattle.reader.proofs.Sheets.{read-unnoted, read-noted}
-use Rattle.promises.specs.Rows.{ZeroFrom, ZeroPast, InRoom, Sized}
+use Rattle.promises.specs.Rows.{ZeroPast, InRoom, Sized}
 use Rattle.promises.specs.Answers.{fiveOf, atOnce}
-use Rattle.promises.specs.Counts.{before, starts, kindIn, seriesElement, intervalElement, itemsIn}
-use Rattle.promises.proofs.Cells.{zero-all, blank-past, blank-sized}
+use Rattle.promises.specs.Items.{before, starts, kindIn, seriesElement, intervalElement, itemsIn, PlaceOf}
+use Rattle.promises.proofs.Places.{sheet-here}
+use Rattle.promises.proofs.Cells.{blank-past, blank-sized}
 use Rattle.promises.proofs.Counted.{first-told, sheet-told}
 use Rattle.promises.proofs.Readings.{sheet-room, sheet-fine, sheet-cleared, sheet-long}
-
-append-past : (w z : List ℕ) → ZeroFrom 0 0 z → ZeroFrom (length w) 0 (w ++ z)
-append-past [] z p j h = p j h
-append-past (a ∷ w) z p zero h = absurd (omega arith)
-append-past (a ∷ w) z p (suc j) h = append-past w z p j (omega arith)
 
 -- the note of five small numbers, in a buffer of at least 16 bytes
 module _ (n : Note) (nb : ℕ) (h : AllBelow (2 ^ 21) (numbers n)) (r : 16 ≤ nb) where
@@ -44,19 +40,12 @@ module _ (n : Note) (nb : ℕ) (h : AllBelow (2 ^ 21) (numbers n)) (r : 16 ≤ n
   pub note-short : len ≤ 15
   note-short = rw (room-enough n nb h r .1) (fits-fifteen n h)
 
-  buffer-is : buffer ≡ padded nb (noteOf n)
+  pub buffer-is : buffer ≡ padded nb (noteOf n)
   unfolding left
   buffer-is = rw (le-leb (length (noteOf n)) nb fits) refl
 
-  pub note-is : take len buffer ≡ noteOf n
-  note-is = rw (room-enough n nb h r .1, buffer-is) (take-padded nb (noteOf n))
-
   pub note-back : noteIn (take len buffer) ≡ Taken n
-  note-back = rw note-is (round-trip n h)
-
-  pub note-past : ZeroFrom len 0 buffer
-  note-past =
-      rw (room-enough n nb h r .1, buffer-is) (append-past (noteOf n) (zeros (nb - length (noteOf n))) (zero-all 0 (nb - length (noteOf n)) 0))
+  note-back = rw (room-enough n nb h r .1, buffer-is, take-padded nb (noteOf n)) (round-trip n h)
 
 module _ (doc : List ℕ) (ns np na nb : ℕ) where
   abbrev sheet : Out
@@ -135,6 +124,10 @@ module _ (doc : List ℕ) (ns np na nb : ℕ) where
       (λ h. (record { series-rows = omega arith; position-rows = omega arith; amount-rows = omega arith }, blank-sized ns np na))
       (λ h. (sheet-room doc ns np na, sheet-fine doc ns np na .sized))
 
+  pub place-told : 16 ≤ nb → length doc ≤ 1048576 → PlaceOf doc (outcome .answer .place)
+  unfolding noted told answerOf
+  place-told h l = rw (← read-noted doc ns np na nb h) (sheet-here doc ns np na l)
+
   pub counts-told : (outcome .answer .kind ≡ kindIn (before (outcome .answer .place) (itemsIn doc)))
       × (outcome .answer .series ≡ starts (seriesElement (outcome .answer .kind)) (before (outcome .answer .place) (itemsIn doc)))
       × (outcome .answer .intervals ≡ starts intervalElement (before (outcome .answer .place) (itemsIn doc)))
@@ -164,12 +157,12 @@ module _ (doc : List ℕ) (ns np na nb : ℕ) where
       (ltb-cases 1048576 (length doc))
 
   pub note-told : 16 ≤ nb
-      → (outcome .answer .note ≤ 15)
-      × (take (outcome .answer .note) (outcome .note) ≡ noteOf (fiveOf (outcome .answer)))
+      → (outcome .answer .note ≡ length (noteOf (fiveOf (outcome .answer))))
+      × (outcome .answer .note ≤ 15)
+      × (outcome .note ≡ padded nb (noteOf (fiveOf (outcome .answer))))
       × (noteIn (take (outcome .answer .note) (outcome .note)) ≡ Taken (fiveOf (outcome .answer)))
-      × ZeroFrom (outcome .answer .note) 0 (outcome .note)
   unfolding noted told answerOf noteFor
   note-told h =
       let n = noteFor (sheet .found) in
       rw (← read-noted doc ns np na nb h)
-      (note-short n nb five-small h, note-is n nb five-small h, note-back n nb five-small h, note-past n nb five-small h)
+      (room-enough n nb five-small h .1, note-short n nb five-small h, buffer-is n nb five-small h, note-back n nb five-small h)

@@ -30,7 +30,7 @@ module _ {A : Type 0} (z : A) (n : ℕ) where
   store : (l : List A) (i : ℕ) (v : A) → i < n → ZeroFrom n z l → ZeroFrom n z (set l i v)
   store l i v h p j k = getD-set-other l i j v z (λ e. absurd (omega arith)) ∙ p j k
 
-pub zero-all : {A : Type 0} (z : A) (n m : ℕ) → ZeroFrom m z (replicate n z)
+zero-all : {A : Type 0} (z : A) (n m : ℕ) → ZeroFrom m z (replicate n z)
 zero-all z n m j h =
     ⊎-elim
     (λ y. getD-replicate n j z z (y .0))

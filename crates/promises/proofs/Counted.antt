@@ -28,7 +28,7 @@ use Rattle.reader.specs.Rows.{spanOf, usedBefore}
 use Rattle.reader.specs.Reading.{Tables, Out, blank, roomIn, refusedAt, acceptedAt, endedAt, withoutUsed, stepOf, tablesAfter, readItems, itemsRead, readAfter, readInto, orBlank, readSheet}
 use Rattle.reader.proofs.Ran.{read-next, read-stop, items-over}
 use Rattle.promises.specs.Rows.{ZeroPast, Sized}
-use Rattle.promises.specs.Counts.{startedIn, before, starts, kindIn, seriesElement, intervalElement, itemsBy, itemsIn}
+use Rattle.promises.specs.Items.{startedIn, before, starts, kindIn, seriesElement, intervalElement, itemsBy, itemsIn}
 use Rattle.promises.proofs.Steps.{Sound, Stepped, Rises}
 use Rattle.promises.proofs.Cells.{blank-past, blank-sized}
 use Rattle.promises.proofs.Readings.{Held, stepped, turned, passed, begun-held}

@@ -1,6 +1,5 @@
--- "P1 to P12 form a single table with a single proved statement": the statement, by computation. Assumes nothing.
+-- The table of examples and the accepted Kostenblatt, by computation: every definition on the way is unfolded. Assumes nothing.
 use mathlib.Core.Path.{_≡_, refl}
-use mathlib.Core.Bool.{true}
 use Rattle.slices.specs.Bytes.{byte}
 use Rattle.slices.specs.Run.{run}
 use Rattle.slices.specs.Same.{same, begins}
@@ -11,31 +10,57 @@ use Rattle.attributes.specs.Names.{nameStart, nameByte, white}
 use Rattle.attributes.specs.Attribute.{quote, fit, valueNext, valueOver, value, openingFrom, opening, attributeEnd, attributeQuote, attributeName, attribute, pieceAfter, piece, partOf}
 use Rattle.tags.specs.Known.{absent, noneKnown, oneMore as anotherKnown, noted as notedKnown}
 use Rattle.tags.specs.Tail.{onto, endsAfter, ends, keep, named, twice}
-use Rattle.items.specs.Item.{tagOf, tagItem, startTag, item}
+use Rattle.items.specs.Item.{endClose, endName, endTag, tagOf, tagItem, startTag, item}
 use Rattle.prolog.specs.Prolog.{markLen, beginAfter, begin}
-use Rattle.pictures.specs.Picture.{digit, takes, fitsOf}
+use Rattle.pictures.specs.Picture.{capital, capitalOrDigit, firstThree, digit, takes, fitsOf}
 use Rattle.pictures.specs.Number.{numberOf, numberAt}
+use Rattle.trims.specs.Trim.{space, dropLead, keep as keepEnd, dropTrail, dropped}
 use Rattle.numbers.specs.Digits.{digits, numberFrom, ended as nothingAfter, onlyDigits}
 use Rattle.numbers.specs.Amount.{minus, unsigned, fractionForm, unsignedForm, amountForm, filled, thousandths, signed, amountOf}
-use Rattle.forms.specs.Forms.{fixedVersion}
+use Rattle.numbers.specs.Number.{numberForm, atMostNine, numberWithin, numberOf as countOf}
+use Rattle.codes.specs.Lists.{lists, codesOf, listed}
+use Rattle.forms.specs.Forms.{held, identification, marketPartner, resourceObject, quarterHour, fixedVersion}
 use Rattle.times.specs.Calendar.{leap, monthDays, realDate, daysBefore, leapDay, dayNumber, dayOf}
 use Rattle.times.specs.Times.{minuteOn, minuteAt, isMinute, dateTime, between, interval}
-use Rattle.times.specs.Periods.{quarterHours, dayBound, dayPeriod}
-use Rattle.rules.specs.Rules.{unless, formRefusal, periodFits, judgePeriodBy, judgePeriod}
+use Rattle.times.specs.Periods.{costPeriod, quarterHours, dayBound, dayPeriod}
+use Rattle.rules.specs.Rules.{versionBy, version, amountBy, amount, judgeIntervalBy, judgeInterval, positionFits, judgePositionBy, judgePosition, judge, unless, formRefusal, periodFits, judgePeriodBy, judgePeriod}
 use Rattle.elements.specs.Names.{names, numberIn, elementNo}
 use Rattle.structure.specs.Rows.{nameOf, parentOf, required, repeated, nextIn, endsIn, startOf, endAt, endOf, endsAtOnce, closesDocument, overOf}
-use Rattle.guideline.specs.Columns.{formOf, schemeOf, roleOf}
-use Rattle.guideline.specs.Kinds.{kindOf, hasEnough}
+use Rattle.guideline.specs.Columns.{collapsed, formOf, schemeOf, roleOf}
+use Rattle.guideline.specs.Kinds.{takesAnother, kindOf, hasEnough}
 use Rattle.guideline.specs.Rows.{beschaffungsanforderung, kostenblatt, rowsOf}
-use Rattle.states.specs.Attributes.{there, agree, asksV, asksScheme, noOthers, attributesFit, judgeTag}
-use Rattle.states.specs.Moves.{begun, heldOf, cutShort, tooMany, noRoom, halfOriginals, valuesJudged, judgedAt, startJudged, placed, kept, entered, entryOf, startedBy, startedAt, started, countRefusal, moved, rootKind, kindTold, stepOn, step}
+use Rattle.states.specs.Attributes.{valueOf, schemeRefusal, least, alsoScheme, there, agree, asksV, asksScheme, noOthers, attributesFit, judgeTag}
+use Rattle.states.specs.Moves.{oneMore, oneSeries, oneInterval, oneOriginal, lastPos, covering, closedAt, endRefusal, endedAt as tagEnded, ended, begun, heldOf, cutShort, tooMany, noRoom, halfOriginals, valuesJudged, judgedAt, startJudged, placed, kept, entered, entryOf, startedBy, startedAt, started, countRefusal, moved, rootKind, kindTold, stepOn, step}
 use Rattle.notes.specs.Note.{groupsIn, flat, wrote, left}
 use Rattle.reader.specs.Items.{itemsAfter, itemsFrom}
-use Rattle.reader.specs.Rows.{spanOf, seriesAfter, positionsAfter, amountsAfter, usedBefore}
-use Rattle.reader.specs.Reading.{blank, roomOf, refusedAt, endedAt, withoutUsed, stepOf, tablesAfter, readItems, roomIn, itemsRead, readAfter, readInto, orBlank, readSheet}
+use Rattle.reader.specs.Rows.{quoted, cell, withView, thousandthsOf, identificationAt, used, spanOf, seriesAfter, positionsAfter, amountsAfter, usedBefore}
+use Rattle.reader.specs.Reading.{acceptedAt, blank, roomOf, refusedAt, endedAt, withoutUsed, stepOf, tablesAfter, readItems, roomIn, itemsRead, readAfter, readInto, orBlank, readSheet}
 use Rattle.reader.specs.Answer.{noteFor, answerOf, told, noted, readOf}
+use mathlib.Core.Bool.{true}
 use Rattle.promises.specs.Examples.{examples, allPass}
+use Rattle.promises.specs.Sheet.{sheet, sheetOutcome}
 
+computed : (allPass examples ≡ true) × (readOf sheet 17 4 4 16 ≡ sheetOutcome)
+unfolding byte run same begins walk seqLen control single charAt saidBy saidAt saysAfter says nameStart nameByte white quote fit valueNext valueOver
+    value openingFrom opening attributeEnd attributeQuote attributeName attribute pieceAfter piece partOf absent noneKnown anotherKnown
+    notedKnown onto endsAfter ends keep named twice endClose endName endTag tagOf tagItem startTag item markLen beginAfter begin capital
+    capitalOrDigit firstThree digit takes fitsOf numberOf numberAt space dropLead keepEnd dropTrail dropped digits numberFrom nothingAfter
+    onlyDigits minus unsigned fractionForm unsignedForm amountForm filled thousandths signed amountOf numberForm atMostNine numberWithin countOf
+    lists codesOf listed held identification marketPartner resourceObject quarterHour fixedVersion leap monthDays realDate daysBefore leapDay
+    dayNumber dayOf minuteOn minuteAt isMinute dateTime between interval costPeriod quarterHours dayBound dayPeriod versionBy version amountBy
+    amount judgeIntervalBy judgeInterval positionFits judgePositionBy judgePosition judge unless formRefusal periodFits judgePeriodBy
+    judgePeriod names numberIn elementNo nameOf parentOf required repeated nextIn endsIn startOf endAt endOf endsAtOnce closesDocument overOf
+    collapsed formOf schemeOf roleOf takesAnother kindOf hasEnough beschaffungsanforderung kostenblatt rowsOf valueOf schemeRefusal least
+    alsoScheme there agree asksV asksScheme noOthers attributesFit judgeTag oneMore oneSeries oneInterval oneOriginal lastPos covering closedAt
+    endRefusal tagEnded ended begun heldOf cutShort tooMany noRoom halfOriginals valuesJudged judgedAt startJudged placed kept entered entryOf
+    startedBy startedAt started countRefusal moved rootKind kindTold stepOn step groupsIn flat wrote left itemsAfter itemsFrom quoted cell
+    withView thousandthsOf identificationAt used spanOf seriesAfter positionsAfter amountsAfter usedBefore acceptedAt blank roomOf refusedAt
+    endedAt withoutUsed stepOf tablesAfter readItems roomIn itemsRead readAfter readInto orBlank readSheet noteFor answerOf told noted readOf
+computed = (refl, refl)
+
+-- "P1 to P12 form a single table with a single proved statement."
 pub examples-pass : allPass examples ≡ true
-unfolding byte run same begins walk seqLen control single charAt saidBy saidAt saysAfter says nameStart nameByte white quote fit valueNext valueOver value openingFrom opening attributeEnd attributeQuote attributeName attribute pieceAfter piece partOf absent noneKnown anotherKnown notedKnown onto endsAfter ends keep named twice tagOf tagItem startTag item markLen beginAfter begin digit takes fitsOf numberOf numberAt digits numberFrom nothingAfter onlyDigits minus unsigned fractionForm unsignedForm amountForm filled thousandths signed amountOf fixedVersion leap monthDays realDate daysBefore leapDay dayNumber dayOf minuteOn minuteAt isMinute dateTime between interval quarterHours dayBound dayPeriod unless formRefusal periodFits judgePeriodBy judgePeriod names numberIn elementNo nameOf parentOf required repeated nextIn endsIn startOf endAt endOf endsAtOnce closesDocument overOf formOf schemeOf roleOf kindOf hasEnough beschaffungsanforderung kostenblatt rowsOf there agree asksV asksScheme noOthers attributesFit judgeTag begun heldOf cutShort tooMany noRoom halfOriginals valuesJudged judgedAt startJudged placed kept entered entryOf startedBy startedAt started countRefusal moved rootKind kindTold stepOn step groupsIn flat wrote left itemsAfter itemsFrom spanOf seriesAfter positionsAfter amountsAfter usedBefore blank roomOf refusedAt endedAt withoutUsed stepOf tablesAfter readItems roomIn itemsRead readAfter readInto orBlank readSheet noteFor answerOf told noted readOf
-examples-pass = refl
+examples-pass = computed .0
+
+pub sheet-read : readOf sheet 17 4 4 16 ≡ sheetOutcome
+sheet-read = computed .1

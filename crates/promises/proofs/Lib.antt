@@ -1,6 +1,5 @@
 pub mod Promises
 pub mod Examples
-pub mod Sheet
 pub mod Refusals
 pub mod Marks
 pub mod Steps
@@ -8,4 +7,5 @@ pub mod Cells
 pub mod Readings
 pub mod Starts
 pub mod Counted
+pub mod Places
 pub mod Answers

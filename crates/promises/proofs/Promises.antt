@@ -4,10 +4,11 @@
 use Prim.Native.Nat.{ℕ, _≤_, _<_}
 use mathlib.Core.Path.{_≡_}
 use mathlib.Core.List.{List}
+use mathlib.Core.Logic.{_⊎_}
 use mathlib.Core.Bool.{true}
-use lib.IntN.{ℤ}
-use lib.ListN.{length, take}
-use Rattle.lists.specs.Zeros.{zeros}
+use lib.IntN.{ℤ, pos}
+use lib.ListN.{length, take, getD}
+use Rattle.lists.specs.Zeros.{zeros, padded}
 use Rattle.notes.specs.Note.{noteOf}
 use Rattle.notes.specs.Reader.{noteIn}
 use Rattle.notes.specs.declared.NoteRead.the-variants.{Taken}
@@ -15,14 +16,16 @@ use Rattle.reader.specs.Reading.{blank}
 use Rattle.reader.specs.Answer.{Outcome, readOf}
 use Rattle.reader.specs.declared.Answer.{Answer}
 use Rattle.reader.proofs.Unique.{Permitted, read-one}
+use Rattle.blindness.specs.Readable.{DifferInQty}
+use Rattle.blindness.specs.Blind.{OwnDigitsDiffer}
+use Rattle.blindness.proofs.Outcomes.{two-runs}
 use Rattle.promises.specs.Answers.{fiveOf, atOnce}
-use Rattle.promises.specs.Rows.{ZeroFrom, ZeroPast, InRoom, Sized}
-use Rattle.promises.specs.Counts.{before, starts, kindIn, seriesElement, intervalElement, itemsIn}
+use Rattle.promises.specs.Rows.{ZeroPast, InRoom, Sized}
+use Rattle.promises.specs.Items.{before, starts, kindIn, seriesElement, intervalElement, itemsIn, PlaceOf}
 use Rattle.promises.specs.Examples.{examples, allPass}
 use Rattle.promises.specs.Sheet.{sheet, sheetOutcome}
-use Rattle.promises.proofs.Answers.{ten-is, ten-only, long-is, long-only, refusal-clears, refusal-known, place-within, accepted-whole, counts-within, cells-past, rows-kept, counts-told, note-told}
-use Rattle.promises.proofs.Examples.{examples-pass}
-use Rattle.promises.proofs.Sheet.{sheet-read}
+use Rattle.promises.proofs.Answers.{ten-is, ten-only, long-is, long-only, refusal-clears, refusal-known, place-within, place-told, accepted-whole, counts-within, cells-past, rows-kept, counts-told, note-told}
+use Rattle.promises.proofs.Examples.{examples-pass, sheet-read}
 
 -- "P1 to P12 form a single table with a single proved statement."
 pub the-examples : allPass examples ≡ true
@@ -35,63 +38,70 @@ a-sheet = sheet-read
 
 module _ (doc : List ℕ) (ns np na nb : ℕ) where
   -- a document, and the lengths of the series, position and amount tables and of the note buffer
-  abbrev pub o : Outcome
-  o = readOf doc ns np na nb
+  abbrev pub outcome : Outcome
+  outcome = readOf doc ns np na nb
 
   -- "the contract leaves one possible answer and one possible content of every lent buffer, for all inputs and refusals"
-  pub one-outcome : {a a′ : Answer} {s s′ p p′ : List ℕ} {m m′ : List ℤ} {n n′ : List ℕ} → Permitted o a s p m n → Permitted o a′ s′ p′ m′ n′
+  pub one-outcome : {a a′ : Answer} {s s′ p p′ : List ℕ} {m m′ : List ℤ} {n n′ : List ℕ} → Permitted outcome a s p m n → Permitted outcome a′ s′ p′ m′ n′
       → (a ≡ a′) × (s ≡ s′) × (p ≡ p′) × (m ≡ m′) × (n ≡ n′)
   one-outcome = read-one doc ns np na nb
 
   -- "On every refusal by the document reader, all cells of the three tables are 0."; "N (0 on every refusal)"
-  pub refusal-leaves-nothing : (o .answer .refusal ≡ 0 → ⊥) → (o .tables ≡ blank ns np na) × (o .answer .quarters ≡ 0)
+  pub refusal-leaves-nothing : (outcome .answer .refusal ≡ 0 → ⊥) → (outcome .tables ≡ blank ns np na) × (outcome .answer .quarters ≡ 0)
   refusal-leaves-nothing = refusal-clears doc ns np na nb
 
   -- "10: the note buffer has fewer than 16 bytes"; "10 is looked at first"; "On 10 the note buffer is all 0."; "the note's length (0 on refusal 10)"
-  pub ten-exactly : (o .answer .refusal ≡ 10 → nb < 16)
-      × (nb < 16 → (o .answer ≡ atOnce 10 0) × (o .tables ≡ blank ns np na) × (o .note ≡ zeros nb))
+  pub ten-exactly : (outcome .answer .refusal ≡ 10 → nb < 16)
+      × (nb < 16 → (outcome .answer ≡ atOnce 10 0) × (outcome .tables ≡ blank ns np na) × (outcome .note ≡ zeros nb))
   ten-exactly = (ten-only doc ns np na nb, ten-is doc ns np na nb)
 
   -- "1: the document is longer than 1,048,576 bytes"; "10 is looked at first, then 1"
-  pub one-exactly : (o .answer .refusal ≡ 1 → 1048576 < length doc) × (16 ≤ nb → 1048576 < length doc → o .answer ≡ atOnce 1 5)
+  pub one-exactly : (outcome .answer .refusal ≡ 1 → 1048576 < length doc) × (16 ≤ nb → 1048576 < length doc → outcome .answer ≡ atOnce 1 5)
   one-exactly = (long-only doc ns np na nb, long-is doc ns np na nb)
 
-  -- of "No number is given otherwise.": none above 10; 11 is the note reader's alone
-  pub known-number : o .answer .refusal ≤ 10
+  -- "No number is given otherwise.": 11 is the note reader's alone
+  pub known-number : outcome .answer .refusal ≤ 10
   known-number = refusal-known doc ns np na nb
 
   -- "Acceptance is number 0 with place equal to the length."
-  pub accepted-at-length : o .answer .refusal ≡ 0 → o .answer .place ≡ length doc
+  pub accepted-at-length : outcome .answer .refusal ≡ 0 → outcome .answer .place ≡ length doc
   accepted-at-length = accepted-whole doc ns np na nb
 
-  -- "The place of an item is the index of its first byte .. at the end of the document it is the length."
-  pub place-in-document : o .answer .place ≤ length doc
-  place-in-document = place-within doc ns np na nb
+  -- "item or length"; "The place of an item is the index of its first byte .. at the end of the document it is the length."
+  pub place-of-item : (outcome .answer .place ≤ length doc) × (16 ≤ nb → length doc ≤ 1048576 → PlaceOf doc (outcome .answer .place))
+  place-of-item = (place-within doc ns np na nb, place-told doc ns np na nb)
 
   -- "Kind is that of a root start standing in an item before the faulty one, else 0. Series and intervals count their start tags in items before the
   -- faulty one. On acceptance they are those of the whole document."
-  pub counts-of-start-tags : (o .answer .kind ≡ kindIn (before (o .answer .place) (itemsIn doc)))
-      × (o .answer .series ≡ starts (seriesElement (o .answer .kind)) (before (o .answer .place) (itemsIn doc)))
-      × (o .answer .intervals ≡ starts intervalElement (before (o .answer .place) (itemsIn doc)))
+  pub counts-of-start-tags : (outcome .answer .kind ≡ kindIn (before (outcome .answer .place) (itemsIn doc)))
+      × (outcome .answer .series ≡ starts (seriesElement (outcome .answer .kind)) (before (outcome .answer .place) (itemsIn doc)))
+      × (outcome .answer .intervals ≡ starts intervalElement (before (outcome .answer .place) (itemsIn doc)))
   counts-of-start-tags = counts-told doc ns np na nb
 
   -- "Two document kinds"; and no count is longer than the document
-  pub counts-in-document : (o .answer .kind ≤ 2) × (o .answer .series ≤ length doc) × (o .answer .intervals ≤ length doc)
+  pub counts-in-document : (outcome .answer .kind ≤ 2) × (outcome .answer .series ≤ length doc) × (outcome .answer .intervals ≤ length doc)
   counts-in-document = counts-within doc ns np na nb
 
-  -- "The note is five numbers: refusal, place, kind, series, intervals."; they are in the buffer, "and the bytes after it are 0"; a note that is read
-  -- back gives its five numbers
+  -- "The note is five numbers: refusal, place, kind, series, intervals."; it is in the buffer, "and the bytes after it are 0"; read back, it gives the
+  -- five numbers
   pub note-of-answer : 16 ≤ nb
-      → (o .answer .note ≤ 15)
-      × (take (o .answer .note) (o .note) ≡ noteOf (fiveOf (o .answer)))
-      × (noteIn (take (o .answer .note) (o .note)) ≡ Taken (fiveOf (o .answer)))
-      × ZeroFrom (o .answer .note) 0 (o .note)
+      → (outcome .answer .note ≡ length (noteOf (fiveOf (outcome .answer))))
+      × (outcome .answer .note ≤ 15)
+      × (outcome .note ≡ padded nb (noteOf (fiveOf (outcome .answer))))
+      × (noteIn (take (outcome .answer .note) (outcome .note)) ≡ Taken (fiveOf (outcome .answer)))
   note-of-answer = note-told doc ns np na nb
 
   -- "Room for series is the table length divided by 8, rounded down. .. room is the shorter length.": every row that is counted has its cells
-  pub rows-have-room : InRoom ns np na (o .answer .series) (o .answer .intervals) × Sized ns np na (o .tables)
+  pub rows-have-room : InRoom ns np na (outcome .answer .series) (outcome .answer .intervals) × Sized ns np na (outcome .tables)
   rows-have-room = rows-kept doc ns np na nb
 
   -- "Cells past the last row are 0."
-  pub zero-past-rows : ZeroPast (o .answer .series) (o .answer .intervals) (o .tables)
+  pub zero-past-rows : ZeroPast (outcome .answer .series) (outcome .answer .intervals) (outcome .tables)
   zero-past-rows = cells-past doc ns np na nb
+
+-- "Two documents of equal length that differ only in digits of readable Qty values get the same answer, place, counts and note, and the same cells but for
+-- the amounts of accepted intervals whose own digits differ." Of two runs of the code
+pub amounts-alone : (x y : List ℕ) (ns np na nb : ℕ) → DifferInQty x y → {a a′ : Answer} {s s′ p p′ : List ℕ} {m m′ : List ℤ} {n n′ : List ℕ}
+    → Permitted (readOf x ns np na nb) a s p m n → Permitted (readOf y ns np na nb) a′ s′ p′ m′ n′
+    → (a ≡ a′) × (n ≡ n′) × (s ≡ s′) × (p ≡ p′) × ((k : ℕ) → (getD m k (pos 0) ≡ getD m′ k (pos 0)) ⊎ OwnDigitsDiffer ns np na nb x y k)
+amounts-alone = two-runs

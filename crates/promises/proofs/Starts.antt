@@ -28,7 +28,7 @@ use Rattle.states.specs.declared.State.{State}
 use Rattle.states.specs.declared.Room.{Room}
 use Rattle.states.specs.declared.Step.{Step}
 use Rattle.states.specs.declared.Step.the-variants.{Next, Refused}
-use Rattle.promises.specs.Counts.{startedIn, seriesElement, intervalElement}
+use Rattle.promises.specs.Items.{startedIn, seriesElement, intervalElement}
 use Rattle.promises.proofs.Marks.{Rooted, Named, due-within, due-named, one-named, two-named, one-rooted, two-rooted, no-root}
 use Rattle.promises.proofs.Steps.{Sound, told-none, by-eqb, kept-keeps}
 

@@ -1,5 +1,5 @@
 pub mod Examples
 pub mod Rows
 pub mod Answers
-pub mod Counts
+pub mod Items
 pub mod Sheet

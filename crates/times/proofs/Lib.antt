@@ -1,4 +1,3 @@
 pub mod Unique
 pub mod Below
 pub mod Consecutive
-pub mod Examples

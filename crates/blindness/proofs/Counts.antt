@@ -1,0 +1,459 @@
+-- How many Qty were passed follows from the state: as many as intervals were started, but for one that is still to come. Assumes nothing.
+use Prim.Native.Nat.{ℕ, zero, suc, _+_, _<_, _≤_}
+use mathlib.Core.Path.{_≡_, refl, sym, ap, _∙_}
+use mathlib.Core.List.{List, [], _∷_}
+use mathlib.Core.Bool.{Bool, true, false, cond, not}
+use mathlib.Core.Logic.{⊎-elim}
+use native.Mathlib.Omega.{arith}
+use lib.Dec.{eqb, ltb}
+use lib.ListN.{length, getD}
+use borrow.Author.Tests.{eq-eqb, ne-eqb, lt-ltb, eqb-true, leb-false}
+use Rattle.lists.proofs.Cases.{bool-cases, by-cond, eqb-cases, zero-not-one}
+use Rattle.slices.specs.Same.{same}
+use Rattle.slices.specs.Text.{text}
+use Rattle.attributes.specs.Attribute.{partOf}
+use Rattle.elements.specs.Names.{names, numberIn, elementNo}
+use Rattle.items.specs.declared.Tag.{Tag}
+use Rattle.items.specs.declared.Item.{Item}
+use Rattle.items.specs.declared.Item.the-variants.{Start, Empty, End, Text, Comment}
+use Rattle.items.specs.declared.Item.the-variants.{Refused as Unreadable}
+use Rattle.structure.specs.Rows.{nameOf, parentOf, repeated, endsAtOnce, startOf, endOf, closesDocument, overOf}
+use Rattle.structure.specs.declared.Due.{Due}
+use Rattle.structure.specs.declared.Due.the-variants.{Row, NotDue}
+use Rattle.structure.proofs.Means.{start-means, end-means}
+use Rattle.guideline.specs.Columns.{formOf, roleOf}
+use Rattle.guideline.specs.Kinds.{kindOf}
+use Rattle.guideline.specs.Rows.{beschaffungsanforderung, kostenblatt, rowsOf}
+use Rattle.rules.specs.Rules.{refused}
+use Rattle.rules.specs.declared.Judged.{Judged}
+use Rattle.states.specs.Attributes.{attributesFit}
+use Rattle.states.specs.Moves.{begun, oneMore, cutShort, tooMany, noRoom, valuesJudged, judgedAt, startJudged, placed, oneSeries, oneInterval, oneOriginal, lastPos, covering, kept, entered, entryOf, startedBy, startedAt, started, closedAt, endRefusal, endedAt, ended, moved, rootKind, kindTold, stepOn, step}
+use Rattle.states.specs.declared.State.{State}
+use Rattle.states.specs.declared.Room.{Room}
+use Rattle.states.specs.declared.Entry.{Entry}
+use Rattle.states.specs.declared.Entry.the-variants.{Nothing, Amount}
+use Rattle.states.specs.declared.Step.{Step}
+use Rattle.states.specs.declared.Step.the-variants.{Next, Refused}
+use Rattle.blindness.specs.Readable.{namedQty}
+use Rattle.blindness.proofs.Pairs.{same-equal}
+use Rattle.blindness.proofs.Steps.{row-named, row-role}
+use Rattle.blindness.proofs.Tables.{allBelow, below, not-true, where-true, waits, due, tested, one-tested, two-tested, waits-other, start-due, row-facts, end-waits}
+
+-- the rows of a kind; where the root is still to come, those of kind 2
+abbrev pub rowsIn : ℕ → List ℕ
+rowsIn kind = cond (eqb kind 1) (rowsOf 1) (rowsOf 2)
+
+in-tested : (kind : ℕ) → tested (rowsIn kind) ≡ true
+in-tested kind = by-cond (λ (l : List ℕ). tested l ≡ true) (eqb kind 1) one-tested two-tested
+
+-- the document as a whole waits for no Qty
+root-waits : (kind : ℕ) (o : Bool) → waits (getD (rowsIn kind) 0 0) o ≡ false
+unfolding waits roleOf rowsOf beschaffungsanforderung kostenblatt elementNo numberIn names same
+root-waits kind o = by-cond (λ (l : List ℕ). waits (getD l 0 0) o ≡ false) (eqb kind 1) refl refl
+
+abbrev pub waiting : State → Bool
+waiting x = waits (getD (rowsIn (x .kind)) (x .row) 0) (x .inside)
+
+abbrev pub toCome : Bool → ℕ
+toCome true = 1
+toCome false = 0
+
+-- c Qty were passed
+pub record Counted (c : ℕ) (room : Room) (x : State) : Type 0 where
+  pub count : x .intervals ≡ c + toCome (waiting x)
+  pub root : x .kind ≡ 0 → x .row ≡ 0
+  pub fits : x .intervals ≤ room .intervals
+
+-- an item came to the state x after one with n intervals; b tells whether it was a tag named Qty
+pub record Passed (c : ℕ) (room : Room) (n : ℕ) (b : Bool) (x : State) (e : Entry) : Type 0 where
+  pub counted : Counted (c + toCome b) room x
+  pub small : x .intervals ≤ suc n
+  pub amount : b ≡ true → (e ≡ Amount) × (x .intervals ≡ suc c)
+  pub other : b ≡ false → e ≡ Amount → ⊥
+
+unfoldable pub Good : ℕ → Room → ℕ → Bool → Step → Type 0
+Good c room n b (Next x e) = Passed c room n b x e
+Good c room n b (Refused k) = k ≡ 0 → ⊥
+
+due-count : (role : ℕ) (w : Bool) → due role w ≡ true → toCome w ≡ toCome (eqb role 10) + toCome (eqb role 9)
+unfolding due
+due-count role w h =
+    ⊎-elim
+    (λ y. let z : w ≡ true = rw (y .0) at h in rw (y .0, z))
+    (λ y.
+    ⊎-elim
+    (λ u. let z : w ≡ true = rw (u .0) at h in rw (u .0, z))
+    (λ u. let z : not w ≡ true = rw (y .1, u .1) at h in rw (not-true w z, y .1, u .1))
+    (eqb-cases role 10))
+    (eqb-cases role 9)
+
+due-interval : (w : Bool) → due 4 w ≡ true → w ≡ false
+unfolding due
+due-interval w h = not-true w h
+
+-- ---- what a start tag makes of the state
+
+abbrev Still : State → State → Type 0
+Still p x = (x .kind ≡ p .kind) × (x .row ≡ p .row) × (x .inside ≡ p .inside) × (x .intervals ≡ p .intervals)
+
+kept-still : (p : State) (w : ℕ) (j : Judged) → (roleOf w ≡ 4 → ⊥) → Still p (kept p w j)
+unfolding kept oneSeries lastPos oneInterval oneOriginal covering
+kept-still p w j h =
+    rw (ne-eqb (roleOf w) 4 h)
+    (by-cond (Still p) (eqb (roleOf w) 2) (refl, refl, refl, refl)
+    (by-cond (Still p) (eqb (roleOf w) 3) (refl, refl, refl, refl)
+    (by-cond (Still p) (eqb (roleOf w) 5) (refl, refl, refl, refl)
+    (by-cond (Still p) (eqb (roleOf w) 9) (refl, refl, refl, refl)
+    (by-cond (Still p) (eqb (formOf w) 6) (refl, refl, refl, refl) (refl, refl, refl, refl))))))
+
+kept-interval : (p : State) (w : ℕ) (j : Judged) → roleOf w ≡ 4 → kept p w j ≡ oneInterval p
+unfolding kept
+kept-interval p w j h = rw h
+
+one-more : (n : ℕ) → n < 4294967295 → oneMore n ≡ n + 1
+unfolding oneMore
+one-more n h = rw (lt-ltb n 4294967295 h)
+
+not-amount : (role p : ℕ) → (role ≡ 10 → ⊥) → entryOf role p ≡ Amount → ⊥
+unfolding entryOf
+not-amount role p h =
+    rw (ne-eqb role 10 h)
+    (by-cond P (eqb role 2) (λ z. zero-not-one (cc))
+    (by-cond P (eqb role 4) (λ z. zero-not-one (cc))
+    (by-cond P (eqb role 6) (λ z. zero-not-one (cc))
+    (by-cond P (eqb role 7) (λ z. zero-not-one (cc))
+    (by-cond P (eqb role 8) (λ z. zero-not-one (cc))
+    (by-cond P (eqb role 9) (λ z. zero-not-one (cc)) (λ z. zero-not-one (cc))))))))
+  where
+    P : Entry → Type 0
+    P e = e ≡ Amount → ⊥
+
+is-amount : (role p : ℕ) → role ≡ 10 → entryOf role p ≡ Amount
+unfolding entryOf
+is-amount role p h = rw h
+
+untold : (t : Bool) (n : ℕ) (b : Judged) → (n ≡ 0 → ⊥) → cond t (refused n) b .number ≡ 0 → (t ≡ false) × (b .number ≡ 0)
+untold true n b h e = absurd (h e)
+untold false n b h e = (refl, e)
+
+judged-zero : (x : State) (kind : ℕ) (rows : List ℕ) (r : ℕ) (t : Tag) (s : List ℕ) (empty : Bool) (room : Room)
+    → startJudged x kind rows r t s empty room .number ≡ 0 → (cutShort empty rows r ≡ false) × (noRoom x (roleOf (getD rows r 0)) room ≡ false)
+unfolding startJudged judgedAt
+judged-zero x kind rows r t s empty room h =
+    let w = getD rows r 0 in
+    let last = cond (attributesFit w t) (valuesJudged x kind w t s) (refused 5) in
+    let a = untold (cutShort empty rows r) 3 (cond (tooMany x (roleOf w) kind) (refused 3) (cond (noRoom x (roleOf w) room) (refused 4) last)) (λ z. omega arith) h in
+    let b = untold (tooMany x (roleOf w) kind) 3 (cond (noRoom x (roleOf w) room) (refused 4) last) (λ z. omega arith) (a .1) in
+    let d = untold (noRoom x (roleOf w) room) 4 last (λ z. omega arith) (b .1) in
+    (a .0, d .0)
+
+not-short : (empty : Bool) (rows : List ℕ) (r : ℕ) → endsAtOnce rows r ≡ false → cutShort empty rows r ≡ false → not empty ≡ true
+unfolding cutShort
+not-short true rows r e h = let z : _≡_ {A = Bool} true false = rw e at h in absurd (zero-not-one (cc))
+not-short false rows r e h = refl
+
+roomy : (x : State) (role : ℕ) (room : Room) → role ≡ 4 → noRoom x role room ≡ false → x .intervals < room .intervals
+unfolding noRoom
+roomy x role room e h = leb-false (room .intervals) (x .intervals) (rw e at h)
+
+-- ---- the number of a name
+
+number-in : (n : List ℕ) (ws : List (List ℕ)) (k j : ℕ) → 1 ≤ k → numberIn n k ws ≡ k + j → same n (getD ws j []) ≡ true
+unfolding numberIn
+number-in n [] k j l e = absurd (omega (arith, e, l))
+number-in n (w ∷ ws) k zero l e =
+    ⊎-elim
+    (λ y. y)
+    (λ y. let z : numberIn n (k + 1) ws ≡ k + 0 = rw y at e in absurd (beyond ws (k + 1) k (omega arith) l (z ∙ (let u : k + 0 ≡ k = omega arith in u))))
+    (bool-cases (same n w))
+  where
+    beyond : (ws : List (List ℕ)) (k m : ℕ) → m < k → 1 ≤ m → numberIn n k ws ≡ m → ⊥
+    beyond [] k m a b h = omega (arith, h, b)
+    beyond (w ∷ ws) k m a b h =
+        ⊎-elim
+        (λ y. let z : k ≡ m = rw y at h in omega (arith, z, a))
+        (λ y. beyond ws (k + 1) m (omega arith) b (rw y at h))
+        (bool-cases (same n w))
+number-in n (w ∷ ws) k (suc j) l e =
+    ⊎-elim
+    (λ y. let z : k ≡ k + suc j = rw y at e in absurd (omega (arith, z)))
+    (λ y. let z : numberIn n (k + 1) ws ≡ k + suc j = rw y at e in number-in n ws (k + 1) j (omega arith) (z ∙ (let u : k + suc j ≡ k + 1 + j = omega arith in u)))
+    (bool-cases (same n w))
+
+-- Qty is the only name with its number
+named : (n : List ℕ) → elementNo n ≡ elementNo (text "Qty") → same n (text "Qty") ≡ true
+unfolding elementNo numberIn names same
+named n e = number-in n names 1 30 (omega arith) e
+
+-- whether a tag is named Qty is told by the row that it takes
+role-told : (kind : ℕ) (n : List ℕ) (r : ℕ) → r < length (rowsIn kind) → nameOf (getD (rowsIn kind) r 0) ≡ elementNo n
+    → same n (text "Qty") ≡ eqb (roleOf (getD (rowsIn kind) r 0)) 10
+role-told kind n r l e =
+    let w = getD (rowsIn kind) r 0 in
+    ⊎-elim
+    (λ y. y ∙ sym (eq-eqb (roleOf w) 10 (row-role kind r (e ∙ ap elementNo (same-equal n (text "Qty") y)))))
+    (λ y.
+    ⊎-elim
+    (λ u.
+    let z : _≡_ {A = Bool} false true = sym y ∙ named n (sym e ∙ row-facts (rowsIn kind) (in-tested kind) r l .qty (u .0)) in
+    absurd (zero-not-one (cc)))
+    (λ u. y ∙ sym (u .1))
+    (eqb-cases (roleOf w) 10))
+    (bool-cases (same n (text "Qty")))
+
+-- ---- a start tag, or the start in an empty one
+
+-- the row that it takes is one of the table's
+row-inside : (rows : List ℕ) (r : ℕ) (o : Bool) (name q : ℕ) → startOf rows r o name ≡ Row q → q < length rows
+row-inside rows r true name q e = start-means rows r name q true e .1 .within
+row-inside rows r false name q e =
+    let d = start-means rows r name q false e in ⊎-elim (λ g. rw (g .itself) (d .0)) (λ g. g .1 .within) (d .1)
+
+module _ (x : State) (kind : ℕ) (room : Room) (c : ℕ)
+    (count : x .intervals ≡ c + toCome (waits (getD (rowsIn kind) (x .row) 0) (x .inside)))
+    (fits : x .intervals ≤ room .intervals) (low : x .intervals < 4294967295) where
+  module _ (q : ℕ) (root : kind ≡ 0 → ⊥) (fact : due (roleOf (getD (rowsIn kind) q 0)) (waits (getD (rowsIn kind) (x .row) 0) (x .inside)) ≡ true)
+      (b : Bool) (told : b ≡ eqb (roleOf (getD (rowsIn kind) q 0)) 10) (j : Judged) where
+    abbrev taken : ℕ
+    taken = getD (rowsIn kind) q 0
+
+    -- any row but an Interval's
+    still-passed : (within : Bool) → (roleOf taken ≡ 4 → ⊥) → (y : State) → Still (placed x kind q within) y
+        → Passed c room (x .intervals) b y (entryOf (roleOf taken) (j .first))
+    unfolding placed
+    still-passed within h y s =
+        let z = due-count (roleOf taken) (waits (getD (rowsIn kind) (x .row) 0) (x .inside)) fact in
+        let n : x .intervals ≡ c + toCome b + toCome (eqb (roleOf taken) 9) = rw told (omega (arith, count, z)) in
+        record {
+          counted =
+              record {
+                count = rw (s .0, s .1, s .2, s .3, waits-other taken within h) n;
+                root = λ e. absurd (root (sym (s .0) ∙ e));
+                fits = rw (s .3) fits;
+              };
+          small = rw (s .3) (omega arith);
+          amount = λ e. (is-amount (roleOf taken) (j .first) (role e), s .3 ∙ count-qty e);
+          other = λ e. not-amount (roleOf taken) (j .first) (λ r. not-role e r);
+        }
+      where
+        role : b ≡ true → roleOf taken ≡ 10
+        role e = eqb-true (roleOf taken) 10 (sym told ∙ e)
+
+        not-role : b ≡ false → roleOf taken ≡ 10 → ⊥
+        not-role e r = let z : _≡_ {A = Bool} true false = sym (eq-eqb (roleOf taken) 10 r) ∙ sym told ∙ e in zero-not-one (cc)
+
+        count-qty : b ≡ true → x .intervals ≡ suc c
+        count-qty e =
+            let z = due-count (roleOf taken) (waits (getD (rowsIn kind) (x .row) 0) (x .inside)) fact in
+            let u : toCome (eqb (roleOf taken) 10) + toCome (eqb (roleOf taken) 9) ≡ 1 = rw (role e) in
+            omega (arith, count, z, u)
+
+    interval-passed : roleOf taken ≡ 4 → x .intervals < room .intervals → Passed c room (x .intervals) b (oneInterval (placed x kind q true)) (entryOf (roleOf taken) (j .first))
+    unfolding oneInterval placed waits
+    interval-passed h free =
+        let z : waits (getD (rowsIn kind) (x .row) 0) (x .inside) ≡ false = due-interval (waits (getD (rowsIn kind) (x .row) 0) (x .inside)) (rw h at fact) in
+        let n : x .intervals ≡ c + 0 = rw z at count in
+        let f : b ≡ false = told ∙ rw h in
+        let m = one-more (x .intervals) low in
+        record {
+          counted = record { count = rw (f, h, m) (omega (arith, n)); root = λ e. absurd (root e); fits = rw m (omega (arith, free)) };
+          small = rw m (omega arith);
+          amount = λ e. let u : _≡_ {A = Bool} false true = sym f ∙ e in absurd (zero-not-one (cc));
+          other = λ e. not-amount (roleOf taken) (j .first) (λ r. omega (arith, h, r));
+        }
+
+  start-good : (t : Tag) (s : List ℕ) (empty : Bool) (b : Bool) → b ≡ same (partOf s 1 (t .name)) (text "Qty")
+      → ((q : ℕ) → startOf (rowsIn kind) (x .row) (x .inside) (elementNo (partOf s 1 (t .name))) ≡ Row q → kind ≡ 0 → ⊥)
+      → Good c room (x .intervals) b (started x kind (rowsIn kind) (elementNo (partOf s 1 (t .name))) t s empty room)
+  unfolding started startedAt startedBy Good entered
+  start-good t s empty b eb root = by (startOf (rowsIn kind) (x .row) (x .inside) name) refl
+    where
+      name : ℕ
+      name = elementNo (partOf s 1 (t .name))
+
+      by : (d : Due) → startOf (rowsIn kind) (x .row) (x .inside) (elementNo (partOf s 1 (t .name))) ≡ d
+          → Good c room (x .intervals) b (startedAt x kind (rowsIn kind) t s empty room d)
+      by NotDue z = λ e. omega (arith, e)
+      by (Row q) z =
+          let rows = rowsIn kind in
+          let w = getD rows q 0 in
+          let l = row-inside rows (x .row) (x .inside) (elementNo (partOf s 1 (t .name))) q z in
+          let fact = start-due rows (in-tested kind) (x .row) (x .inside) (elementNo (partOf s 1 (t .name))) q z in
+          let told = eb ∙ role-told kind (partOf s 1 (t .name)) q l (row-named rows (x .row) (x .inside) (elementNo (partOf s 1 (t .name))) q z) in
+          let j = startJudged x kind rows q t s empty room in
+          ⊎-elim
+          (λ y.
+          let g = judged-zero x kind rows q t s empty room (y .0) in
+          rw (y .1)
+          (⊎-elim
+          (λ h.
+          let p = interval-passed q (root q z) fact b told j (h .0) (roomy x (roleOf w) room (h .0) (g .1)) in
+          rw (kept-interval (placed x kind q (not empty)) w j (h .0), not-short empty rows q (row-facts rows (in-tested kind) q l .whole (h .0)) (g .0)) p)
+          (λ h.
+          still-passed q (root q z) fact b told j (not empty) (h .0) (kept (placed x kind q (not empty)) w j) (kept-still (placed x kind q (not empty)) w j (h .0)))
+          (eqb-cases (roleOf w) 4)))
+          (λ y. rw (y .1) (y .0))
+          (eqb-cases (j .number) 0)
+
+-- ---- before the root, where the rows of kind 2 are looked at
+
+two-long : length (rowsOf 2) ≡ 34
+unfolding rowsOf kostenblatt
+two-long = refl
+
+two-parent : parentOf (getD (rowsOf 2) 0 0) ≡ 255
+unfolding rowsOf kostenblatt parentOf
+two-parent = refl
+
+two-once : repeated (getD (rowsOf 2) 0 0) ≡ false
+unfolding rowsOf kostenblatt repeated
+two-once = refl
+
+-- a row of the document as a whole is a root's, and tells a kind
+unfoldable rootTest : ℕ → Bool
+rootTest v = cond (eqb (parentOf v) 0) (not (eqb (kindOf (nameOf v)) 0)) (not (eqb (parentOf v) 255))
+
+roots : allBelow 34 (λ q. cond (ltb 0 q) (rootTest (getD (rowsOf 2) q 0)) true) ≡ true
+unfolding rootTest rowsOf kostenblatt parentOf nameOf kindOf elementNo numberIn names same
+roots = refl
+
+root-test : (q : ℕ) → 0 < q → q < length (rowsOf 2) → rootTest (getD (rowsOf 2) q 0) ≡ true
+root-test q a b =
+    where-true (ltb 0 q) (below 34 (λ q. cond (ltb 0 q) (rootTest (getD (rowsOf 2) q 0)) true) roots q (rw two-long at b)) (lt-ltb 0 q a)
+
+root-start : (o : Bool) (name q : ℕ) → kindOf name ≡ 0 → startOf (rowsOf 2) 0 o name ≡ Row q → ⊥
+unfolding rootTest
+root-start true name q k e =
+    let d = start-means (rowsOf 2) 0 name q true e .1 in
+    let z : _≡_ {A = Bool} false true = rw (d .stands, d .named, k) at (root-test q (d .after) (d .within)) in
+    zero-not-one (cc)
+root-start false name q k e =
+    ⊎-elim
+    (λ g. let z : _≡_ {A = Bool} false true = sym two-once ∙ g .repeats in zero-not-one (cc))
+    (λ g.
+    let d = g .1 in
+    let z : _≡_ {A = Bool} false true = rw (d .stands ∙ two-parent) at (root-test q (d .after) (d .within)) in
+    zero-not-one (cc))
+    (start-means (rowsOf 2) 0 name q false e .1)
+
+root-end : (o : Bool) (name q : ℕ) → endOf (rowsOf 2) 0 o name ≡ Row q → q ≡ 0
+root-end true name q e = end-means (rowsOf 2) 0 name q true e .innermost
+root-end false name q e =
+    let d = end-means (rowsOf 2) 0 name q false e in
+    let z : q ≡ 255 = d .innermost ∙ two-parent in
+    let l : q < 34 = rw two-long at (d .within) in
+    absurd (omega (arith, z, l))
+
+-- ---- an end tag
+
+end-good : (x : State) (room : Room) (c : ℕ) → Counted c room x → (name : ℕ) → Good c room (x .intervals) false (ended x (rowsIn (x .kind)) name)
+unfolding ended endedAt closedAt Good
+end-good x room c k name = by (endOf (rowsIn (x .kind)) (x .row) (x .inside) name) refl
+  where
+    rooted : (q : ℕ) → endOf (rowsIn (x .kind)) (x .row) (x .inside) name ≡ Row q → x .kind ≡ 0 → q ≡ 0
+    rooted q z e = root-end (x .inside) name q (rw (e, k .root e) at z)
+
+    by : (d : Due) → endOf (rowsIn (x .kind)) (x .row) (x .inside) name ≡ d → Good c room (x .intervals) false (endedAt x (rowsIn (x .kind)) d)
+    by NotDue z = λ e. omega (arith, e)
+    by (Row q) z =
+        ⊎-elim
+        (λ y. rw (y .1)
+        (record {
+          counted =
+              record {
+                count = rw (end-waits (rowsIn (x .kind)) (in-tested (x .kind)) (x .row) (x .inside) name q z) (let u = k .count in omega (arith, u));
+                root = rooted q z;
+                fits = k .fits;
+              };
+          small = omega arith;
+          amount = λ e. absurd (zero-not-one (cc));
+          other = λ e f. zero-not-one (cc);
+        }))
+        (λ y. rw (y .1) (y .0))
+        (eqb-cases (endRefusal x (rowsIn (x .kind)) q) 0)
+
+-- ---- an item
+
+same-waits : (x : State) → (x .kind ≡ 0 → x .row ≡ 0) → (k : ℕ) → ((x .kind ≡ 0 → ⊥) → k ≡ x .kind) → waits (getD (rowsIn k) (x .row) 0) (x .inside) ≡ waiting x
+same-waits x root k h =
+    ⊎-elim
+    (λ y. rw (root (y .0)) (root-waits k (x .inside) ∙ sym (root-waits (x .kind) (x .inside))))
+    (λ y. rw (h (y .0)))
+    (eqb-cases (x .kind) 0)
+
+kind-same : (x : State) (i : Item) (s : List ℕ) → (x .kind ≡ 0 → ⊥) → kindTold x i s ≡ x .kind
+unfolding kindTold
+kind-same x i s h = rw (ne-eqb (x .kind) 0 h)
+
+kind-zero : (x : State) (i : Item) (s : List ℕ) → kindTold x i s ≡ 0 → (x .kind ≡ 0) × (rootKind i s ≡ 0)
+unfolding kindTold
+kind-zero x i s h =
+    ⊎-elim (λ y. (y .0, rw (y .1) at h)) (λ y. let z : x .kind ≡ 0 = rw (y .1) at h in absurd (y .0 z)) (eqb-cases (x .kind) 0)
+
+picked : (f : List ℕ → Step) (t : Bool) (a b : List ℕ) → cond t (f a) (f b) ≡ f (cond t a b)
+picked f true a b = refl
+picked f false a b = refl
+
+module _ (x : State) (room : Room) (c : ℕ) (k : Counted c room x) (low : x .intervals < 4294967295) (s : List ℕ) where
+  tag-good : (i : Item) (t : Tag) (empty : Bool) → rootKind i s ≡ kindOf (elementNo (partOf s 1 (t .name)))
+      → Good c room (x .intervals) (same (partOf s 1 (t .name)) (text "Qty"))
+      (cond (eqb (kindTold x i s) 1) (started x (kindTold x i s) (rowsOf 1) (elementNo (partOf s 1 (t .name))) t s empty room)
+      (started x (kindTold x i s) (rowsOf 2) (elementNo (partOf s 1 (t .name))) t s empty room))
+  tag-good i t empty ek =
+      rw (picked (λ rows. started x (kindTold x i s) rows (elementNo (partOf s 1 (t .name))) t s empty room) (eqb (kindTold x i s) 1) (rowsOf 1) (rowsOf 2))
+      (start-good x (kindTold x i s) room c
+      (k .count ∙ ap (λ (b : Bool). c + toCome b) (sym (same-waits x (k .root) (kindTold x i s) (kind-same x i s))))
+      (k .fits) low t s empty (same (partOf s 1 (t .name)) (text "Qty")) refl none)
+    where
+      none : (q : ℕ) → startOf (rowsIn (kindTold x i s)) (x .row) (x .inside) (elementNo (partOf s 1 (t .name))) ≡ Row q → kindTold x i s ≡ 0 → ⊥
+      none q z e =
+          let g = kind-zero x i s e in
+          root-start (x .inside) (elementNo (partOf s 1 (t .name))) q (sym ek ∙ g .1) (rw (e, k .root (g .0)) at z)
+
+  kind-end : (i : Item) → rootKind i s ≡ 0 → kindTold x i s ≡ x .kind
+  unfolding kindTold
+  kind-end i e = ⊎-elim (λ y. rw (y .1, e) (sym (y .0))) (λ y. rw (y .1)) (eqb-cases (x .kind) 0)
+
+  unmoved : Good c room (x .intervals) false (Next x Nothing)
+  unfolding Good
+  unmoved =
+      record {
+        counted = record { count = let u = k .count in omega (arith, u); root = k .root; fits = k .fits };
+        small = omega arith;
+        amount = λ e. absurd (zero-not-one (cc));
+        other = λ e f. zero-not-one (cc);
+      }
+
+  refusal : (n : ℕ) → (n ≡ 0 → ⊥) → Good c room (x .intervals) false (Refused n)
+  unfolding Good
+  refusal n h = h
+
+  text-good : (w : Bool) → Good c room (x .intervals) false (cond w (Next x Nothing) (Refused 3))
+  text-good w = by-cond (Good c room (x .intervals) false) w unmoved (refusal 3 (λ e. omega (arith, e)))
+
+  pub step-good : (i : Item) → Good c room (x .intervals) (namedQty i s) (step x (rowsOf 1) (rowsOf 2) i s room)
+  unfolding step stepOn moved rootKind namedQty
+  step-good (Start t) = tag-good (Start t) t false refl
+  step-good (Empty t) = tag-good (Empty t) t true refl
+  step-good (End n e) =
+      rw (picked (λ rows. ended x rows (elementNo (partOf s 2 n))) (eqb (kindTold x (End n e) s) 1) (rowsOf 1) (rowsOf 2), kind-end (End n e) refl)
+      (end-good x room c k (elementNo (partOf s 2 n)))
+  step-good (Text w e) = by-cond (Good c room (x .intervals) false) (eqb (kindTold x (Text w e) s) 1) (text-good w) (text-good w)
+  step-good (Comment e) = by-cond (Good c room (x .intervals) false) (eqb (kindTold x (Comment e) s) 1) unmoved unmoved
+  step-good (Unreadable p) = by-cond (Good c room (x .intervals) false) (eqb (kindTold x (Unreadable p) s) 1) (refusal 2 (λ e. omega (arith, e))) (refusal 2 (λ e. omega (arith, e)))
+
+pub begun-counted : (room : Room) → Counted 0 room begun
+unfolding begun
+begun-counted room = record { count = rw (root-waits 0 true); root = λ e. refl; fits = omega arith }
+
+-- where the document may be over, no Qty is waited for
+pub over-waits : (x : State) → overOf (rowsIn (x .kind)) (x .row) (x .inside) ≡ true → waiting x ≡ false
+unfolding overOf closesDocument
+over-waits x h = by (endOf (rowsIn (x .kind)) (x .row) (x .inside) 255) refl h
+  where
+    by : (d : Due) → endOf (rowsIn (x .kind)) (x .row) (x .inside) 255 ≡ d → closesDocument d ≡ true → waiting x ≡ false
+    by (Row q) z t =
+        let e : q ≡ 0 = eqb-true q 0 t in
+        let w = end-waits (rowsIn (x .kind)) (in-tested (x .kind)) (x .row) (x .inside) 255 q z in
+        sym (rw e at w) ∙ root-waits (x .kind) false
+    by NotDue z t = absurd (zero-not-one (cc))

@@ -1,0 +1,13 @@
+pub mod Fronts
+pub mod Pairs
+pub mod Aligned
+pub mod Tables
+pub mod Steps
+pub mod Shown
+pub mod Sources
+pub mod Runs
+pub mod Counts
+pub mod Order
+pub mod Blind
+pub mod Examples
+pub mod Outcomes

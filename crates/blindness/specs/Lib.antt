@@ -1,0 +1,3 @@
+pub mod Readable
+pub mod Sources
+pub mod Blind

@@ -1,0 +1,53 @@
+-- "Readable Qty digits: bytes `0` to `9` between the quotes of the attribute `v` in a start or empty tag named `Qty` that is itself readable and stands
+-- before the first unreadable item."
+use Prim.Native.Nat.{ℕ, _+_}
+use mathlib.Core.Path.{_≡_}
+use mathlib.Core.List.{List, [], _∷_}
+use mathlib.Core.Bool.{Bool, true, false}
+use mathlib.Core.Logic.{_⊎_}
+use lib.ListN.{length}
+use Rattle.slices.specs.Bytes.{byte}
+use Rattle.slices.specs.Same.{same}
+use Rattle.slices.specs.Text.{text}
+use Rattle.attributes.specs.Attribute.{partOf}
+use Rattle.items.specs.Item.{itemRefusal}
+use Rattle.items.specs.declared.Item.{Item}
+use Rattle.items.specs.declared.Item.the-variants.{Start, Empty, End, Text, Comment, Refused}
+use Rattle.prolog.specs.Prolog.{begin}
+use Rattle.prolog.specs.declared.Begin.{Begin}
+use Rattle.prolog.specs.declared.Begin.the-variants.{From, Unreadable}
+use Rattle.pictures.specs.Picture.{digit}
+use Rattle.reader.specs.Items.{Placed, itemsFrom}
+use Rattle.digits.specs.Items.{InV}
+
+-- "a start or empty tag named `Qty`"; s is the part of the document that begins with the item
+unfoldable pub namedQty : Item → List ℕ → Bool
+namedQty (Start t) s = same (partOf s 1 (t .name)) (text "Qty")
+namedQty (Empty t) s = same (partOf s 1 (t .name)) (text "Qty")
+namedQty (End n e) s = false
+namedQty (Text w e) s = false
+namedQty (Comment e) s = false
+namedQty (Refused p) s = false
+
+-- "between the quotes of the attribute `v`" of it: the place i, counted from the item's first byte
+abbrev pub InQtyTag : Item → List ℕ → ℕ → Type 0
+InQtyTag x s i = (namedQty x s ≡ true) × InV x i
+
+-- of these items: in the first, or in a later one if the first is readable
+unfoldable pub InQty : List Placed → ℕ → Type 0
+InQty [] p = ⊥
+InQty (x ∷ xs) p = ((i : ℕ) × (p ≡ x .at + i) × InQtyTag (x .item) (x .rest) i) ⊎ ((itemRefusal (x .item) ≡ 0) × InQty xs p)
+
+-- of the items of a document, of which there are none where the XML declaration is unreadable
+unfoldable pub InQtyAfter : List ℕ → Begin → ℕ → Type 0
+InQtyAfter doc (From n) p = InQty (itemsFrom doc n) p
+InQtyAfter doc (Unreadable q) p = ⊥
+
+unfoldable pub QtyDigit : List ℕ → ℕ → Type 0
+QtyDigit doc p = (digit (byte doc p) ≡ true) × InQtyAfter doc (begin doc) p
+
+-- "Two documents of equal length that differ only in digits of readable Qty values": at each place the bytes are equal, or one of them is a readable Qty
+-- digit and the other a digit.
+pub record DifferInQty (x y : List ℕ) : Type 0 where
+  pub long : length x ≡ length y
+  pub places : (p : ℕ) → (byte x p ≡ byte y p) ⊎ ((QtyDigit x p × (digit (byte y p) ≡ true)) ⊎ (QtyDigit y p × (digit (byte x p) ≡ true)))

@@ -1,0 +1,196 @@
+-- What is promised of the explanation, over the definitions of its contract (`explanation`, `noteOn`).
+--     note-explained      the explanation of a printed note is that of its five numbers
+--     names-refusal       it begins with the words for its refusal
+--     in-words            some of these, computed
+--     numbers-decide      it depends on nothing but the five numbers
+--     only-notes          a line is taken as a note only where it is one, as it is printed
+--     explanation-fits    a buffer of 330 bytes has room for every explanation
+-- Assumes nothing.
+use mathlib.Core.Path.{_≡_, refl, sym, ap, _∙_}
+use mathlib.Core.List.{List, [], _∷_, _++_, map, append-assoc}
+use mathlib.Core.Bool.{true}
+use mathlib.Core.Logic.{⊎-elim}
+use Prim.Native.Nat.{ℕ, zero, suc, _+_, _/_, _%_, _^_, _≤_, max}
+use native.Mathlib.Omega.{arith}
+use lib.Dec.{eqb, ltb}
+use lib.ListN.{length, getD, length-append}
+use lib.Seq.{take-append-seam}
+use borrow.Author.Tests.{le-ltb}
+use Rattle.lists.proofs.Cases.{ltb-cases, bool-cases, by-cond, zero-not-one}
+use Rattle.slices.specs.Same.{same, begins}
+use Rattle.slices.specs.Text.{text}
+use Rattle.lines.specs.Text.{hexBytes, hexText}
+use Rattle.notes.specs.declared.Note.{Note}
+use Rattle.notes.specs.declared.NoteRead.{NoteRead}
+use Rattle.notes.specs.declared.NoteRead.the-variants.{Taken, NotOneNote}
+use Rattle.notes.specs.Note.{numbers, noteOf, AllBelow, IsNote}
+use Rattle.notes.specs.Reader.{noteIn}
+use Rattle.notes.proofs.Promises.{fits-fifteen, round-trip, accepts-exactly}
+use Rattle.explanations.specs.Decimal.{decimalIn, decimal, around}
+use Rattle.explanations.specs.Explanation.{refusals, headPart, wordsPart, refusalLine, placeLine, kinds, kindLine, seriesPart, intervalsPart, explained, noteOn, meaning, explanation}
+use Rattle.explanations.proofs.OnLine.{text-size}
+use Rattle.explanations.proofs.Printed.{same-self, same-equal, note-bytes, read-bytes, printed-back}
+
+on-printed : (n : Note) → AllBelow (2 ^ 21) (numbers n) → noteOn (hexText (noteOf n)) ≡ Taken n
+unfolding noteOn
+on-printed n h =
+    let s = noteOf n in
+    let b = printed-back s (note-bytes (numbers n) h) in
+    rw (le-ltb 44 (length (hexText s)) (omega (arith, text-size s, fits-fifteen n h)), b, same-self (hexText s)) (round-trip n h)
+
+pub note-explained : (n : Note) → AllBelow (2 ^ 21) (numbers n) → explanation (hexText (noteOf n)) ≡ explained n
+unfolding explanation
+note-explained n h = ap meaning (on-printed n h)
+
+-- ---- the refusal in words
+begins-front : (t s : List ℕ) → begins t (t ++ s) ≡ true
+unfolding begins
+begins-front t s = rw (take-append-seam t s) (same-self t)
+
+words-row : (k : ℕ) → k ≤ 10 → wordsPart k ≡ getD refusals k []
+unfolding wordsPart
+words-row k h = rw (le-ltb 10 k h)
+
+pub names-refusal : (n : Note) → AllBelow (2 ^ 21) (numbers n) → n .refusal ≤ 10
+    → begins (headPart (n .refusal) ++ getD refusals (n .refusal) []) (explanation (hexText (noteOf n))) ≡ true
+unfolding explained refusalLine
+names-refusal n h r =
+    let head = headPart (n .refusal) in
+    let words = wordsPart (n .refusal) in
+    let after = placeLine (n .refusal) (n .place) ++ (kindLine (n .kind) ++ (seriesPart (n .refusal) (n .series) ++ intervalsPart (n .intervals))) in
+    let e : explained n ≡ (head ++ words) ++ (text ".\n" ++ after) =
+    append-assoc head (words ++ text ".\n") after
+    ∙ ap (λ (l : List ℕ). head ++ l) (append-assoc words (text ".\n") after)
+    ∙ sym (append-assoc head words (text ".\n" ++ after)) in
+    rw (note-explained n h ∙ e, ← words-row (n .refusal) r) (begins-front (head ++ words) (text ".\n" ++ after))
+
+-- some of them, computed
+pub in-words : map (λ (k : ℕ). headPart k ++ wordsPart k) (0 ∷ 6 ∷ 10 ∷ 11 ∷ [])
+    ≡ text "Accepted: 0, the document has no fault" ∷
+    text "Refused: 6, a value is against its form or its fixed value" ∷
+    text "Refused: 10, the note buffer has fewer than 16 bytes" ∷
+    text "Refused: 11, an unknown refusal" ∷ []
+unfolding headPart wordsPart around decimalIn
+in-words = refl
+
+-- ---- the five numbers decide
+same-numbers : (n m : Note) → numbers n ≡ numbers m → explained n ≡ explained m
+same-numbers n m e =
+    ap
+    (λ (l : List ℕ). explained (record { refusal = getD l 0 0; place = getD l 1 0; kind = getD l 2 0; series = getD l 3 0; intervals = getD l 4 0 }))
+    e
+
+pub numbers-decide : (x y : List ℕ) (n m : Note) → noteOn x ≡ Taken n → noteOn y ≡ Taken m → numbers n ≡ numbers m → explanation x ≡ explanation y
+unfolding explanation
+numbers-decide x y n m ex ey e = ap meaning ex ∙ same-numbers n m e ∙ sym (ap meaning ey)
+
+-- ---- nothing else is explained
+not-taken : {n : Note} → NotOneNote ≡ Taken n → ⊥
+not-taken e = zero-not-one (cc)
+
+pub only-notes : (line : List ℕ) (n : Note) → noteOn line ≡ Taken n → (line ≡ hexText (noteOf n)) × AllBelow (2 ^ 21) (numbers n)
+unfolding noteOn
+only-notes line n e =
+    let b = hexBytes 16 line in
+    ⊎-elim
+    (λ y. absurd (not-taken (rw (y .1) at e)))
+    (λ y.
+    ⊎-elim
+    (λ z.
+    let q : noteIn b ≡ Taken n = rw (y .1, z) at e in
+    let i : IsNote b (numbers n) = accepts-exactly b (numbers n) (read-bytes 16 line) .0 (rw q (refl, refl)) in
+    (sym (same-equal (hexText b) line z) ∙ ap hexText (i .bytes), i .small))
+    (λ z. absurd (not-taken (rw (y .1, z) at e)))
+    (bool-cases (same (hexText b) line)))
+    (ltb-cases 44 (length line))
+
+-- ---- the room that an explanation takes
+-- the length of the longest row
+most : List (List ℕ) → ℕ
+most [] = 0
+most (t ∷ l) = max (length t) (most l)
+
+row-size : (l : List (List ℕ)) (i : ℕ) → length (getD l i []) ≤ most l
+unfolding most
+row-size [] i = omega arith
+row-size (t ∷ l) zero = omega arith
+row-size (t ∷ l) (suc i) = omega (arith, row-size l i)
+
+decimal-size : (k n : ℕ) → length (decimalIn k n) ≤ suc k
+unfolding decimalIn
+decimal-size zero n = omega arith
+decimal-size (suc k) n =
+    ⊎-elim
+    (λ y. rw (y .1) (omega arith))
+    (λ y. rw (y .1) (omega (arith, decimal-size k (n / 10), length-append (decimalIn k (n / 10)) ((48 + n % 10) ∷ []))))
+    (ltb-cases n 10)
+
+around-size : (x : List ℕ) (n : ℕ) (y : List ℕ) → length (around x n y) ≤ length x + length y + 10
+unfolding around
+around-size x n y = omega (arith, length-append x (decimal n ++ y), length-append (decimal n) y, decimal-size 9 n)
+
+-- at most m characters
+abbrev Short : ℕ → List ℕ → Type 0
+Short m l = length l ≤ m
+
+words-size : (n : ℕ) → Short 80 (wordsPart n)
+unfolding wordsPart most
+words-size n = by-cond (Short 80) (ltb 10 n) (omega arith) (omega (arith, row-size refusals n))
+
+head-size : (n : ℕ) → Short 25 (headPart n)
+unfolding headPart
+head-size n = by-cond (Short 25) (eqb n 0) (omega arith) (omega (arith, around-size (text "Refused: ") n (text ", ")))
+
+refusal-size : (n : ℕ) → Short 107 (refusalLine n)
+unfolding refusalLine
+refusal-size n =
+    omega
+    (arith, length-append (headPart n) (wordsPart n ++ text ".\n"), length-append (wordsPart n) (text ".\n"), head-size n, words-size n)
+
+place-size : (r n : ℕ) → Short 80 (placeLine r n)
+unfolding placeLine
+place-size r n =
+    by-cond (Short 80) (eqb r 0)
+    (omega (arith, around-size (text "Length: the document has ") n (text " bytes.\n")))
+    (omega (arith, around-size (text "Place: byte ") n (text " of the document, its first byte being byte 0.\n")))
+
+kind-size : (n : ℕ) → Short 50 (kindLine n)
+unfolding kindLine most
+kind-size n = by-cond (Short 50) (ltb 2 n) (omega (arith, around-size (text "Kind: ") n (text ", an unknown kind.\n"))) (omega (arith, row-size kinds n))
+
+series-size : (r n : ℕ) → Short 60 (seriesPart r n)
+unfolding seriesPart
+series-size r n =
+    by-cond (Short 60) (eqb r 0)
+    (omega (arith, around-size (text "Counts: the document has ") n (text " series and ")))
+    (omega (arith, around-size (text "Counts: before that place ") n (text " series and ")))
+
+intervals-size : (n : ℕ) → Short 30 (intervalsPart n)
+unfolding intervalsPart
+intervals-size n = by-cond (Short 30) (eqb n 1) (omega arith) (omega (arith, around-size [] n (text " intervals.\n")))
+
+meaning-size : (r : NoteRead) → Short 330 (meaning r)
+unfolding explained
+meaning-size (Taken n) =
+    let l1 = refusalLine (n .refusal) in
+    let l2 = placeLine (n .refusal) (n .place) in
+    let l3 = kindLine (n .kind) in
+    let l4 = seriesPart (n .refusal) (n .series) in
+    let l5 = intervalsPart (n .intervals) in
+    omega (
+      arith,
+      length-append l1 (l2 ++ (l3 ++ (l4 ++ l5))),
+      length-append l2 (l3 ++ (l4 ++ l5)),
+      length-append l3 (l4 ++ l5),
+      length-append l4 l5,
+      refusal-size (n .refusal),
+      place-size (n .refusal) (n .place),
+      kind-size (n .kind),
+      series-size (n .refusal) (n .series),
+      intervals-size (n .intervals),
+    )
+meaning-size NotOneNote = omega arith
+
+pub explanation-fits : (line : List ℕ) → length (explanation line) ≤ 330
+unfolding explanation
+explanation-fits line = meaning-size (noteOn line)

@@ -1,0 +1,85 @@
+-- What a note says, in words. Every note is explained by its five numbers, also one that no document reader gives, as acceptance with kind 0.
+use Prim.Native.Nat.{ℕ}
+use mathlib.Core.List.{List, [], _∷_, _++_}
+use mathlib.Core.Bool.{cond}
+use lib.Dec.{eqb, ltb}
+use lib.ListN.{length, getD}
+use Rattle.slices.specs.Same.{same}
+use Rattle.slices.specs.Text.{text}
+use Rattle.lines.specs.Text.{hexBytes, hexText}
+use Rattle.notes.specs.declared.Note.{Note}
+use Rattle.notes.specs.declared.NoteRead.{NoteRead}
+use Rattle.notes.specs.declared.NoteRead.the-variants.{Taken, NotOneNote}
+use Rattle.notes.specs.Reader.{noteIn}
+use Rattle.explanations.specs.Decimal.{around}
+
+-- "Refusal numbers", in words, from 0 on: "Acceptance is number 0"
+abbrev pub refusals : List (List ℕ)
+refusals =
+    text "the document has no fault" ∷
+    text "the document is longer than 1048576 bytes" ∷
+    text "an item is unreadable" ∷
+    text "an element, an end tag or text is not due here, or the document ends too early" ∷
+    text "a table for series or intervals is full" ∷
+    text "an attribute is missing or unknown" ∷
+    text "a value is against its form or its fixed value" ∷
+    text "a value is outside its code list" ∷
+    text "a value or a count is against another value" ∷
+    text "a TimeSeriesIdentification was used before" ∷
+    text "the note buffer has fewer than 16 bytes" ∷ []
+
+unfoldable pub wordsPart : ℕ → List ℕ
+wordsPart n = cond (ltb 10 n) (text "an unknown refusal") (getD refusals n [])
+
+unfoldable pub headPart : ℕ → List ℕ
+headPart n = cond (eqb n 0) (text "Accepted: 0, ") (around (text "Refused: ") n (text ", "))
+
+unfoldable pub refusalLine : ℕ → List ℕ
+refusalLine n = headPart n ++ (wordsPart n ++ text ".\n")
+
+-- "The place of an item is the index of its first byte, with 0 for the document's first byte"; "Acceptance is number 0 with place equal to the length"
+unfoldable pub placeLine : ℕ → ℕ → List ℕ
+placeLine refusal place =
+    cond (eqb refusal 0)
+    (around (text "Length: the document has ") place (text " bytes.\n"))
+    (around (text "Place: byte ") place (text " of the document, its first byte being byte 0.\n"))
+
+-- "Beschaffungsanforderung 1.0, kind 1, and Kostenblatt 1.0, kind 2"; "Kind is that of a root start standing in an item before the faulty one, else 0."
+abbrev pub kinds : List (List ℕ)
+kinds =
+    text "Kind: 0, no root yet.\n" ∷
+    text "Kind: 1, Beschaffungsanforderung.\n" ∷
+    text "Kind: 2, Kostenblatt.\n" ∷ []
+
+unfoldable pub kindLine : ℕ → List ℕ
+kindLine kind = cond (ltb 2 kind) (around (text "Kind: ") kind (text ", an unknown kind.\n")) (getD kinds kind [])
+
+-- "Series and intervals count their start tags in items before the faulty one. On acceptance they are those of the whole document."
+unfoldable pub seriesPart : ℕ → ℕ → List ℕ
+seriesPart refusal series =
+    cond (eqb refusal 0)
+    (around (text "Counts: the document has ") series (text " series and "))
+    (around (text "Counts: before that place ") series (text " series and "))
+
+unfoldable pub intervalsPart : ℕ → List ℕ
+intervalsPart intervals = cond (eqb intervals 1) (text "1 interval.\n") (around [] intervals (text " intervals.\n"))
+
+-- "The note is five numbers: refusal, place, kind, series, intervals."
+unfoldable pub explained : Note → List ℕ
+explained n =
+    refusalLine (n .refusal) ++
+    (placeLine (n .refusal) (n .place) ++ (kindLine (n .kind) ++ (seriesPart (n .refusal) (n .series) ++ intervalsPart (n .intervals))))
+
+-- The note on a line, where the line is as the program prints it: "two-digit upper-case hex, single spaces". No note has more than 15 bytes
+-- (`fits-fifteen` of notes), so no line of a note has more than 44 characters.
+unfoldable pub noteOn : List ℕ → NoteRead
+noteOn line =
+    cond (ltb 44 (length line)) NotOneNote
+    (cond (same (hexText (hexBytes 16 line)) line) (noteIn (hexBytes 16 line)) NotOneNote)
+
+abbrev pub meaning : NoteRead → List ℕ
+meaning (Taken n) = explained n
+meaning NotOneNote = text "This is not a note.\n"
+
+unfoldable pub explanation : List ℕ → List ℕ
+explanation line = meaning (noteOn line)

@@ -1,0 +1,49 @@
+use mathlib.Core.Path.{ap}
+use Rattle.reader.specs.declared.Answer.{Answer}
+use Rattle.library.proofs.Lengths.{note-short}
+use borrow.Author.Needs.{needs}
+use Rattle.library.proofs.lumintayag_read.Statement.{statement}
+use Rattle.library.proofs.lumintayag_read.Tie as tie
+use Rattle.library.proofs.lumintayag_read.Reads as reads
+use Rattle.library.proofs.lumintayag_read.Lts as lts
+use Rattle.library.proofs.put_answer.Reads as put-answer-reads
+use Rattle.reader.proofs.read.Reads as read-reads
+
+read-requires : tie.Need-read-requires
+read-requires c κs = search needs
+
+put-answer-requires : tie.Need-put-answer-requires
+put-answer-requires c κs = rw (c .before .before .before .before .before .before .before .before .read .ensures .0) (note-short _ _ _ _ _)
+
+same-length : tie.Need-same-length
+same-length c = search needs
+
+same-length-2 : tie.Need-same-length-2
+same-length-2 c = search needs
+
+same-length-3 : tie.Need-same-length-3
+same-length-3 c = search needs
+
+same-length-4 : tie.Need-same-length-4
+same-length-4 c = search needs
+
+same-length-5 : tie.Need-same-length-5
+same-length-5 c = search needs
+
+returns : tie.Need-returns
+returns c =
+    let q = c .before .before .before .before .before .before .before .before .before .before .before .read .ensures in
+    (ap (λ (a : Answer). a .refusal) (q .0), (q .1 .0, (q .1 .1 .0, (q .1 .1 .1 .0, (q .1 .1 .1 .1, rw (← q .0) (c .before .before .put-answer .ensures))))))
+
+pub lumintayag-read-spec : {M : Type 1} → statement M
+lumintayag-read-spec =
+    tie.close
+    (tie.spec
+    read-requires
+    put-answer-requires
+    same-length
+    same-length-2
+    same-length-3
+    same-length-4
+    same-length-5
+    returns)

@@ -1,0 +1,66 @@
+-- What the items of a document say of an answer's place and counts.
+use Prim.Native.Nat.{ℕ, suc}
+use mathlib.Core.Path.{_≡_}
+use mathlib.Core.List.{List, [], _∷_}
+use mathlib.Core.Logic.{_⊎_}
+use mathlib.Core.Bool.{Bool, true, false, cond}
+use lib.Dec.{eqb, ltb}
+use lib.ListN.{length}
+use Rattle.slices.specs.Text.{text}
+use Rattle.attributes.specs.Attribute.{partOf}
+use Rattle.elements.specs.Names.{elementNo}
+use Rattle.guideline.specs.Kinds.{kindOf}
+use Rattle.prolog.specs.Prolog.{begin}
+use Rattle.prolog.specs.declared.Begin.{Begin}
+use Rattle.prolog.specs.declared.Begin.the-variants.{From, Unreadable}
+use Rattle.items.specs.declared.Item.{Item}
+use Rattle.items.specs.declared.Item.the-variants.{Start, Empty, End, Text, Comment, Refused}
+use Rattle.reader.specs.Items.{Placed, itemsFrom}
+
+-- the items of a document; none where its XML declaration is unreadable
+unfoldable pub itemsBy : List ℕ → Begin → List Placed
+itemsBy doc (From n) = itemsFrom doc n
+itemsBy doc (Unreadable p) = []
+
+unfoldable pub itemsIn : List ℕ → List Placed
+itemsIn doc = itemsBy doc (begin doc)
+
+-- one of the items stands at a place
+unfoldable pub standsAt : ℕ → List Placed → Bool
+standsAt place [] = false
+standsAt place (x ∷ xs) = let rest = standsAt place xs in cond (eqb (x .at) place) true rest
+
+-- "item or length": at the length, at an item, or at the XML declaration, which is read before the items
+abbrev pub PlaceOf : List ℕ → ℕ → Type 0
+PlaceOf doc place = (place ≡ length doc) ⊎ ((standsAt place (itemsIn doc) ≡ true) ⊎ (begin doc ≡ Unreadable place))
+
+-- the number of the element that an item starts, 0 for none: "An empty tag is a start and an end in one item."
+unfoldable pub startedIn : Item → List ℕ → ℕ
+startedIn (Start t) s = elementNo (partOf s 1 (t .name))
+startedIn (Empty t) s = elementNo (partOf s 1 (t .name))
+startedIn (End n e) s = 0
+startedIn (Text white e) s = 0
+startedIn (Comment e) s = 0
+startedIn (Refused p) s = 0
+
+-- the items before a place
+unfoldable pub before : ℕ → List Placed → List Placed
+before place [] = []
+before place (x ∷ xs) = let rest = before place xs in cond (ltb (x .at) place) (x ∷ rest) rest
+
+-- how many items start this element
+unfoldable pub starts : ℕ → List Placed → ℕ
+starts element [] = 0
+starts element (x ∷ xs) = let rest = starts element xs in cond (eqb (startedIn (x .item) (x .rest)) element) (suc rest) rest
+
+-- the kind that the first root start among them tells
+unfoldable pub kindIn : List Placed → ℕ
+kindIn [] = 0
+kindIn (x ∷ xs) = let rest = kindIn xs in cond (eqb (kindOf (startedIn (x .item) (x .rest))) 0) rest (kindOf (startedIn (x .item) (x .rest)))
+
+-- a series, by kind; an Interval
+unfoldable pub seriesElement : ℕ → ℕ
+seriesElement kind = cond (eqb kind 1) (elementNo (text "ScheduleTimeSeries")) (elementNo (text "CostTimeSeries"))
+
+unfoldable pub intervalElement : ℕ
+intervalElement = elementNo (text "Interval")

@@ -1,0 +1,804 @@
+//! A reader of document 01, written from the paper alone, in the paper's order.
+
+use crate::rows::{Attribute, Form, Row, Task, ROOTS};
+use std::collections::BTreeSet;
+use std::ops::Range;
+
+/// How much the caller lends.
+#[derive(Clone, Copy, PartialEq, Eq, Debug)]
+pub struct Lengths {
+    pub series: usize,
+    pub positions: usize,
+    pub amounts: usize,
+    pub note: usize,
+}
+
+/// The answer (refusal, place, kind, series, intervals, N, note length) and what is left in all that was lent.
+#[derive(Clone, PartialEq, Eq, Debug)]
+pub struct Outcome {
+    pub answer: [u32; 7],
+    pub series: Vec<u32>,
+    pub positions: Vec<u32>,
+    pub amounts: Vec<i64>,
+    pub note: Vec<u8>,
+}
+
+/// "the document is longer than 1,048,576 bytes"
+pub const LONGEST: usize = 1_048_576;
+/// "the note buffer has fewer than 16 bytes"
+pub const LEAST_NOTE: usize = 16;
+
+// ---------------------------------------------------------------- Items
+
+/// One of 01's five kinds of items; a start and an empty tag differ by `empty`, and text by what is in it.
+enum Item<'d> {
+    Tag { name: &'d [u8], attributes: Vec<Given<'d>>, empty: bool },
+    End { name: &'d [u8] },
+    WhiteText,
+    OtherText,
+    Comment,
+}
+
+/// An attribute as a tag has it: its name, and where the bytes between the quotes are.
+struct Given<'d> {
+    name: &'d [u8],
+    value: Range<usize>,
+}
+
+fn byte(doc: &[u8], at: usize) -> Option<u8> {
+    doc.get(at).copied()
+}
+
+fn part(doc: &[u8], range: Range<usize>) -> &[u8] {
+    doc.get(range).unwrap_or(&[])
+}
+
+fn starts(doc: &[u8], at: usize, with: &[u8]) -> bool {
+    part(doc, at..doc.len()).starts_with(with)
+}
+
+fn is_white(b: u8) -> bool {
+    matches!(b, b' ' | b'\t' | b'\r' | b'\n')
+}
+
+fn after_white(doc: &[u8], at: usize) -> usize {
+    let white = part(doc, at..doc.len()).iter().take_while(|b| is_white(**b)).count();
+    at + white
+}
+
+/// "Bytes are UTF-8 (RFC 3629) and XML 1.0 characters."
+fn xml_characters(bytes: &[u8]) -> bool {
+    match std::str::from_utf8(bytes) {
+        Ok(text) => text.chars().all(is_xml_character),
+        Err(_) => false,
+    }
+}
+
+fn is_xml_character(c: char) -> bool {
+    matches!(c, '\t' | '\n' | '\r' | '\u{20}'..='\u{D7FF}' | '\u{E000}'..='\u{FFFD}' | '\u{10000}'..='\u{10FFFF}')
+}
+
+/// "names are ASCII letters, digits, `_ - . :` and begin with a letter or `_`"
+fn name_at(doc: &[u8], at: usize) -> Option<&[u8]> {
+    let first = byte(doc, at)?;
+    if !(first.is_ascii_alphabetic() || first == b'_') {
+        return None;
+    }
+    let more = |b: &&u8| b.is_ascii_alphanumeric() || matches!(**b, b'_' | b'-' | b'.' | b':');
+    let length = part(doc, at..doc.len()).iter().take_while(more).count();
+    doc.get(at..at + length)
+}
+
+/// White space, `=` and white space: the place after them.
+fn after_equals(doc: &[u8], at: usize) -> Option<usize> {
+    let equals = after_white(doc, at);
+    match byte(doc, equals) {
+        Some(b'=') => Some(after_white(doc, equals + 1)),
+        _ => None,
+    }
+}
+
+/// The place of the bytes between two equal quotes.
+fn quoted_at(doc: &[u8], at: usize) -> Option<Range<usize>> {
+    let quote = byte(doc, at)?;
+    if quote != b'"' && quote != b'\'' {
+        return None;
+    }
+    let inside = part(doc, at + 1..doc.len());
+    let length = inside.iter().position(|b| *b == quote)?;
+    Some(at + 1..at + 1 + length)
+}
+
+/// "no `&` anywhere but in a comment; no tab, CR or LF inside an attribute value", no `<` in a value.
+fn value_readable(value: &[u8]) -> bool {
+    !value.iter().any(|b| matches!(b, b'<' | b'&' | b'\t' | b'\r' | b'\n')) && xml_characters(value)
+}
+
+fn attribute_at(doc: &[u8], at: usize) -> Option<Given<'_>> {
+    let name = name_at(doc, at)?;
+    let value = quoted_at(doc, after_equals(doc, at + name.len())?)?;
+    if value_readable(part(doc, value.clone())) {
+        Some(Given { name, value })
+    } else {
+        None
+    }
+}
+
+/// The attributes of a tag and the place after the last one. White space is needed before each.
+fn attributes_at(doc: &[u8], from: usize) -> Option<(Vec<Given<'_>>, usize)> {
+    let mut attributes = Vec::new();
+    let mut at = from;
+    loop {
+        let next = after_white(doc, at);
+        if matches!(byte(doc, next)?, b'>' | b'/') {
+            return Some((attributes, next));
+        }
+        if next == at {
+            return None;
+        }
+        let given = attribute_at(doc, next)?;
+        at = given.value.end + 1;
+        attributes.push(given);
+    }
+}
+
+/// "An attribute twice in a tag .. makes the item unreadable."
+fn none_twice(attributes: &[Given]) -> bool {
+    let names: BTreeSet<&[u8]> = attributes.iter().map(|given| given.name).collect();
+    names.len() == attributes.len()
+}
+
+fn tag_at(doc: &[u8], at: usize) -> Option<(Item<'_>, usize)> {
+    let name = name_at(doc, at + 1)?;
+    let (attributes, close) = attributes_at(doc, at + 1 + name.len())?;
+    if !none_twice(&attributes) {
+        return None;
+    }
+    if byte(doc, close) == Some(b'>') {
+        Some((Item::Tag { name, attributes, empty: false }, close + 1))
+    } else if starts(doc, close, b"/>") {
+        Some((Item::Tag { name, attributes, empty: true }, close + 2))
+    } else {
+        None
+    }
+}
+
+fn end_tag_at(doc: &[u8], at: usize) -> Option<(Item<'_>, usize)> {
+    let name = name_at(doc, at + 2)?;
+    let close = after_white(doc, at + 2 + name.len());
+    if byte(doc, close) == Some(b'>') {
+        Some((Item::End { name }, close + 1))
+    } else {
+        None
+    }
+}
+
+/// "So does `--` inside a comment": the first one after `<!--` has to be that of `-->`.
+fn comment_at(doc: &[u8], at: usize) -> Option<(Item<'_>, usize)> {
+    let inside = part(doc, at + 4..doc.len());
+    let length = inside.windows(2).position(|two| two == b"--")?;
+    if inside.get(length + 2) == Some(&b'>') && xml_characters(part(inside, 0..length)) {
+        Some((Item::Comment, at + 4 + length + 3))
+    } else {
+        None
+    }
+}
+
+/// "Text is a longest run of bytes without `<`."
+fn text_at(doc: &[u8], at: usize) -> Option<(Item<'_>, usize)> {
+    let rest = part(doc, at..doc.len());
+    let length = rest.iter().position(|b| *b == b'<').unwrap_or(rest.len());
+    let text = part(rest, 0..length);
+    if text.iter().all(|b| is_white(*b)) {
+        Some((Item::WhiteText, at + length))
+    } else if text.contains(&b'&') || text.windows(3).any(|three| three == b"]]>") || !xml_characters(text) {
+        None
+    } else {
+        Some((Item::OtherText, at + length))
+    }
+}
+
+/// The item that starts at `at` and the place after it; nothing where it is unreadable.
+fn item_at(doc: &[u8], at: usize) -> Option<(Item<'_>, usize)> {
+    if byte(doc, at) != Some(b'<') {
+        text_at(doc, at)
+    } else if starts(doc, at, b"<!--") {
+        comment_at(doc, at)
+    } else if starts(doc, at, b"</") {
+        end_tag_at(doc, at)
+    } else {
+        tag_at(doc, at)
+    }
+}
+
+/// A word of the declaration with white space before it, and its value: the place of the value.
+fn declared_at(doc: &[u8], at: usize, word: &[u8]) -> Option<Range<usize>> {
+    let start = after_white(doc, at);
+    if start == at || !starts(doc, start, word) {
+        return None;
+    }
+    quoted_at(doc, after_equals(doc, start + word.len())?)
+}
+
+/// "version 1.0, then optionally encoding UTF-8 in any letter case, with single or double quotes": the place after it.
+fn after_declaration(doc: &[u8], at: usize) -> Option<usize> {
+    let version = declared_at(doc, at + 5, b"version")?;
+    if part(doc, version.clone()) != b"1.0" {
+        return None;
+    }
+    let mut end = version.end + 1;
+    if let Some(encoding) = declared_at(doc, end, b"encoding") {
+        if !part(doc, encoding.clone()).eq_ignore_ascii_case(b"UTF-8") {
+            return None;
+        }
+        end = encoding.end + 1;
+    }
+    let close = after_white(doc, end);
+    if starts(doc, close, b"?>") {
+        Some(close + 2)
+    } else {
+        None
+    }
+}
+
+// ---------------------------------------------------------------- Forms of values
+
+fn spaces_dropped(doc: &[u8], value: Range<usize>) -> Range<usize> {
+    let bytes = part(doc, value.clone());
+    let leading = bytes.iter().take_while(|b| **b == b' ').count();
+    let trailing = bytes.iter().rev().take_while(|b| **b == b' ').count();
+    if leading == bytes.len() {
+        value.end..value.end
+    } else {
+        value.start + leading..value.end - trailing
+    }
+}
+
+fn all_digits(bytes: &[u8]) -> bool {
+    bytes.iter().all(u8::is_ascii_digit)
+}
+
+/// The number that some digits say; nothing where there is none or anything else among them.
+fn number(bytes: &[u8]) -> Option<i64> {
+    if bytes.is_empty() || bytes.len() > 15 || !all_digits(bytes) {
+        return None;
+    }
+    Some(bytes.iter().fold(0, |sum, b| sum * 10 + i64::from(b - b'0')))
+}
+
+/// "0 to 35 characters"
+fn is_identification(value: &[u8]) -> bool {
+    std::str::from_utf8(value).is_ok_and(|text| text.chars().count() <= 35)
+}
+
+/// "thirteen digits"
+fn is_partner(value: &[u8]) -> bool {
+    value.len() == 13 && all_digits(value)
+}
+
+/// "sixteen of A-Z, 0-9, `-`"
+fn is_party(value: &[u8]) -> bool {
+    value.len() == 16 && value.iter().all(|b| b.is_ascii_uppercase() || b.is_ascii_digit() || *b == b'-')
+}
+
+/// "A, B or C, nine of A-Z or 0-9, one digit"
+fn is_object(value: &[u8]) -> bool {
+    match value {
+        [first, middle @ .., last] => {
+            matches!(first, b'A' | b'B' | b'C')
+                && middle.len() == 9
+                && middle.iter().all(|b| b.is_ascii_uppercase() || b.is_ascii_digit())
+                && last.is_ascii_digit()
+        }
+        _ => false,
+    }
+}
+
+/// A number of at most so many digits without a leading zero.
+fn plain_number(value: &[u8], digits: usize) -> Option<u32> {
+    if value.len() > digits || value.first() == Some(&b'0') {
+        return None;
+    }
+    number(value).and_then(|n| u32::try_from(n).ok())
+}
+
+/// "an optional minus, 1 to 12 digits, optionally a point with 1 to 3 digits", in thousandths
+fn amount(value: &[u8]) -> Option<i64> {
+    let (sign, unsigned) = match value.strip_prefix(b"-") {
+        Some(rest) => (-1, rest),
+        None => (1, value),
+    };
+    let point = unsigned.iter().position(|b| *b == b'.');
+    let whole = part(unsigned, 0..point.unwrap_or(unsigned.len()));
+    if whole.len() > 12 {
+        return None;
+    }
+    let thousandths = match point {
+        Some(p) => fraction(part(unsigned, p + 1..unsigned.len()))?,
+        None => 0,
+    };
+    Some(sign * (number(whole)? * 1000 + thousandths))
+}
+
+fn fraction(digits: &[u8]) -> Option<i64> {
+    match digits.len() {
+        1 => Some(number(digits)? * 100),
+        2 => Some(number(digits)? * 10),
+        3 => number(digits),
+        _ => None,
+    }
+}
+
+fn is_leap(year: i64) -> bool {
+    year % 4 == 0 && (year % 100 != 0 || year % 400 == 0)
+}
+
+fn days_of_month(year: i64, month: i64) -> i64 {
+    match month {
+        1 | 3 | 5 | 7 | 8 | 10 | 12 => 31,
+        4 | 6 | 9 | 11 => 30,
+        2 if is_leap(year) => 29,
+        2 => 28,
+        _ => 0,
+    }
+}
+
+/// Days from 2000-01-01 to a date that there is.
+fn day_number(year: i64, month: i64, day: i64) -> i64 {
+    let years: i64 = (2000..year).map(|y| if is_leap(y) { 366 } else { 365 }).sum();
+    let months: i64 = (1..month).map(|m| days_of_month(year, m)).sum();
+    years + months + day - 1
+}
+
+/// `yyyy-mm-dd`: "years 2000 to 2099, real calendar dates", as days from 2000-01-01
+fn date(text: &[u8]) -> Option<i64> {
+    let year = number(text.get(0..4)?)?;
+    let month = number(text.get(5..7)?)?;
+    let day = number(text.get(8..10)?)?;
+    let dashes = text.len() == 10 && text.get(4) == Some(&b'-') && text.get(7) == Some(&b'-');
+    if dashes && (2000..=2099).contains(&year) && day >= 1 && day <= days_of_month(year, month) {
+        Some(day_number(year, month, day))
+    } else {
+        None
+    }
+}
+
+/// `hh:mm`, in minutes
+fn clock(text: &[u8]) -> Option<i64> {
+    let hour = number(text.get(0..2)?)?;
+    let minute = number(text.get(3..5)?)?;
+    if text.len() == 5 && text.get(2) == Some(&b':') && hour <= 23 && minute <= 59 {
+        Some(hour * 60 + minute)
+    } else {
+        None
+    }
+}
+
+/// `yyyy-mm-ddThh:mmZ`, in minutes from 2000-01-01
+fn minute_time(text: &[u8]) -> Option<i64> {
+    if text.len() == 17 && text.get(10) == Some(&b'T') && text.get(16) == Some(&b'Z') {
+        Some(date(text.get(0..10)?)? * 1440 + clock(text.get(11..16)?)?)
+    } else {
+        None
+    }
+}
+
+/// `yyyy-mm-ddThh:mm:ssZ`
+fn is_date_time(text: &[u8]) -> bool {
+    let shape = text.len() == 20 && text.get(10) == Some(&b'T') && text.get(16) == Some(&b':') && text.get(19) == Some(&b'Z');
+    let second = number(part(text, 17..19)).is_some_and(|s| s <= 59);
+    shape && second && date(part(text, 0..10)).is_some() && clock(part(text, 11..16)).is_some()
+}
+
+/// "two minute-times joined by `/`", in minutes
+fn interval(text: &[u8]) -> Option<(i64, i64)> {
+    if text.len() == 35 && text.get(17) == Some(&b'/') {
+        Some((minute_time(text.get(0..17)?)?, minute_time(text.get(18..35)?)?))
+    } else {
+        None
+    }
+}
+
+// ---------------------------------------------------------------- Values against each other
+
+/// "Kind 1: TimePeriodCovered starts at 22:00Z or 23:00Z and ends at 22:00Z or 23:00Z on the next UTC date."
+/// "Kind 2: its end is after its start, by a multiple of 15 minutes and at most 366 days."
+fn period_fits(kind: u32, start: i64, end: i64) -> bool {
+    let evening = |minutes: i64| matches!(minutes % 1440, 1320 | 1380);
+    if kind == 1 {
+        evening(start) && evening(end) && end / 1440 == start / 1440 + 1
+    } else {
+        end > start && (end - start) % 15 == 0 && end - start <= 366 * 1440
+    }
+}
+
+// ---------------------------------------------------------------- Reading
+
+/// No fault, or this one.
+fn unless(fits: bool, refusal: u32) -> u32 {
+    if fits {
+        0
+    } else {
+        refusal
+    }
+}
+
+struct Open {
+    row: &'static Row,
+    /// The child that was last there, and how often it was.
+    child: usize,
+    count: usize,
+}
+
+struct Reading<'d> {
+    doc: &'d [u8],
+    series_room: usize,
+    interval_room: usize,
+    kind: u32,
+    open: Vec<Open>,
+    /// The value of TimePeriodCovered and its length divided by 15 minutes.
+    covered: &'d [u8],
+    n: u32,
+    originals: usize,
+    last_pos: u32,
+    series: Vec<[u32; 8]>,
+    positions: Vec<u32>,
+    amounts: Vec<i64>,
+}
+
+impl<'d> Reading<'d> {
+    fn new(doc: &'d [u8], lengths: &Lengths) -> Reading<'d> {
+        Reading {
+            doc,
+            series_room: lengths.series / 8,
+            interval_room: lengths.positions.min(lengths.amounts),
+            kind: 0,
+            open: Vec::new(),
+            covered: &[],
+            n: 0,
+            originals: 0,
+            last_pos: 0,
+            series: Vec::new(),
+            positions: Vec::new(),
+            amounts: Vec::new(),
+        }
+    }
+
+    /// All items from front to back: the first refusal and its place, or 0 and the length.
+    fn items(&mut self) -> (u32, usize) {
+        let doc = self.doc;
+        let mut at = if doc.starts_with(&[0xEF, 0xBB, 0xBF]) { 3 } else { 0 };
+        if starts(doc, at, b"<?xml") {
+            match after_declaration(doc, at) {
+                Some(after) => at = after,
+                None => return (2, at),
+            }
+        }
+        while at < doc.len() {
+            let Some((item, after)) = item_at(doc, at) else { return (2, at) };
+            if let Err(refusal) = self.step(&item) {
+                return (refusal, at);
+            }
+            at = after;
+        }
+        let whole = self.kind != 0 && self.open.is_empty();
+        (unless(whole, 3), doc.len())
+    }
+
+    fn step(&mut self, item: &Item<'d>) -> Result<(), u32> {
+        match item {
+            Item::WhiteText | Item::Comment => Ok(()),
+            Item::OtherText => Err(3),
+            Item::End { name } => self.end(name),
+            Item::Tag { name, attributes, empty } => self.start(name, attributes, *empty),
+        }
+    }
+
+    fn start(&mut self, name: &[u8], attributes: &[Given], empty: bool) -> Result<(), u32> {
+        let row = self.due(name).ok_or(3u32)?;
+        if empty && !row.children.is_empty() {
+            return Err(3);
+        }
+        if self.full(row) {
+            return Err(4);
+        }
+        if !attributes_right(row, attributes) {
+            return Err(5);
+        }
+        let by_value = self.value_fault(row, attributes);
+        let half = row.task == Task::Period && (1..=4).contains(&self.originals);
+        let faults = [by_value, unless(!half, 8)];
+        if let Some(smallest) = faults.into_iter().filter(|fault| *fault > 0).min() {
+            return Err(smallest);
+        }
+        self.take(row, attributes);
+        if !empty {
+            self.open.push(Open { row, child: 0, count: 0 });
+        }
+        Ok(())
+    }
+
+    /// The element that a start of this name is, where it is due.
+    fn due(&mut self, name: &[u8]) -> Option<&'static Row> {
+        let Some(parent) = self.open.last_mut() else {
+            return if self.kind == 0 { ROOTS.iter().find(|root| root.name.as_bytes() == name) } else { None };
+        };
+        while let Some(row) = parent.row.children.get(parent.child) {
+            if row.name.as_bytes() == name && parent.count < row.most {
+                parent.count += 1;
+                return Some(row);
+            }
+            if parent.count < row.least {
+                return None;
+            }
+            parent.child += 1;
+            parent.count = 0;
+        }
+        None
+    }
+
+    /// "a due series or Interval start finds its table full"
+    fn full(&self, row: &Row) -> bool {
+        match row.task {
+            Task::Series => self.series.len() >= self.series_room,
+            Task::Interval => self.positions.len() >= self.interval_room,
+            _ => false,
+        }
+    }
+
+    /// The smallest fault among the values of a tag that has the right attributes; 0 where there is none.
+    fn value_fault(&self, row: &Row, attributes: &[Given]) -> u32 {
+        let faults = row.attributes.iter().filter_map(|wanted| {
+            let value = self.value(wanted, attributes)?;
+            Some(self.fault(wanted.form, part(self.doc, value)))
+        });
+        faults.filter(|fault| *fault > 0).min().unwrap_or(0)
+    }
+
+    /// Where the value of an attribute is, spaces dropped where the guideline says so.
+    fn value(&self, wanted: &Attribute, attributes: &[Given]) -> Option<Range<usize>> {
+        let given = attributes.iter().find(|given| given.name == wanted.name.as_bytes())?;
+        if wanted.collapse {
+            Some(spaces_dropped(self.doc, given.value.clone()))
+        } else {
+            Some(given.value.clone())
+        }
+    }
+
+    fn fault(&self, form: Form, value: &[u8]) -> u32 {
+        match form {
+            Form::Fixed => unless(value == b"1.0", 6),
+            Form::Identification => unless(is_identification(value), 6),
+            Form::SeriesIdentification => self.series_identification_fault(value),
+            Form::Partner => unless(is_partner(value), 6),
+            Form::Party => unless(is_party(value), 6),
+            Form::Object => unless(is_object(value), 6),
+            Form::Version => unless(plain_number(value, 3).is_some(), 6),
+            Form::DateTime => unless(is_date_time(value), 6),
+            Form::Covered => self.covered_fault(value),
+            Form::TimeInterval => self.time_interval_fault(value),
+            Form::Resolution => unless(value == b"PT15M", 8),
+            Form::Pos => self.pos_fault(value),
+            Form::Amount => unless(amount(value).is_some(), 6),
+            Form::List(codes) => unless(codes.iter().any(|code| code.as_bytes() == value), 7),
+        }
+    }
+
+    fn series_identification_fault(&self, value: &[u8]) -> u32 {
+        if !is_identification(value) {
+            return 6;
+        }
+        // The last row is that of the series at hand, whose identification is not yet there.
+        let earlier = self.series.len().saturating_sub(1);
+        let used = self.series.iter().take(earlier).any(|row| part(self.doc, view(row[0], row[1])) == value);
+        unless(!used, 9)
+    }
+
+    fn covered_fault(&self, value: &[u8]) -> u32 {
+        match interval(value) {
+            None => 6,
+            Some((start, end)) if period_fits(self.kind, start, end) => 0,
+            Some(_) => 8,
+        }
+    }
+
+    fn time_interval_fault(&self, value: &[u8]) -> u32 {
+        match interval(value) {
+            None => 6,
+            Some(_) if value == self.covered => 0,
+            Some(_) => 8,
+        }
+    }
+
+    /// "Pos is at most N. Kind 1: 1, 2, 3 and so on .. Kind 2: the first Pos is 1, later ones rise"
+    fn pos_fault(&self, value: &[u8]) -> u32 {
+        let Some(pos) = plain_number(value, 5) else { return 6 };
+        let follows = if self.kind == 1 || self.last_pos == 0 { pos == self.last_pos + 1 } else { pos > self.last_pos };
+        unless(follows && pos <= self.n, 8)
+    }
+
+    /// What an element without a fault leaves behind.
+    fn take(&mut self, row: &Row, attributes: &[Given]) {
+        let value = row.attributes.first().and_then(|wanted| self.value(wanted, attributes)).unwrap_or(0..0);
+        let bytes = part(self.doc, value.clone());
+        match row.task {
+            Task::Nothing => {}
+            Task::Root => self.kind = ROOTS.iter().zip(1..).find(|(root, _)| root.name == row.name).map_or(0, |(_, kind)| kind),
+            Task::Covered => self.take_covered(bytes),
+            Task::Series => self.take_series(),
+            Task::SeriesIdentification => self.set_view(0, value),
+            Task::Object => self.set_view(2, value),
+            Task::BusinessType => self.set_view(4, value),
+            Task::Original => self.originals += 1,
+            Task::Period => self.last_pos = 0,
+            Task::Interval => self.take_interval(),
+            Task::Pos => self.take_pos(plain_number(bytes, 5).unwrap_or(0)),
+            Task::Qty => self.take_amount(amount(bytes).unwrap_or(0)),
+        }
+    }
+
+    fn take_covered(&mut self, value: &'d [u8]) {
+        let (start, end) = interval(value).unwrap_or((0, 0));
+        self.n = u32::try_from((end - start) / 15).unwrap_or(0);
+        self.covered = value;
+    }
+
+    fn take_series(&mut self) {
+        self.originals = 0;
+        self.series.push([0, 0, 0, 0, 0, 0, self.positions.len() as u32, 0]);
+    }
+
+    fn set_view(&mut self, cell: usize, value: Range<usize>) {
+        if let Some(row) = self.series.last_mut() {
+            row[cell] = value.start as u32;
+            row[cell + 1] = value.len() as u32;
+        }
+    }
+
+    fn take_interval(&mut self) {
+        self.positions.push(0);
+        self.amounts.push(0);
+        if let Some(row) = self.series.last_mut() {
+            row[7] += 1;
+        }
+    }
+
+    fn take_pos(&mut self, pos: u32) {
+        self.last_pos = pos;
+        if let Some(cell) = self.positions.last_mut() {
+            *cell = pos;
+        }
+    }
+
+    fn take_amount(&mut self, thousandths: i64) {
+        if let Some(cell) = self.amounts.last_mut() {
+            *cell = thousandths;
+        }
+    }
+
+    fn end(&mut self, name: &[u8]) -> Result<(), u32> {
+        let Some(top) = self.open.last() else { return Err(3) };
+        if top.row.name.as_bytes() != name || !top.complete() {
+            return Err(3);
+        }
+        // "Kind 1: .. at the end tag of Period there are N intervals"
+        let intervals = self.series.last().map_or(0, |row| row[7]);
+        if self.kind == 1 && top.row.task == Task::Period && intervals != self.n {
+            return Err(8);
+        }
+        self.open.pop();
+        Ok(())
+    }
+}
+
+impl Open {
+    /// No child is missing.
+    fn complete(&self) -> bool {
+        let mut rest = self.row.children.iter().skip(self.child);
+        let enough = rest.next().is_none_or(|row| self.count >= row.least);
+        enough && rest.all(|row| row.least == 0)
+    }
+}
+
+fn view(start: u32, length: u32) -> Range<usize> {
+    start as usize..start as usize + length as usize
+}
+
+/// "attribute missing or unknown"; "On the root, attributes named `xmlns` or beginning `xmlns:` or `xsi:` are passed over."
+fn attributes_right(row: &Row, attributes: &[Given]) -> bool {
+    let passed = |name: &[u8]| row.task == Task::Root && (name == b"xmlns" || name.starts_with(b"xmlns:") || name.starts_with(b"xsi:"));
+    let known = |name: &[u8]| row.attributes.iter().any(|wanted| wanted.name.as_bytes() == name);
+    let there = |wanted: &Attribute| attributes.iter().any(|given| given.name == wanted.name.as_bytes());
+    row.attributes.iter().all(there) && attributes.iter().all(|given| known(given.name) || passed(given.name))
+}
+
+// ---------------------------------------------------------------- Tables and note
+
+/// "cut in groups of seven bits, lowest first, the top bit set on all but the last, in the fewest groups"
+fn put_number(note: &mut Vec<u8>, number: u32) {
+    let mut rest = number;
+    while rest >= 128 {
+        note.push(rest as u8 & 127 | 128);
+        rest >>= 7;
+    }
+    note.push(rest as u8);
+}
+
+fn note_of(numbers: &[u32]) -> Vec<u8> {
+    let mut note = Vec::new();
+    for number in numbers {
+        put_number(&mut note, *number);
+    }
+    note
+}
+
+fn filled<T: Copy + Default>(rows: Vec<T>, length: usize) -> Vec<T> {
+    let mut cells = rows;
+    cells.resize(length, T::default());
+    cells
+}
+
+/// "On every refusal by the document reader, all cells of the three tables are 0."
+fn refused(lengths: &Lengths, answer: [u32; 7], note: Vec<u8>) -> Outcome {
+    Outcome {
+        answer,
+        series: vec![0; lengths.series],
+        positions: vec![0; lengths.positions],
+        amounts: vec![0; lengths.amounts],
+        note: filled(note, lengths.note),
+    }
+}
+
+/// Reads a document: "10 is looked at first, then 1, then the items from front to back."
+pub fn read(doc: &[u8], lengths: &Lengths) -> Outcome {
+    if lengths.note < LEAST_NOTE {
+        return refused(lengths, [10, 0, 0, 0, 0, 0, 0], Vec::new());
+    }
+    if doc.len() > LONGEST {
+        return refused(lengths, [1, 0, 0, 0, 0, 0, 5], note_of(&[1, 0, 0, 0, 0]));
+    }
+    let mut reading = Reading::new(doc, lengths);
+    let (refusal, place) = reading.items();
+    let five = [refusal, place as u32, reading.kind, reading.series.len() as u32, reading.positions.len() as u32];
+    let note = note_of(&five);
+    let n = if refusal == 0 { reading.n } else { 0 };
+    let answer = [five[0], five[1], five[2], five[3], five[4], n, note.len() as u32];
+    if refusal != 0 {
+        return refused(lengths, answer, note);
+    }
+    Outcome {
+        answer,
+        series: filled(reading.series.concat(), lengths.series),
+        positions: filled(reading.positions, lengths.positions),
+        amounts: filled(reading.amounts, lengths.amounts),
+        note: filled(note, lengths.note),
+    }
+}
+
+/// A number at the front of a note and the rest: shortest, below 2^21.
+fn number_of(note: &[u8]) -> Option<(u32, &[u8])> {
+    let length = note.iter().take(3).position(|b| *b < 128)? + 1;
+    let groups = note.get(0..length)?;
+    if length > 1 && groups.last() == Some(&0) {
+        return None;
+    }
+    let number = groups.iter().rev().fold(0, |sum, b| sum << 7 | u32::from(b & 127));
+    Some((number, note.get(length..)?))
+}
+
+fn five_of(note: &[u8]) -> Option<[u32; 5]> {
+    let mut five = [0; 5];
+    let mut rest = note;
+    for cell in &mut five {
+        (*cell, rest) = number_of(rest)?;
+    }
+    rest.is_empty().then_some(five)
+}
+
+/// Reads a note: 0 and its five numbers, or 11 and zeros.
+pub fn read_note(note: &[u8]) -> (u32, [u32; 5]) {
+    match five_of(note) {
+        Some(five) => (0, five),
+        None => (11, [0; 5]),
+    }
+}

@@ -1,0 +1,213 @@
+//! The examples of 01 and of the readings of its open points, held against the model alone.
+
+use crate::documents::document;
+use crate::model::{read, read_note, Lengths, Outcome};
+
+const ROOM: Lengths = Lengths { series: 512, positions: 2048, amounts: 2048, note: 16 };
+const ROOT: &str = "<Kostenblatt DtdBDEWNachrichtenVersion=\"1.0\">";
+
+/// A right document of kind 2 in pieces that a test may change; `@` stands where the series are.
+const HEAD: &str = "<DocumentIdentification v=\"d\"/><DocumentVersion v=\"1\"/><DocumentType v=\"Z05\"/><ProcessType v=\"A14\"/>\
+    <SenderIdentification v=\"9900000000001\" codingScheme=\"NDE\"/><SenderRole v=\"A27\"/><ReceiverIdentification v=\"9900000000002\" codingScheme=\"A10\"/>\
+    <ReceiverRole v=\"A18\"/><DocumentDateTime v=\"2024-02-29T00:00:59Z\"/><TimePeriodCovered v=\"2024-02-29T00:07Z/2024-02-29T01:07Z\"/>";
+const SERIES: &str = "<CostTimeSeries><TimeSeriesIdentification v=\"s1\"/><BusinessType v=\" A01 \"/><Product v=\"8716867000016\"/>\
+    <ResourceObject v=\"A0000000001\" codingScheme=\"NDE\"/><ResourceProvider v=\"9900000000003\" codingScheme=\"NDE\"/><CurveType v=\"A03\"/><MeasurementUnit v=\"Z01\"/>\
+    <Period><TimeInterval v=\"2024-02-29T00:07Z/2024-02-29T01:07Z\"/><Resolution v=\"PT15M\"/><Interval><Pos v=\"1\"/><Qty v=\"-0.001\"/></Interval></Period></CostTimeSeries>";
+
+fn kind_2() -> String {
+    [ROOT, HEAD, SERIES, "</Kostenblatt>"].concat()
+}
+
+fn kind_1(covered: &str, intervals: usize) -> String {
+    let head = HEAD.replace("Z05", "Z07").replace("A27", "A39").replace("2024-02-29T00:07Z/2024-02-29T01:07Z", covered);
+    let areas = "<InArea v=\"10YDE-VE-------2\" codingScheme=\"A01\"/><OutArea v=\"10YFLENSBURG---3\" codingScheme=\"A01\"/>";
+    let parties =
+        "<InParty v=\"11XIN----------A\" codingScheme=\"A01\"/><OutParty v=\"11XOUT---------B\" codingScheme=\"A01\"/><MeasurementUnit v=\"MAW\"/>";
+    let rows: String = (1..=intervals).map(|pos| format!("<Interval><Pos v=\"{pos}\"/><Qty v=\"{pos}.5\"/></Interval>")).collect();
+    let period = format!("<Period><TimeInterval v=\"{covered}\"/><Resolution v=\"PT15M\"/>{rows}</Period>");
+    let series = format!("<TimeSeriesIdentification v=\"s\"/><BusinessType v=\"A02\"/><Product v=\"8716867000016\"/>{areas}{parties}{period}");
+    let root = "<Beschaffungsanforderung DtdBDEWNachrichtenVersion=\"1.0\">";
+    format!("{root}{head}<ScheduleTimeSeries>{series}</ScheduleTimeSeries></Beschaffungsanforderung>")
+}
+
+fn refusal(doc: &str) -> (u32, u32) {
+    let answer = read(doc.as_bytes(), &ROOM).answer;
+    (answer[0], answer[1])
+}
+
+fn accepted(doc: &str) -> Outcome {
+    let outcome = read(doc.as_bytes(), &ROOM);
+    assert_eq!((outcome.answer[0], outcome.answer[1] as usize), (0, doc.len()), "{doc}");
+    outcome
+}
+
+/// The refusal at the first place where `piece` stands in a document.
+fn at(doc: &str, number: u32, piece: &str) -> (u32, u32) {
+    (number, doc.find(piece).unwrap_or(usize::MAX) as u32)
+}
+
+fn amount(text: &str) -> Option<i64> {
+    let outcome = read(kind_2().replace("-0.001", text).as_bytes(), &ROOM);
+    match outcome.answer[0] {
+        0 => outcome.amounts.first().copied(),
+        _ => None,
+    }
+}
+
+#[test]
+fn p1_to_p5() {
+    assert_eq!(refusal(""), (3, 0));
+    assert_eq!(refusal("<Kostenblatt>"), (5, 0));
+    assert_eq!(refusal("<Kostenblatt/>"), (3, 0));
+    assert_eq!(read(ROOT.as_bytes(), &ROOM).answer, [3, 45, 2, 0, 0, 0, 5]);
+    assert_eq!(read(ROOT.as_bytes(), &ROOM).note[..5], [3, 0x2D, 2, 0, 0]);
+    assert_eq!(refusal(&ROOT.replace("1.0", "1.1")), (6, 0));
+}
+
+#[test]
+fn p6_to_p9() {
+    assert_eq!(amount("-0"), Some(0));
+    assert_eq!(amount("-0.001"), Some(-1));
+    assert_eq!(amount("999999999999.999"), Some(999_999_999_999_999));
+    for wrong in ["5.", ".5", "+5", "1.0000", "1234567890123"] {
+        assert_eq!(amount(wrong), None, "{wrong}");
+    }
+}
+
+#[test]
+fn p10() {
+    accepted(&kind_2());
+    let doc = kind_2().replace("2024-02-29T00:00:59Z", "2023-02-29T00:00:59Z");
+    assert_eq!(refusal(&doc), at(&doc, 6, "<DocumentDateTime"));
+}
+
+#[test]
+fn p11_p12_and_counts() {
+    assert_eq!(accepted(&kind_1("2024-03-30T23:00Z/2024-03-31T22:00Z", 92)).answer[5], 92);
+    assert_eq!(accepted(&kind_1("2024-10-26T22:00Z/2024-10-27T23:00Z", 100)).answer[5], 100);
+    for (intervals, number) in [(91, 3), (95, 8)] {
+        let doc = kind_1("2024-10-26T22:00Z/2024-10-27T22:00Z", intervals);
+        assert_eq!(refusal(&doc), at(&doc, number, "</Period>"));
+    }
+    let doc = kind_1("2024-10-26T22:00Z/2024-10-27T23:00Z", 101);
+    assert_eq!(refusal(&doc), at(&doc, 3, "<Interval><Pos v=\"101\""));
+    let doc = kind_1("2024-10-26T22:00Z/2024-10-27T22:00Z", 97);
+    assert_eq!(refusal(&doc), at(&doc, 8, "<Pos v=\"97\""));
+}
+
+#[test]
+fn tables_and_note() {
+    let doc = kind_2();
+    let outcome = accepted(&doc);
+    let find = |piece: &str| doc.find(piece).unwrap_or(0) as u32;
+    let row = [find("s1\"/"), 2, find("A0000000001"), 11, find("A01 "), 3, 0, 1];
+    assert_eq!(outcome.series[..8], row);
+    assert!(outcome.series[8..].iter().all(|cell| *cell == 0));
+    assert_eq!((outcome.positions[0], outcome.amounts[0], outcome.answer[5]), (1, -1, 4));
+    assert_eq!(read_note(&outcome.note[..outcome.answer[6] as usize]), (0, [0, doc.len() as u32, 2, 1, 1]));
+}
+
+#[test]
+fn notes() {
+    assert_eq!(read_note(&[0xAC, 2, 0, 0, 0, 0]), (0, [300, 0, 0, 0, 0]));
+    for wrong in [&[0, 0, 0, 0][..], &[0; 6], &[0x80, 0, 0, 0, 0, 0], &[0x80, 0x80, 0x80, 1, 0, 0, 0, 0], &[]] {
+        assert_eq!(read_note(wrong), (11, [0; 5]));
+    }
+    assert_eq!(read_note(&[0xFF, 0xFF, 0x7F, 0, 0, 0, 0]), (0, [0x1F_FFFF, 0, 0, 0, 0]));
+}
+
+#[test]
+fn marks_and_declarations() {
+    assert_eq!(refusal("\u{FEFF}"), (3, 3));
+    assert_eq!(refusal("\u{FEFF}\u{FEFF}"), (3, 3));
+    assert_eq!(read(b"\xEF\xBB", &ROOM).answer[..2], [2, 0]);
+    assert_eq!(refusal(" <?xml version=\"1.0\"?>"), (2, 1));
+    assert_eq!(refusal("<?xml version=\"1.0\"?>"), (3, 21));
+    let alone = "\u{FEFF}<?xml version='1.0' encoding=\"uTf-8\" ?>";
+    assert_eq!(refusal(alone), (3, alone.len() as u32));
+    assert_eq!(refusal("\u{FEFF}<?xml version='1.0' standalone='yes'?>"), (2, 3));
+    accepted(&["\u{FEFF}<?xml version='1.0'?>", &kind_2(), " <!-- & --> "].concat());
+}
+
+#[test]
+fn items() {
+    for (piece, number) in [
+        ("abc &", 2),
+        ("abc", 3),
+        ("]]>", 2),
+        ("<!-- --->", 2),
+        ("<x a='' a=''/>", 2),
+        ("<x", 2),
+        ("<!DOCTYPE x>", 2),
+        ("</ x>", 2),
+        ("<x a='\t'/>", 2),
+        ("<x a='>]]>'/>", 3),
+        ("<:a/>", 2),
+        ("<a:b:c/>", 3),
+        ("\u{FFFE}", 2),
+        ("\u{1FFFE}", 3),
+        ("</x a=''>", 2),
+        ("<x a=''b=''/>", 2),
+    ] {
+        assert_eq!(refusal(&[ROOT, piece].concat()), (number, 45), "{piece}");
+        assert_eq!(refusal(&[&kind_2(), piece].concat()), (number, kind_2().len() as u32), "{piece}");
+    }
+    accepted(&kind_2().replace("<DocumentVersion v=\"1\"/>", "<!---->\n<DocumentVersion\tv\n=\r' 1 ' >\n<!--->--></DocumentVersion >"));
+}
+
+#[test]
+fn several_faults() {
+    let no_room = Lengths { series: 7, ..ROOM };
+    let doc = kind_2().replace("<CostTimeSeries>", "<CostTimeSeries a=''>");
+    let place = at(&doc, 4, "<CostTimeSeries");
+    assert_eq!(read(doc.as_bytes(), &no_room).answer, [4, place.1, 2, 0, 0, 0, 6]);
+    assert_eq!(refusal(&doc), (5, place.1));
+    let doc = kind_2().replace("<Period>", "<OriginalDocumentVersion v=\"7\"/><Period>");
+    assert_eq!(refusal(&doc), at(&doc, 8, "<Period>"));
+    let doc = kind_2().replace("<Period>", "<OriginalDocumentVersion v=\" 7\"/><Period>");
+    assert_eq!(refusal(&doc), at(&doc, 6, "<OriginalDocumentVersion"));
+    let doc = kind_2().replace("</Kostenblatt>", &[SERIES, "</Kostenblatt>"].concat());
+    let twice = doc.rfind("<TimeSeriesIdentification").unwrap_or(0) as u32;
+    assert_eq!(read(doc.as_bytes(), &ROOM).answer[..5], [9, twice, 2, 2, 1]);
+    accepted(&doc.replacen("\"s1\"", "\"\"", 1));
+}
+
+#[test]
+fn values() {
+    for (old, new, number, piece) in [
+        ("<DocumentIdentification v=\"d\"", "<DocumentIdentification v=\"123456789012345678901234567890123456\"", 6, "<DocumentIdentification"),
+        ("\"PT15M\"", "\"\"", 8, "<Resolution"),
+        ("<Pos v=\"1\"", "<Pos v=\"0\"", 6, "<Pos"),
+        ("<Pos v=\"1\"", "<Pos v=\"2\"", 8, "<Pos"),
+        ("<ReceiverRole v=\"A18\"", "<ReceiverRole v=\"A27\"", 7, "<ReceiverRole"),
+        ("00:00:59Z", "00:00:60Z", 6, "<DocumentDateTime"),
+        ("2024-02-29T00:07Z/2024-02-29T01:07Z", "2024-02-29T01:07Z/2024-02-29T01:07Z", 8, "<TimePeriodCovered"),
+        ("2024-02-29T00:07Z/2024-02-29T01:07Z", "2024-02-29T00:07Z/2025-03-01T00:22Z", 8, "<TimePeriodCovered"),
+    ] {
+        let doc = kind_2().replace(old, new);
+        assert_eq!(refusal(&doc), at(&doc, number, piece), "{new}");
+    }
+    accepted(&kind_2().replace("v=\"d\"", "v=\"ääääääääääääääääääää\""));
+    let year = kind_2().replace("2024-02-29T00:07Z/2024-02-29T01:07Z", "2024-02-29T00:07Z/2025-03-01T00:07Z");
+    assert_eq!(accepted(&year).answer[5], 35_136);
+}
+
+#[test]
+fn ten_and_one() {
+    let short = Lengths { note: 15, ..ROOM };
+    assert_eq!(read(&vec![b' '; 1_048_577], &short).answer, [10, 0, 0, 0, 0, 0, 0]);
+    assert_eq!(read(&vec![b' '; 1_048_577], &ROOM).answer, [1, 0, 0, 0, 0, 0, 5]);
+    assert_eq!(read(&vec![b' '; 1_048_576], &ROOM).answer, [3, 1_048_576, 0, 0, 0, 0, 7]);
+}
+
+/// Every refusal comes up among the documents, and the same number makes the same document.
+#[test]
+fn generated() {
+    let mut seen = [0; 12];
+    for number in 0..30_000 {
+        let made = document(5, number);
+        seen[read(&made.bytes, &made.lengths).answer[0] as usize] += 1;
+    }
+    assert!(seen[..11].iter().all(|many| *many > 0), "{seen:?}");
+    assert_eq!(document(5, 77).bytes, document(5, 77).bytes);
+}

@@ -1,0 +1,63 @@
+//! The archive's own functions, with answer slices of every size. A cell that was not to be written would show.
+use lumintayag as _;
+
+extern "C" {
+    fn lumintayag_read(
+        doc: *const u8,
+        doc_len: usize,
+        series: *mut u32,
+        series_len: usize,
+        positions: *mut u32,
+        positions_len: usize,
+        amounts: *mut i64,
+        amounts_len: usize,
+        note: *mut u8,
+        note_len: usize,
+        answer: *mut u32,
+        answer_len: usize,
+    ) -> u32;
+    fn lumintayag_read_note(note: *const u8, note_len: usize, five: *mut u32, five_len: usize) -> u32;
+}
+
+/// The numbers as far as there are cells, 0 in the cells after them, and old numbers past the slice.
+fn expected(numbers: &[u32], len: usize) -> Vec<u32> {
+    (0..12).map(|i| if i >= len { 77 } else { numbers.get(i).copied().unwrap_or(0) }).collect()
+}
+
+#[test]
+fn an_answer_of_every_size() {
+    let doc = b"<Kostenblatt DtdBDEWNachrichtenVersion=\"1.0\">";
+    for len in 0..=12 {
+        let (mut series, mut positions, mut amounts, mut note, mut answer) = ([77; 8], [77; 1], [77; 1], [77; 16], [77; 12]);
+        let refusal = unsafe {
+            lumintayag_read(
+                doc.as_ptr(),
+                doc.len(),
+                series.as_mut_ptr(),
+                8,
+                positions.as_mut_ptr(),
+                1,
+                amounts.as_mut_ptr(),
+                1,
+                note.as_mut_ptr(),
+                16,
+                answer.as_mut_ptr(),
+                len,
+            )
+        };
+        assert_eq!((refusal, answer.to_vec()), (3, expected(&[3, 45, 2, 0, 0, 0, 5], len)));
+        assert_eq!(note, [3, 45, 2, 0, 0, 0, 0, 0, 0, 0, 0, 0, 0, 0, 0, 0]);
+        assert_eq!((series, positions, amounts), ([0; 8], [0], [0]));
+    }
+}
+
+#[test]
+fn five_numbers_of_every_size() {
+    for len in 0..=12 {
+        for (note, refusal, five) in [(&[9, 0xAC, 2, 2, 1, 7][..], 0, [9, 300, 2, 1, 7]), (&[9, 1][..], 11, [0; 5])] {
+            let mut cells = [77; 12];
+            let said = unsafe { lumintayag_read_note(note.as_ptr(), note.len(), cells.as_mut_ptr(), len) };
+            assert_eq!((said, cells.to_vec()), (refusal, expected(&five, len)));
+        }
+    }
+}
