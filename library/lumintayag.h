@@ -98,6 +98,9 @@ enum {
  * On acceptance all cells of the three tables past the last row are 0. On every refusal all cells of the three tables are 0. The bytes of the note
  * buffer past the note are 0, and on refusal 10 all of them. Kind 1: a series has N intervals, with Pos 1 to N. Kind 2 (curve A03): the first Pos of
  * a series is 1, later ones rise and are at most N, and an amount stands until the next Pos.
+ *
+ * Nothing but the amounts depends on the digits of a price: two documents of equal length that differ only in digits of readable Qty values get the
+ * same answer and note, and the same cells but for the amounts of accepted intervals whose own digits differ (proved: docs/AMOUNTS.md).
  */
 uint32_t lumintayag_read(const uint8_t *doc, size_t doc_len,
                          uint32_t *series, size_t series_len,

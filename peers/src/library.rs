@@ -1,0 +1,55 @@
+//! The proved library, called as C calls it.
+
+extern "C" {
+    fn lumintayag_read(
+        doc: *const u8,
+        doc_len: usize,
+        series: *mut u32,
+        series_len: usize,
+        positions: *mut u32,
+        positions_len: usize,
+        amounts: *mut i64,
+        amounts_len: usize,
+        note: *mut u8,
+        note_len: usize,
+        answer: *mut u32,
+        answer_len: usize,
+    ) -> u32;
+}
+
+#[derive(Clone, Copy)]
+pub struct Answer {
+    pub refusal: u32,
+    pub place: usize,
+    pub kind: u32,
+}
+
+/// A series is longer than this, and so is an Interval: with a row for each there is room for all of them. What is lent then
+/// plays no part, and with less room no other document is accepted.
+const SHORTEST_SERIES: usize = 200;
+const SHORTEST_INTERVAL: usize = 40;
+
+pub fn read(doc: &[u8]) -> Answer {
+    let rows = doc.len() / SHORTEST_INTERVAL + 1;
+    let mut series = vec![0_u32; 8 * (doc.len() / SHORTEST_SERIES + 1)];
+    let (mut positions, mut amounts) = (vec![0_u32; rows], vec![0_i64; rows]);
+    let (mut note, mut answer) = ([0_u8; 16], [0_u32; 7]);
+    // Each length is that of the slice its pointer is from.
+    unsafe {
+        lumintayag_read(
+            doc.as_ptr(),
+            doc.len(),
+            series.as_mut_ptr(),
+            series.len(),
+            positions.as_mut_ptr(),
+            rows,
+            amounts.as_mut_ptr(),
+            rows,
+            note.as_mut_ptr(),
+            note.len(),
+            answer.as_mut_ptr(),
+            answer.len(),
+        );
+    }
+    Answer { refusal: answer[0], place: answer[1] as usize, kind: answer[2] }
+}
