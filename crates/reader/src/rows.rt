@@ -21,7 +21,7 @@ ghost use Rattle.trims.specs.Trim.{space, dropped};
 ghost use Rattle.numbers.specs.Amount.{amountOf};
 ghost use Rattle.reader.specs.Rows.{spanOf, quoted, cell, withView, seriesAfter, positionsAfter, thousandthsOf, amountsAfter, identificationAt, used, usedBefore};
 
-pub fn span_of(item: Item) -> Span
+pub(crate) fn span_of(item: Item) -> Span
     ensures { λ r. ⌜ r ≡ spanOf item ⌝ }
 {
     match item {
@@ -90,7 +90,7 @@ fn set_trimmed(t: &mut [u32], series: u32, at: usize, b: &[u8])
 }
 
 // The series table; st is the state after the item, which is at the place `at`, and v the value in it.
-pub fn enter_series(t: &mut [u32], at: usize, v: Span, s: &[u8], st: State, entry: Entry)
+pub(crate) fn enter_series(t: &mut [u32], at: usize, v: Span, s: &[u8], st: State, entry: Entry)
     requires { ⌜ at + (v .start + v .len) ≤ 4294967295 ⌝ }
     ensures { λ _. ⌜ now (t .exit) ≡ seriesAfter at v (now (s .entry)) st entry (now (t .entry)) ⌝ }
 {
@@ -118,7 +118,7 @@ pub fn enter_series(t: &mut [u32], at: usize, v: Span, s: &[u8], st: State, entr
 }
 
 // The position table; st is the state after the item.
-pub fn enter_position(t: &mut [u32], st: State, entry: Entry)
+pub(crate) fn enter_position(t: &mut [u32], st: State, entry: Entry)
     ensures { λ _. ⌜ now (t .exit) ≡ positionsAfter st entry (now (t .entry)) ⌝ }
 {
     match entry {
@@ -145,7 +145,7 @@ fn thousandths_of(v: &[u8]) -> i64
 }
 
 // The amount table; st is the state after the item, and v the value in it.
-pub fn enter_amount(t: &mut [i64], v: Span, s: &[u8], st: State, entry: Entry)
+pub(crate) fn enter_amount(t: &mut [i64], v: Span, s: &[u8], st: State, entry: Entry)
     ensures { λ _. ⌜ now (t .exit) ≡ amountsAfter v (now (s .entry)) st entry (now (t .entry)) ⌝ }
 {
     match entry {
@@ -197,7 +197,7 @@ fn is_used(doc: &[u8], t: &[u32], n: u32, id: &[u8]) -> bool
 }
 
 // Whether the item, with v in it, brings an identification that a series before this one has.
-pub fn is_used_before(doc: &[u8], t: &[u32], v: Span, s: &[u8], series: u32, entry: Entry) -> bool
+pub(crate) fn is_used_before(doc: &[u8], t: &[u32], v: Span, s: &[u8], series: u32, entry: Entry) -> bool
     ensures { λ r. ⌜ r ≡ usedBefore (now (doc .entry)) (now (t .entry)) v (now (s .entry)) series entry ⌝ }
 {
     match entry {
