@@ -2,16 +2,17 @@
 use Prim.Native.Nat.{ℕ, zero, suc, _+_, _≤_, _<_}
 use mathlib.Core.Path.{_≡_, refl, sym, ap, _∙_}
 use mathlib.Core.List.{List, [], _∷_}
-use mathlib.Core.Bool.{true, false}
+use mathlib.Core.Bool.{Bool, true, false, cond}
 use native.Mathlib.Omega.{arith}
 use native.Mathlib.Nat.{add-zero}
 use lib.Dec.{eqb}
 use lib.IntN.{ℤ}
 use lib.ListN.{length, drop, drop-of-length-le, length-drop}
 use lib.Seq.{drop-drop}
-use Rattle.lists.proofs.Cases.{by-cond}
+use Rattle.lists.proofs.Cases.{by-cond, zero-not-one}
 use Rattle.items.specs.Item.{item, itemEnd}
 use Rattle.items.specs.declared.Item.{Item}
+use Rattle.items.specs.declared.Item.the-variants.{Start, Empty, End, Text, Comment}
 use Rattle.items.specs.declared.Item.the-variants.{Refused as Unreadable}
 use Rattle.items.proofs.Promises.{Placed as At, item-placed}
 use Rattle.guideline.specs.Rows.{rowsOf}
@@ -19,10 +20,11 @@ use Rattle.states.specs.Moves.{begun, step, stepOn, moved, kindTold}
 use Rattle.states.specs.declared.State.{State}
 use Rattle.states.specs.declared.Room.{Room}
 use Rattle.states.specs.declared.Entry.{Entry}
+use Rattle.states.specs.declared.Entry.the-variants.{Nothing}
 use Rattle.states.specs.declared.Step.{Step}
 use Rattle.states.specs.declared.Step.the-variants.{Next, Refused}
-use Rattle.reader.specs.Items.{Placed, placed, itemsAfter, itemsFrom}
-use Rattle.reader.specs.Rows.{spanOf, seriesAfter, positionsAfter, amountsAfter}
+use Rattle.reader.specs.Items.{Placed, placed, itemsAfter, itemsFrom, passed}
+use Rattle.reader.specs.Rows.{spanOf, seriesAfter, positionsAfter, amountsAfter, usedBefore}
 use Rattle.reader.specs.declared.Found.{Found}
 use Rattle.reader.specs.Reading.{Tables, roomIn, refusedAt, endedAt, withoutUsed, stepOf, tablesAfter, readItems, itemsRead}
 
@@ -90,6 +92,18 @@ unfolding step stepOn moved
 unreadable st one two p s room =
     by-cond (λ (y : Step). y ≡ Refused 2) (eqb (kindTold st (Unreadable p) s) 1) refl refl
 
+false-not-true : _≡_ {A = Bool} false true → ⊥
+false-not-true e = zero-not-one (ap (λ (b : Bool). cond b 1 0) e)
+
+still : (st : State) (one two : List ℕ) (x : Item) → passed x ≡ true → (s : List ℕ) (room : Room) → step st one two x s room ≡ Next st Nothing
+unfolding step stepOn moved passed
+still st one two (Start t) w s room = absurd (false-not-true w)
+still st one two (Empty t) w s room = absurd (false-not-true w)
+still st one two (End n e) w s room = absurd (false-not-true w)
+still st one two (Text white e) w s room = rw w (by-cond (λ (y : Step). y ≡ Next st Nothing) (eqb (kindTold st (Text true e) s) 1) refl refl)
+still st one two (Comment e) w s room = by-cond (λ (y : Step). y ≡ Next st Nothing) (eqb (kindTold st (Comment e) s) 1) refl refl
+still st one two (Unreadable p) w s room = absurd (false-not-true w)
+
 module _ {doc : List ℕ} {from : ℕ} {t : Tables} {one two : List ℕ} {room : Room} {ser pos : List ℕ} {ams : List ℤ} {st : State} {at : ℕ}
     (r : Ran doc from t one two room ser pos ams st at) where
   pub ran-end : length doc ≤ at → {f : Found} → f ≡ endedAt one two (length doc) st → record { found = f; tables = tab ser pos ams } ≡ itemsRead doc from t
@@ -132,6 +146,11 @@ module _ {doc : List ℕ} {from : ℕ} {t : Tables} {one two : List ℕ} {room :
               ∙ sym (ap (λ (xs : List Placed). readItems doc (roomIn t) xs st (tab ser pos ams)) ahead)
               ∙ r .left;
         }
+
+    -- an item that is passed over
+    pub ran-pass : passed x ≡ true → Ran doc from t one two room ser pos ams st (at + itemEnd x)
+    unfolding withoutUsed usedBefore seriesAfter positionsAfter amountsAfter
+    ran-pass w = ran-next {y = Next st Nothing} (rw (still st one two x w s room) refl) refl refl refl refl refl refl refl
 
   -- "An item is either one of five kinds or a refusal with its place": the loop returns with that place
   pub ran-unread : {s : List ℕ} {x : Item} {p : ℕ} → at < length doc → s ≡ drop at doc → x ≡ item at s → 1 ≤ itemEnd x → x ≡ Unreadable p

@@ -33,6 +33,7 @@ ghost use Rattle.tables.specs.Cells.{noAmounts};
 ghost use Rattle.items.specs.Item.{itemEnd, itemValue};
 ghost use Rattle.notes.specs.Note.{noteOf, left};
 ghost use Rattle.states.specs.Moves.{step};
+ghost use Rattle.reader.specs.Items.{passed};
 ghost use Rattle.reader.specs.Rows.{spanOf, seriesAfter, positionsAfter, amountsAfter};
 ghost use Rattle.reader.specs.Reading.{roomOf, refusedAt, acceptedAt, endedAt, withoutUsed, itemsRead, readInto, readSheet};
 ghost use Rattle.reader.specs.Answer.{noteFor, told, readOf};
@@ -68,6 +69,20 @@ fn item_len(item: Item) -> usize
         Item::Text(_, n) => n,
         Item::Comment(n) => n,
         Item::Refused(_) => 1,
+    }
+}
+
+// Whether the item moves nothing: white text, or a comment. The loop passes over it without asking the state.
+fn is_passed(item: Item) -> bool
+    ensures { λ r. ⌜ r ≡ passed item ⌝ }
+{
+    match item {
+        Item::Start(_) => false,
+        Item::Empty(_) => false,
+        Item::End(_, _) => false,
+        Item::Text(white, _) => white,
+        Item::Comment(_) => true,
+        Item::Refused(_) => false,
     }
 }
 
@@ -210,6 +225,10 @@ fn read_items(
         let item = item_at(at, s);
         if let Item::Refused(p) = item {
             return refused_at(2, p as u32, st);
+        }
+        if is_passed(item) {
+            at += item_len(item);
+            continue;
         }
         match step_in(doc, series, room, item, s, st, &one, &two) {
             Step::Next(next, entry) => {

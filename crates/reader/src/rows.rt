@@ -197,7 +197,14 @@ fn is_used(doc: &[u8], t: &[u32], n: u32, id: &[u8]) -> bool
 }
 
 // Whether the item, with v in it, brings an identification that a series before this one has.
-pub(crate) fn is_used_before(doc: &[u8], t: &[u32], v: Span, s: &[u8], series: u32, entry: Entry) -> bool
+pub(crate) fn is_used_before(
+    doc: &[u8],
+    t: &[u32],
+    v: Span,
+    s: &[u8],
+    series: u32,
+    entry: Entry,
+) -> bool
     ensures { λ r. ⌜ r ≡ usedBefore (now (doc .entry)) (now (t .entry)) v (now (s .entry)) series entry ⌝ }
 {
     match entry {

@@ -3,11 +3,8 @@ use mathlib.Core.Path.{_≡_, refl, sym, ap, _∙_}
 use native.Mathlib.Omega.{arith}
 use borrow.Author.Needs.{needs}
 use lib.ListN.{length, length-drop}
-use Rattle.states.specs.declared.State.{State}
-use Rattle.reader.specs.Reading.{Out, readItems}
-use Rattle.reader.proofs.Ran.{Ran, tab, ran-start, ran-next, ran-stop, ran-unread, ran-end}
-use Rattle.reader.specs.Items.{placed, itemsAfter, itemsFrom}
-use Rattle.reader.specs.Reading.{stepOf, tablesAfter, readItems, roomIn, itemsRead}
+use Rattle.reader.specs.Reading.{Out, roomIn}
+use Rattle.reader.proofs.Ran.{Ran, tab, ran-start, ran-next, ran-pass, ran-stop, ran-unread, ran-end}
 use Rattle.reader.proofs.read_items.Statement.{statement}
 use Rattle.reader.proofs.read_items.Tie as tie
 use Rattle.reader.proofs.read_items.Reads as reads
@@ -17,6 +14,7 @@ use Rattle.guideline.proofs.rows_two.Reads as rows-two-reads
 use Rattle.items.proofs.item_at.Reads as item-at-reads
 use Rattle.reader.proofs.ended_at.Reads as ended-at-reads
 use Rattle.reader.proofs.enter.Reads as enter-reads
+use Rattle.reader.proofs.is_passed.Reads as is-passed-reads
 use Rattle.reader.proofs.item_len.Reads as item-len-reads
 use Rattle.reader.proofs.refused_at.Reads as refused-at-reads
 use Rattle.reader.proofs.room_of.Reads as room-of-reads
@@ -74,6 +72,21 @@ same-length-3 c = c .before .before .before .before .before .before .before .loo
 returns : tie.Need-returns Inv-loop μ-loop
 returns c = let e = ran-unread (c .before .before .before .before .before .before .before .loop .inv) (c .before .before .before .before .before .before .loop-test .taken) (c .before .before .before .before .before .rest .ensures .0) (c .before .before .before .before .item-at .ensures .0) (c .before .before .before .before .item-at .ensures .1 .0) (c .before .before .item .given .1) .1 in (c .refused-at .ensures ∙ ap (λ (o : Out). o .found) e, (ap (λ (o : Out). o .tables .series) e, (ap (λ (o : Out). o .tables .positions) e, ap (λ (o : Out). o .tables .amounts) e)))
 
+is-passed-requires : tie.Need-is-passed-requires Inv-loop μ-loop
+is-passed-requires c κs = search needs
+
+item-len-requires : tie.Need-item-len-requires Inv-loop μ-loop
+item-len-requires c κs = search needs
+
+add-at : tie.Need-add-at Inv-loop μ-loop
+add-at c = let h = c .before .before .before .before .before .before .loop-test .taken in let g = c .before .before .before .before .before .before .before .before .before .before .before .before .before .before .before .pre in let z = c .before .before .before .before .item-at .ensures .1 in omega (arith, c .item-len .ensures, h, g, z .0, z .1, z .2, ap length (c .before .before .before .before .before .rest .ensures .0), length-drop (c .before .before .before .before .before .before .before .loop .at) (c .before .before .before .before .before .before .before .before .before .before .before .before .before .before .before .args .doc .now))
+
+loop-less : tie.Need-loop-less Inv-loop μ-loop
+loop-less c = let h = c .before .before .before .before .before .before .loop-test .taken in let g = c .before .before .before .before .before .before .before .before .before .before .before .before .before .before .before .pre in let z = c .before .before .before .before .item-at .ensures .1 in omega (arith, c .item-len .ensures, h, g, z .0, z .1, z .2, ap length (c .before .before .before .before .before .rest .ensures .0), length-drop (c .before .before .before .before .before .before .before .loop .at) (c .before .before .before .before .before .before .before .before .before .before .before .before .before .before .before .args .doc .now))
+
+loop-again : tie.Need-loop-again Inv-loop μ-loop
+loop-again c = rw (c .item-len .ensures) (ran-pass (c .before .before .before .before .before .before .before .loop .inv) (c .before .before .before .before .before .before .loop-test .taken) (c .before .before .before .before .before .rest .ensures .0) (c .before .before .before .before .item-at .ensures .0) (c .before .before .before .before .item-at .ensures .1 .0) (sym (c .before .before .is-passed .ensures) ∙ c .before .if1 .taken))
+
 slice-aggregate-step-in : tie.Need-slice-aggregate-step-in Inv-loop μ-loop
 slice-aggregate-step-in c = search needs
 
@@ -87,40 +100,40 @@ enum-known-next : tie.Need-enum-known-next Inv-loop μ-loop
 enum-known-next c = search needs
 
 enter-requires : tie.Need-enter-requires Inv-loop μ-loop
-enter-requires c κs = let h = c .before .before .before .before .before .before .before .before .before .before .before .before .before .loop-test .taken in let g = c .before .before .before .before .before .before .before .before .before .before .before .before .before .before .before .before .before .before .before .before .before .before .pre in let z = c .before .before .before .before .before .before .before .before .before .before .before .item-at .ensures .1 in omega (arith, h, g, z .1, z .2, ap length (c .before .before .before .before .before .before .before .before .before .before .before .before .rest .ensures .0), length-drop (c .before .before .before .before .before .before .before .before .before .before .before .before .before .before .loop .at) (c .before .before .before .before .before .before .before .before .before .before .before .before .before .before .before .before .before .before .before .before .before .before .args .doc .now))
+enter-requires c κs = let h = c .before .before .before .before .before .before .before .before .before .before .before .before .before .before .before .loop-test .taken in let g = c .before .before .before .before .before .before .before .before .before .before .before .before .before .before .before .before .before .before .before .before .before .before .before .before .pre in let z = c .before .before .before .before .before .before .before .before .before .before .before .before .before .item-at .ensures .1 in omega (arith, h, g, z .0, z .1, z .2, ap length (c .before .before .before .before .before .before .before .before .before .before .before .before .before .before .rest .ensures .0), length-drop (c .before .before .before .before .before .before .before .before .before .before .before .before .before .before .before .before .loop .at) (c .before .before .before .before .before .before .before .before .before .before .before .before .before .before .before .before .before .before .before .before .before .before .before .before .args .doc .now))
 
 enum-known-n : tie.Need-enum-known-n Inv-loop μ-loop
 enum-known-n c = search needs
 
 cast-refused-at-2 : tie.Need-cast-refused-at-2 Inv-loop μ-loop
-cast-refused-at-2 c = let h = c .before .before .before .before .before .before .before .before .before .before .loop-test .taken in let g = c .before .before .before .before .before .before .before .before .before .before .before .before .before .before .before .before .before .before .before .pre in omega (arith, h, g)
+cast-refused-at-2 c = let h = c .before .before .before .before .before .before .before .before .before .before .before .before .loop-test .taken in let g = c .before .before .before .before .before .before .before .before .before .before .before .before .before .before .before .before .before .before .before .before .before .pre in omega (arith, h, g)
 
 refused-at-requires-2 : tie.Need-refused-at-requires-2 Inv-loop μ-loop
 refused-at-requires-2 c κs = search needs
 
 same-length-4 : tie.Need-same-length-4 Inv-loop μ-loop
-same-length-4 c = c .before .before .before .before .before .before .before .before .before .before .before .before .loop .inv .ser-same
+same-length-4 c = c .before .before .before .before .before .before .before .before .before .before .before .before .before .before .loop .inv .ser-same
 
 same-length-5 : tie.Need-same-length-5 Inv-loop μ-loop
-same-length-5 c = c .before .before .before .before .before .before .before .before .before .before .before .before .loop .inv .pos-same
+same-length-5 c = c .before .before .before .before .before .before .before .before .before .before .before .before .before .before .loop .inv .pos-same
 
 same-length-6 : tie.Need-same-length-6 Inv-loop μ-loop
-same-length-6 c = c .before .before .before .before .before .before .before .before .before .before .before .before .loop .inv .ams-same
+same-length-6 c = c .before .before .before .before .before .before .before .before .before .before .before .before .before .before .loop .inv .ams-same
 
 returns-2 : tie.Need-returns-2 Inv-loop μ-loop
-returns-2 c = let e = ran-stop (c .before .before .before .before .before .before .before .before .before .before .before .before .loop .inv) (c .before .before .before .before .before .before .before .before .before .before .before .loop-test .taken) (c .before .before .before .before .before .before .before .before .before .before .rest .ensures .0) (c .before .before .before .before .before .before .before .before .before .item-at .ensures .0) (c .before .before .before .before .before .before .before .before .before .item-at .ensures .1 .0) (c .before .before .before .before .step-in .ensures) (c .before .before .n .given .1) in (c .refused-at2 .ensures ∙ ap (λ (o : Out). o .found) e, (ap (λ (o : Out). o .tables .series) e, (ap (λ (o : Out). o .tables .positions) e, ap (λ (o : Out). o .tables .amounts) e)))
+returns-2 c = let e = ran-stop (c .before .before .before .before .before .before .before .before .before .before .before .before .before .before .loop .inv) (c .before .before .before .before .before .before .before .before .before .before .before .before .before .loop-test .taken) (c .before .before .before .before .before .before .before .before .before .before .before .before .rest .ensures .0) (c .before .before .before .before .before .before .before .before .before .before .before .item-at .ensures .0) (c .before .before .before .before .before .before .before .before .before .before .before .item-at .ensures .1 .0) (c .before .before .before .before .step-in .ensures) (c .before .before .n .given .1) in (c .refused-at2 .ensures ∙ ap (λ (o : Out). o .found) e, (ap (λ (o : Out). o .tables .series) e, (ap (λ (o : Out). o .tables .positions) e, ap (λ (o : Out). o .tables .amounts) e)))
 
-item-len-requires : tie.Need-item-len-requires Inv-loop μ-loop
-item-len-requires c κs = search needs
+item-len-requires-2 : tie.Need-item-len-requires-2 Inv-loop μ-loop
+item-len-requires-2 c κs = search needs
 
-add-at : tie.Need-add-at Inv-loop μ-loop
-add-at c = let h = c .before .before .before .before .before .before .before .before .before .before .before .before .before .before .before .before .before .before .before .before .loop-test .taken in let g = c .before .before .before .before .before .before .before .before .before .before .before .before .before .before .before .before .before .before .before .before .before .before .before .before .before .before .before .before .before .pre in let z = c .before .before .before .before .before .before .before .before .before .before .before .before .before .before .before .before .before .before .item-at .ensures .1 in omega (arith, c .item-len .ensures, h, g, z .0, z .1, ap length (c .before .before .before .before .before .before .before .before .before .before .before .before .before .before .before .before .before .before .before .rest .ensures .0), length-drop (c .before .before .before .before .before .before .before .before .before .before .before .before .before .before .before .before .before .before .before .before .before .loop .at) (c .before .before .before .before .before .before .before .before .before .before .before .before .before .before .before .before .before .before .before .before .before .before .before .before .before .before .before .before .before .args .doc .now))
+add-at-2 : tie.Need-add-at-2 Inv-loop μ-loop
+add-at-2 c = let h = c .before .before .before .before .before .before .before .before .before .before .before .before .before .before .before .before .before .before .before .before .before .before .loop-test .taken in let g = c .before .before .before .before .before .before .before .before .before .before .before .before .before .before .before .before .before .before .before .before .before .before .before .before .before .before .before .before .before .before .before .pre in let z = c .before .before .before .before .before .before .before .before .before .before .before .before .before .before .before .before .before .before .before .before .item-at .ensures .1 in omega (arith, c .item-len2 .ensures, h, g, z .0, z .1, z .2, ap length (c .before .before .before .before .before .before .before .before .before .before .before .before .before .before .before .before .before .before .before .before .before .rest .ensures .0), length-drop (c .before .before .before .before .before .before .before .before .before .before .before .before .before .before .before .before .before .before .before .before .before .before .before .loop .at) (c .before .before .before .before .before .before .before .before .before .before .before .before .before .before .before .before .before .before .before .before .before .before .before .before .before .before .before .before .before .before .before .args .doc .now))
 
-loop-less : tie.Need-loop-less Inv-loop μ-loop
-loop-less c = let h = c .before .before .before .before .before .before .before .before .before .before .before .before .before .before .before .before .before .before .before .before .loop-test .taken in let g = c .before .before .before .before .before .before .before .before .before .before .before .before .before .before .before .before .before .before .before .before .before .before .before .before .before .before .before .before .before .pre in let z = c .before .before .before .before .before .before .before .before .before .before .before .before .before .before .before .before .before .before .item-at .ensures .1 in omega (arith, c .item-len .ensures, h, g, z .0, z .1, ap length (c .before .before .before .before .before .before .before .before .before .before .before .before .before .before .before .before .before .before .before .rest .ensures .0), length-drop (c .before .before .before .before .before .before .before .before .before .before .before .before .before .before .before .before .before .before .before .before .before .loop .at) (c .before .before .before .before .before .before .before .before .before .before .before .before .before .before .before .before .before .before .before .before .before .before .before .before .before .before .before .before .before .args .doc .now))
+loop-less-2 : tie.Need-loop-less-2 Inv-loop μ-loop
+loop-less-2 c = let h = c .before .before .before .before .before .before .before .before .before .before .before .before .before .before .before .before .before .before .before .before .before .before .loop-test .taken in let g = c .before .before .before .before .before .before .before .before .before .before .before .before .before .before .before .before .before .before .before .before .before .before .before .before .before .before .before .before .before .before .before .pre in let z = c .before .before .before .before .before .before .before .before .before .before .before .before .before .before .before .before .before .before .before .before .item-at .ensures .1 in omega (arith, c .item-len2 .ensures, h, g, z .0, z .1, z .2, ap length (c .before .before .before .before .before .before .before .before .before .before .before .before .before .before .before .before .before .before .before .before .before .rest .ensures .0), length-drop (c .before .before .before .before .before .before .before .before .before .before .before .before .before .before .before .before .before .before .before .before .before .before .before .loop .at) (c .before .before .before .before .before .before .before .before .before .before .before .before .before .before .before .before .before .before .before .before .before .before .before .before .before .before .before .before .before .before .before .args .doc .now))
 
-loop-again : tie.Need-loop-again Inv-loop μ-loop
-loop-again c = rw (c .item-len .ensures) (ran-next (c .before .before .before .before .before .before .before .before .before .before .before .before .before .before .before .before .before .before .before .before .before .loop .inv) (c .before .before .before .before .before .before .before .before .before .before .before .before .before .before .before .before .before .before .before .before .loop-test .taken) (c .before .before .before .before .before .before .before .before .before .before .before .before .before .before .before .before .before .before .before .rest .ensures .0) (c .before .before .before .before .before .before .before .before .before .before .before .before .before .before .before .before .before .before .item-at .ensures .0) (c .before .before .before .before .before .before .before .before .before .before .before .before .before .before .before .before .before .before .item-at .ensures .1 .0) (c .before .before .before .before .before .before .before .before .before .before .before .before .before .step-in .ensures) (c .before .before .before .before .before .before .before .before .before .before .before .next .given .1) (c .before .before .before .before .before .before .enter .kept .0) (c .before .before .before .before .before .before .enter .kept .1 .0) (c .before .before .before .before .before .before .enter .kept .1 .1 .0) (c .before .before .before .before .before .before .enter .ensures .0) (c .before .before .before .before .before .before .enter .ensures .1 .0) (c .before .before .before .before .before .before .enter .ensures .1 .1))
+loop-again-2 : tie.Need-loop-again-2 Inv-loop μ-loop
+loop-again-2 c = rw (c .item-len2 .ensures) (ran-next (c .before .before .before .before .before .before .before .before .before .before .before .before .before .before .before .before .before .before .before .before .before .before .before .loop .inv) (c .before .before .before .before .before .before .before .before .before .before .before .before .before .before .before .before .before .before .before .before .before .before .loop-test .taken) (c .before .before .before .before .before .before .before .before .before .before .before .before .before .before .before .before .before .before .before .before .before .rest .ensures .0) (c .before .before .before .before .before .before .before .before .before .before .before .before .before .before .before .before .before .before .before .before .item-at .ensures .0) (c .before .before .before .before .before .before .before .before .before .before .before .before .before .before .before .before .before .before .before .before .item-at .ensures .1 .0) (c .before .before .before .before .before .before .before .before .before .before .before .before .before .step-in .ensures) (c .before .before .before .before .before .before .before .before .before .before .before .next .given .1) (c .before .before .before .before .before .before .enter .kept .0) (c .before .before .before .before .before .before .enter .kept .1 .0) (c .before .before .before .before .before .before .enter .kept .1 .1 .0) (c .before .before .before .before .before .before .enter .ensures .0) (c .before .before .before .before .before .before .enter .ensures .1 .0) (c .before .before .before .before .before .before .enter .ensures .1 .1))
 
 cast-ended-at : tie.Need-cast-ended-at Inv-loop μ-loop
 cast-ended-at c = let g = c .before .before .before .before .before .before .before .before .before .pre in omega (arith, g)
@@ -166,6 +179,11 @@ read-items-spec =
     same-length-2
     same-length-3
     returns
+    is-passed-requires
+    item-len-requires
+    add-at
+    loop-less
+    loop-again
     slice-aggregate-step-in
     slice-aggregate-step-in-2
     step-in-requires
@@ -178,10 +196,10 @@ read-items-spec =
     same-length-5
     same-length-6
     returns-2
-    item-len-requires
-    add-at
-    loop-less
-    loop-again
+    item-len-requires-2
+    add-at-2
+    loop-less-2
+    loop-again-2
     cast-ended-at
     slice-aggregate-ended-at
     slice-aggregate-ended-at-2
