@@ -1,0 +1,159 @@
+-- What a legal document is: a content that meets every rule of the guideline, by its values alone. Elements stand one in another as a tree; an element is
+-- known by its row in the structure table of the kind.
+use Prim.Native.Nat.{ℕ, _+_, _-_, _≤_}
+use mathlib.Core.Path.{_≡_}
+use mathlib.Core.List.{List, [], _∷_, _++_, map}
+use mathlib.Core.Logic.{_⊎_}
+use mathlib.Core.Bool.{Bool, true, false, cond, _&&_}
+use lib.ListN.{length, getD}
+use lib.Dec.{leb, eqb}
+use Rattle.slices.specs.Same.{same}
+use Rattle.characters.specs.Says.{says}
+use Rattle.trims.specs.Trim.{dropped}
+use Rattle.codes.specs.Lists.{listed, codesOf}
+use Rattle.forms.specs.Forms.{fixedVersion}
+use Rattle.numbers.specs.Number.{numberOf}
+use Rattle.numbers.specs.declared.Number.{Number}
+use Rattle.numbers.specs.declared.Number.the-variants.{Is, NotNumber}
+use Rattle.times.specs.Times.{interval}
+use Rattle.times.specs.Periods.{quarterHours}
+use Rattle.times.specs.declared.Interval.{Interval}
+use Rattle.times.specs.declared.Interval.the-variants.{Minutes, NotInterval}
+use Rattle.rules.specs.Rules.{judge, positionFits}
+use Rattle.rules.specs.declared.Held.{Held}
+use Rattle.guideline.specs.Columns.{formOf, collapsed, schemeOf, roleOf, periodCovered, pos, isRoot, isSeries, isInterval, isOriginal, isSeriesId, isPos}
+use Rattle.guideline.specs.Rows.{rowsOf}
+use Rattle.states.specs.Attributes.{agree, asksV, asksScheme, noOthers}
+use Rattle.trees.specs.Trees.{Trees, none, element, Conforms}
+use Rattle.contents.specs.Said.{Said, given, bytes}
+
+-- ---- the elements of a content
+
+abbrev pub hasRole : ℕ → ℕ → Bool
+hasRole role w = eqb (roleOf w) role
+
+abbrev pub hasForm : ℕ → ℕ → Bool
+hasForm form w = eqb (formOf w) form
+
+-- what is said by the elements whose row passes a test, one in another or side by side, in document order
+unfoldable pub those : {A : Type 0} → (ℕ → Bool) → List ℕ → Trees A → List A
+those test rows none = []
+those test rows (element r tag inner after) =
+    cond (test (getD rows r 0)) (tag ∷ (those test rows inner ++ those test rows after)) (those test rows inner ++ those test rows after)
+
+-- what stands in each of them
+unfoldable pub inEach : {A : Type 0} → (ℕ → Bool) → List ℕ → Trees A → List (Trees A)
+inEach test rows none = []
+inEach test rows (element r tag inner after) =
+    cond (test (getD rows r 0)) (inner ∷ (inEach test rows inner ++ inEach test rows after)) (inEach test rows inner ++ inEach test rows after)
+
+-- ---- what values say
+
+-- "Where the guideline says collapse, leading and trailing spaces are dropped; where it says preserve, or says nothing, none are."
+unfoldable pub sayings : ℕ → Said → List ℕ
+sayings w s = says (cond (collapsed w) (dropped (bytes (s .v))) (bytes (s .v)))
+
+-- from one minute to another
+pub record Period : Type 0 where
+  pub start : ℕ
+  pub end : ℕ
+
+unfoldable pub periodBy : Interval → Period
+periodBy (Minutes from to) = record { start = from; end = to }
+periodBy NotInterval = record { start = 0; end = 0 }
+
+-- TimePeriodCovered, of which a conforming content has one
+unfoldable pub periodIn : Period → List Said → Period
+periodIn p [] = p
+periodIn p (s ∷ ss) = periodIn (periodBy (interval (says (bytes (s .v))))) ss
+
+unfoldable pub periodOf : List ℕ → Trees Said → Period
+periodOf rows c = periodIn (record { start = 0; end = 0 }) (those (hasForm periodCovered) rows c)
+
+-- "N is TimePeriodCovered's length divided by 15 minutes"
+unfoldable pub quartersOf : Period → ℕ
+quartersOf p = quarterHours (p .start) (p .end)
+
+-- Pos, which is collapsed; what is no number is 0, which no Pos may be
+unfoldable pub positionBy : Number → ℕ
+positionBy (Is p) = p
+positionBy NotNumber = 0
+
+unfoldable pub positionOf : Said → ℕ
+positionOf s = positionBy (numberOf (says (dropped (bytes (s .v)))) 5)
+
+-- ---- the rules of one element
+
+-- "5: attribute missing or unknown": those of the row are there, and no others
+unfoldable pub attributesFit : ℕ → Said → Bool
+attributesFit w s =
+    agree (asksV w) (given (s .v)) && agree (asksScheme w) (given (s .scheme)) && agree (hasRole isRoot w) (given (s .version)) &&
+    noOthers w (s .others) (s .passable)
+
+-- codingScheme, which is collapsed in every row that has it, by its code list
+unfoldable pub schemeFits : ℕ → Said → Bool
+schemeFits w s = cond (eqb (schemeOf w) 0) true (listed (codesOf (schemeOf w - 1)) (says (dropped (bytes (s .scheme)))))
+
+-- `v` by its form or code list, and beside the period: "TimeInterval equals TimePeriodCovered". Pos is held against the one before it, below
+unfoldable pub valueFits : ℕ → Period → ℕ → Said → Bool
+valueFits kind p w s =
+    cond (hasForm pos w) true
+    (eqb (judge (formOf w) (record { kind = kind; from = p .start; to = p .end; quarters = quartersOf p; last = 0 }) (sayings w s) .number) 0)
+
+-- the root has its fixed version; elsewhere an element with a `v` has it by its form, and its codingScheme
+unfoldable pub elementFits : ℕ → Period → ℕ → Said → Bool
+elementFits kind p w s =
+    attributesFit w s &&
+    cond (hasRole isRoot w) (fixedVersion (says (bytes (s .version)))) (cond (eqb (formOf w) 0) true (schemeFits w s && valueFits kind p w s))
+
+-- each element of a content passes a test of its row and of what it says
+unfoldable pub Each : {A : Type 0} → (ℕ → A → Bool) → List ℕ → Trees A → Type 0
+Each test rows none = Unit {0}
+Each test rows (element r tag inner after) = (test (getD rows r 0) tag ≡ true) × Each test rows inner × Each test rows after
+
+-- ---- the rules of a series
+
+-- "Pos is at most N. Kind 1: 1, 2, 3 and so on. .. Kind 2 (curve A03): the first Pos is 1, later ones rise": each after the one before it
+unfoldable pub inTurn : ℕ → ℕ → ℕ → List ℕ → Bool
+inTurn kind quarters last [] = true
+inTurn kind quarters last (p ∷ ps) = positionFits kind quarters last p && inTurn kind quarters p ps
+
+-- "at the end tag of Period there are N intervals" in kind 1, where they are 92 to 100; in kind 2 there is at least one
+unfoldable pub countFits : ℕ → ℕ → ℕ → Bool
+countFits kind quarters n = cond (eqb kind 1) (leb 92 n && leb n 100 && eqb n quarters) (leb 1 n)
+
+-- what stands in a series
+pub record SeriesFits (kind quarters : ℕ) (rows : List ℕ) (c : Trees Said) : Type 0 where
+  pub positions : inTurn kind quarters 0 (map positionOf (those (hasRole isPos) rows c)) ≡ true
+  pub intervals : countFits kind quarters (length (those (hasRole isInterval) rows c)) ≡ true
+  -- "The five Original elements are all there or all absent"
+  pub originals : (length (those (hasRole isOriginal) rows c) ≡ 0) ⊎ (length (those (hasRole isOriginal) rows c) ≡ 5)
+
+unfoldable pub All : {A : Type 0} → (A → Type 0) → List A → Type 0
+All P [] = Unit {0}
+All P (x ∷ xs) = P x × All P xs
+
+-- ---- the whole
+
+-- one of them is the same, "compared byte for byte"
+unfoldable pub isAmong : List ℕ → List (List ℕ) → Bool
+isAmong id [] = false
+isAmong id (x ∷ xs) = cond (same id x) true (isAmong id xs)
+
+-- no two are the same
+unfoldable pub Apart : List (List ℕ) → Type 0
+Apart [] = Unit {0}
+Apart (x ∷ xs) = (isAmong x xs ≡ false) × Apart xs
+
+unfoldable pub identifications : List ℕ → Trees Said → List (List ℕ)
+identifications rows c = map (λ (s : Said). bytes (s .v)) (those (hasRole isSeriesId) rows c)
+
+-- A content that meets every rule of its kind.
+pub record Legal (kind : ℕ) (c : Trees Said) : Type 0 where
+  pub known : (kind ≡ 1) ⊎ (kind ≡ 2)
+  -- "element order, how often each may come"
+  pub conforms : Conforms (rowsOf kind) 0 c
+  pub elements : Each (elementFits kind (periodOf (rowsOf kind) c)) (rowsOf kind) c
+  pub series : All (SeriesFits kind (quartersOf (periodOf (rowsOf kind) c)) (rowsOf kind)) (inEach (hasRole isSeries) (rowsOf kind) c)
+  -- "TimeSeriesIdentification used before in this document" is refused
+  pub apart : Apart (identifications (rowsOf kind) c)

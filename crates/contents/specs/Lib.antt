@@ -1,0 +1,4 @@
+pub mod Said
+pub mod Spelled
+pub mod Legal
+pub mod Shown

@@ -1,0 +1,25 @@
+-- What a start tag says besides its name: the attributes that the guideline knows, by their values and not by where or in which order they stand.
+use mathlib.Core.List.{List, []}
+use mathlib.Core.Bool.{Bool, true, false}
+use Prim.Native.Nat.{ℕ}
+
+-- an attribute that is not there, or the bytes between its quotes
+pub data Value : Type 0 where
+  Absent : Value
+  Given : List ℕ → Value
+
+-- `v`, codingScheme, the root's version; whether there are others, and whether all of those may be passed over on a root
+pub record Said : Type 0 where
+  pub v : Value
+  pub scheme : Value
+  pub version : Value
+  pub others : Bool
+  pub passable : Bool
+
+unfoldable pub given : Value → Bool
+given Absent = false
+given (Given b) = true
+
+unfoldable pub bytes : Value → List ℕ
+bytes Absent = []
+bytes (Given b) = b

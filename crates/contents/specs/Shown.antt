@@ -1,0 +1,55 @@
+-- What the answer and the tables show of a content.
+use Prim.Native.Nat.{ℕ, _+_, _*_, _<_}
+use mathlib.Core.Path.{_≡_}
+use mathlib.Core.List.{List, [], _∷_, map}
+use lib.IntN.{ℤ, pos}
+use lib.ListN.{length, getD, take}
+use Rattle.characters.specs.Says.{says}
+use Rattle.attributes.specs.Attribute.{partOf}
+use Rattle.trims.specs.Trim.{dropped}
+use Rattle.numbers.specs.Amount.{amountOf}
+use Rattle.guideline.specs.Columns.{isSeries, isInterval, isObject, isBusinessType, isPos, isQty}
+use Rattle.reader.specs.Rows.{thousandthsOf}
+use Rattle.reader.specs.Reading.{Tables}
+use Rattle.trees.specs.Trees.{Trees}
+use Rattle.contents.specs.Said.{Said, bytes}
+use Rattle.contents.specs.Legal.{hasRole, those, inEach, positionOf, identifications}
+
+-- the amount that a Qty says, which is collapsed, in thousandths
+unfoldable pub amountIn : Said → ℤ
+amountIn s = thousandthsOf (amountOf (says (dropped (bytes (s .v)))))
+
+unfoldable pub sum : List ℕ → ℕ
+sum [] = 0
+sum (n ∷ ns) = n + sum ns
+
+module _ (rows : List ℕ) (c : Trees Said) where
+  unfoldable pub objects : List (List ℕ)
+  objects = map (λ (s : Said). bytes (s .v)) (those (hasRole isObject) rows c)
+
+  -- "of its BusinessType, spaces dropped"
+  unfoldable pub businessTypes : List (List ℕ)
+  businessTypes = map (λ (s : Said). dropped (bytes (s .v))) (those (hasRole isBusinessType) rows c)
+
+  -- how many intervals each series has
+  unfoldable pub intervalCounts : List ℕ
+  intervalCounts = map (λ (s : Trees Said). length (those (hasRole isInterval) rows s)) (inEach (hasRole isSeries) rows c)
+
+-- the part of the document whose start and length two cells have
+unfoldable pub view : List ℕ → List ℕ → ℕ → List ℕ
+view doc cells i = partOf doc (getD cells i 0) (getD cells (i + 1) 0)
+
+-- "A series takes eight u32 numbers ..: start and length of its TimeSeriesIdentification; of its object ..; of its BusinessType, spaces dropped; its first
+-- interval row; its interval count." Row i is of series i
+pub record RowShows (doc cells : List ℕ) (rows : List ℕ) (c : Trees Said) (i : ℕ) : Type 0 where
+  pub identification : view doc cells (8 * i) ≡ getD (identifications rows c) i []
+  pub object : view doc cells (8 * i + 2) ≡ getD (objects rows c) i []
+  pub businessType : view doc cells (8 * i + 4) ≡ getD (businessTypes rows c) i []
+  pub first : getD cells (8 * i + 6) 0 ≡ sum (take i (intervalCounts rows c))
+  pub count : getD cells (8 * i + 7) 0 ≡ getD (intervalCounts rows c) i 0
+
+-- "Intervals take one position and one amount at the same index .. Rows come in document order. Cells past the last row are 0."
+pub record Shows (doc : List ℕ) (t : Tables) (rows : List ℕ) (c : Trees Said) : Type 0 where
+  pub series : (i : ℕ) → i < length (those (hasRole isSeries) rows c) → RowShows doc (t .series) rows c i
+  pub positions : (j : ℕ) → getD (t .positions) j 0 ≡ getD (map positionOf (those (hasRole isPos) rows c)) j 0
+  pub amounts : (j : ℕ) → getD (t .amounts) j (pos 0) ≡ getD (map amountIn (those (hasRole isQty) rows c)) j (pos 0)

@@ -1,0 +1,62 @@
+-- How a content is written down as a document: its items are tags, white text and comments, and the tags spell it.
+use Prim.Native.Nat.{ℕ}
+use mathlib.Core.Path.{_≡_}
+use mathlib.Core.List.{List, [], _∷_, _++_}
+use mathlib.Core.Bool.{Bool, true, false, cond}
+use Rattle.attributes.specs.Attribute.{partOf}
+use Rattle.elements.specs.Names.{elementNo}
+use Rattle.tags.specs.declared.Span.{Span}
+use Rattle.items.specs.declared.Tag.{Tag}
+use Rattle.items.specs.declared.Item.{Item}
+use Rattle.items.specs.declared.Item.the-variants.{Start, Empty, End, Text, Comment, Refused}
+use Rattle.prolog.specs.Prolog.{begin}
+use Rattle.prolog.specs.declared.Begin.the-variants.{From}
+use Rattle.guideline.specs.Rows.{rowsOf}
+use Rattle.states.specs.Attributes.{there}
+use Rattle.reader.specs.Items.{Placed, itemsFrom}
+use Rattle.trees.specs.Trees.{Sign, Opens, Closes, Trees, spell}
+use Rattle.contents.specs.Said.{Value, Absent, Given, Said}
+
+-- the value of an attribute of a tag; s is the part of the document that begins with the tag
+unfoldable pub valueIn : Span → List ℕ → Value
+valueIn x s = cond (there x) (Given (partOf s (x .start) (x .len))) Absent
+
+unfoldable pub saidBy : Tag → List ℕ → Said
+saidBy t s =
+    record { v = valueIn (t .v) s; scheme = valueIn (t .coding) s; version = valueIn (t .version) s; others = t .others; passable = t .passable }
+
+unfoldable pub nameIn : ℕ → ℕ → List ℕ → ℕ
+nameIn from len s = elementNo (partOf s from len)
+
+-- "An empty tag is a start and an end in one item."; white text and comments say nothing
+unfoldable pub signsBy : Item → List ℕ → List (Sign Said)
+signsBy (Start t) s = Opens (saidBy t s) (nameIn 1 (t .name) s) ∷ []
+signsBy (Empty t) s = Opens (saidBy t s) (nameIn 1 (t .name) s) ∷ Closes (nameIn 1 (t .name) s) ∷ []
+signsBy (End n e) s = Closes (nameIn 2 n s) ∷ []
+signsBy (Text white e) s = []
+signsBy (Comment e) s = []
+signsBy (Refused p) s = []
+
+unfoldable pub signsOf : List Placed → List (Sign Said)
+signsOf [] = []
+signsOf (x ∷ xs) = signsBy (x .item) (x .rest) ++ signsOf xs
+
+-- an item that may stand in a document: readable, and no text but white text
+unfoldable pub allowed : Item → Bool
+allowed (Start t) = true
+allowed (Empty t) = true
+allowed (End n e) = true
+allowed (Text white e) = white
+allowed (Comment e) = true
+allowed (Refused p) = false
+
+unfoldable pub AllAllowed : List Placed → Type 0
+AllAllowed [] = Unit {0}
+AllAllowed (x ∷ xs) = (allowed (x .item) ≡ true) × AllAllowed xs
+
+-- The document spells the content c, elements one in another, by the rows of a kind.
+pub record Spells (doc : List ℕ) (kind : ℕ) (c : Trees Said) : Type 0 where
+  pub from : ℕ
+  pub begins : begin doc ≡ From from
+  pub items : AllAllowed (itemsFrom doc from)
+  pub tags : signsOf (itemsFrom doc from) ≡ spell (rowsOf kind) c
