@@ -1,0 +1,265 @@
+-- A walk that opens no series and no Period passes exactly where each element fits, the Pos come in turn, and the Intervals are not too many.
+-- Assumes nothing.
+use Prim.Native.Nat.{ℕ, _+_, _-_, _≤_, _<_}
+use mathlib.Core.Path.{_≡_, refl, sym, ap, _∙_}
+use mathlib.Core.List.{List, [], _∷_, _++_, map}
+use mathlib.Core.Bool.{Bool, true, false, cond, _&&_}
+use mathlib.Core.Logic.{⊎-elim}
+use native.Mathlib.Omega.{arith}
+use lib.Dec.{eqb, ltb}
+use lib.ListN.{length, getD, length-append}
+use borrow.Author.Tests.{eq-eqb, ne-eqb, lt-ltb, ltb-true}
+use Rattle.lists.proofs.Cases.{bool-cases, eqb-cases, zero-not-one}
+use Rattle.rules.specs.Rules.{positionFits}
+use Rattle.guideline.specs.Columns.{formOf, roleOf}
+use Rattle.guideline.specs.Kinds.{takesAnother}
+use Rattle.states.specs.declared.Room.{Room}
+use Rattle.trees.specs.Trees.{Trees, none, element}
+use Rattle.contents.specs.Said.{Said}
+use Rattle.contents.specs.Legal.{hasRole, those, Period, quartersOf, positionOf, elementFits, inTurn, Each}
+use Rattle.contents.proofs.Walk.{Tally, opened, walked, quartersIn, Taken, Ended, Passes}
+use Rattle.contents.proofs.Tallies.{chosen, other, lastOf, last-append, map-append, turn-append, Within, within-more, invariant, intervals-walked, first-walked, last-walked}
+
+pub and-true : (a b : Bool) → a && b ≡ true → (a ≡ true) × (b ≡ true)
+and-true true b e = (refl, e)
+and-true false b e = absurd (zero-not-one (cc))
+
+pub true-and : (a b : Bool) → a ≡ true → b ≡ true → a && b ≡ true
+true-and a b e f = rw (e, f) refl
+
+pub takes-few : (kind n : ℕ) → takesAnother kind n ≡ true → kind ≡ 1 → n < 100
+unfolding takesAnother
+takes-few kind n e k = let h : ltb n 100 ≡ true = rw (eq-eqb kind 1 k) at e in ltb-true n 100 h
+
+pub few-takes : (kind n : ℕ) → (kind ≡ 1 → n < 100) → takesAnother kind n ≡ true
+unfolding takesAnother
+few-takes kind n f = ⊎-elim (λ y. rw (y .1) (lt-ltb n 100 (f (y .0)))) (λ y. rw (y .1) refl) (eqb-cases kind 1)
+
+-- what goes before: the tables' room and the limit of a Period are kept
+pub record Holds (kind : ℕ) (room : Room) (y : Tally) : Type 0 where
+  pub begins : y .first ≤ y .intervals
+  pub fit : y .intervals ≤ room .intervals
+  pub few : kind ≡ 1 → y .intervals - y .first ≤ 100
+
+-- a row that opens no series and no Period
+pub record Plain (rows : List ℕ) (q : ℕ) : Type 0 where
+  pub not-series : roleOf (getD rows q 0) ≡ 2 → ⊥
+  pub not-period : roleOf (getD rows q 0) ≡ 3 → ⊥
+  pub turn : formOf (getD rows q 0) ≡ 9 → roleOf (getD rows q 0) ≡ 9
+  pub back : roleOf (getD rows q 0) ≡ 9 → formOf (getD rows q 0) ≡ 9
+
+pub record Segment (kind : ℕ) (room : Room) (rows : List ℕ) (p₀ : Period) (c : Trees Said) (y : Tally) : Type 0 where
+  pub each : Each (elementFits kind p₀) rows c
+  pub turns : inTurn kind (quartersOf p₀) (y .last) (map positionOf (those (hasRole 9) rows c)) ≡ true
+  pub few : kind ≡ 1 → y .intervals - y .first + length (those (hasRole 4) rows c) ≤ 100
+  pub fit : y .intervals + length (those (hasRole 4) rows c) ≤ room .intervals
+
+-- one for a row of this role
+abbrev pub unit : ℕ → ℕ → ℕ
+unit n w = cond (eqb (roleOf w) n) 1 0
+
+pub length-element : {A : Type 0} (rows : List ℕ) (n q : ℕ) (s : A) (inner after : Trees A)
+    → length (those (hasRole n) rows (element q s inner after))
+    ≡ unit n (getD rows q 0) + length (those (hasRole n) rows inner) + length (those (hasRole n) rows after)
+unfolding those
+length-element rows n q s inner after =
+    let l = length-append (those (hasRole n) rows inner) (those (hasRole n) rows after) in
+    ⊎-elim
+    (λ (z : eqb (roleOf (getD rows q 0)) n ≡ true). rw z (omega (arith, l)))
+    (λ (z : eqb (roleOf (getD rows q 0)) n ≡ false). rw z (omega (arith, l)))
+    (bool-cases (eqb (roleOf (getD rows q 0)) n))
+
+one-interval : (w : ℕ) (s : Said) (y : Tally) → opened w s y .intervals ≡ y .intervals + unit 4 w
+one-interval w s y =
+    ⊎-elim (λ (z : eqb (roleOf w) 4 ≡ true). rw z refl) (λ (z : eqb (roleOf w) 4 ≡ false). rw z (omega arith)) (bool-cases (eqb (roleOf w) 4))
+
+module _ (rows : List ℕ) (kind n : ℕ) (q : ℕ) (s : Said) (inner after : Trees Said) (y : Tally) (not : roleOf (getD rows q 0) ≡ 3 → ⊥)
+    (inside : Within (λ q. roleOf (getD rows q 0) ≡ 3 → ⊥) inner) where
+  abbrev w : ℕ
+  w = getD rows q 0
+
+  abbrev y₁ : Tally
+  y₁ = opened w s y
+
+  abbrev is : List Said
+  is = those (hasRole 9) rows inner
+
+  abbrev js : List Said
+  js = those (hasRole 9) rows after
+
+  last-opened : y₁ .last ≡ cond (eqb (roleOf w) 9) (positionOf s) (y .last)
+  last-opened = other 0 (cond (eqb (roleOf w) 9) (positionOf s) (y .last)) (ne-eqb (roleOf w) 3 not)
+
+  -- the Pos of an element: its own, those in it, those after it
+  after-own : inTurn kind n (y₁ .last) (map positionOf (is ++ js))
+      ≡ inTurn kind n (y₁ .last) (map positionOf is) && inTurn kind n (walked rows inner y₁ .last) (map positionOf js)
+  after-own =
+      ap (inTurn kind n (y₁ .last)) (map-append positionOf is js)
+      ∙ turn-append kind n (y₁ .last) (map positionOf is) (map positionOf js)
+      ∙ ap (λ l. inTurn kind n (y₁ .last) (map positionOf is) && inTurn kind n l (map positionOf js)) (sym (last-walked rows inner inside y₁))
+
+  turn-parts : inTurn kind n (y .last) (map positionOf (those (hasRole 9) rows (element q s inner after))) ≡ true
+      → (roleOf w ≡ 9 → positionFits kind n (y .last) (positionOf s) ≡ true)
+      × (inTurn kind n (y₁ .last) (map positionOf is) ≡ true)
+      × (inTurn kind n (walked rows inner y₁ .last) (map positionOf js) ≡ true)
+  unfolding those inTurn
+  turn-parts e =
+      ⊎-elim
+      (λ (z : (roleOf w ≡ 9) × (eqb (roleOf w) 9 ≡ true)).
+      let f = ap (λ l. inTurn kind n (y .last) (map positionOf l)) (sym (chosen (s ∷ (is ++ js)) (is ++ js) (z .1))) ∙ e in
+      let g = and-true (positionFits kind n (y .last) (positionOf s)) (inTurn kind n (positionOf s) (map positionOf (is ++ js))) f in
+      let u : y₁ .last ≡ positionOf s = last-opened ∙ chosen (positionOf s) (y .last) (z .1) in
+      let h = and-true (inTurn kind n (y₁ .last) (map positionOf is)) (inTurn kind n (walked rows inner y₁ .last) (map positionOf js))
+      (sym after-own ∙ ap (λ l. inTurn kind n l (map positionOf (is ++ js))) u ∙ g .1) in
+      ((λ _. g .0), h .0, h .1))
+      (λ (z : (roleOf w ≡ 9 → ⊥) × (eqb (roleOf w) 9 ≡ false)).
+      let f = ap (λ l. inTurn kind n (y .last) (map positionOf l)) (sym (other (s ∷ (is ++ js)) (is ++ js) (z .1))) ∙ e in
+      let u : y₁ .last ≡ y .last = last-opened ∙ other (positionOf s) (y .last) (z .1) in
+      let h = and-true (inTurn kind n (y₁ .last) (map positionOf is)) (inTurn kind n (walked rows inner y₁ .last) (map positionOf js))
+      (sym after-own ∙ ap (λ l. inTurn kind n l (map positionOf (is ++ js))) u ∙ f) in
+      ((λ r. absurd (z .0 r)), h .0, h .1))
+      (eqb-cases (roleOf w) 9)
+
+  turn-whole : (roleOf w ≡ 9 → positionFits kind n (y .last) (positionOf s) ≡ true)
+      → inTurn kind n (y₁ .last) (map positionOf is) ≡ true
+      → inTurn kind n (walked rows inner y₁ .last) (map positionOf js) ≡ true
+      → inTurn kind n (y .last) (map positionOf (those (hasRole 9) rows (element q s inner after))) ≡ true
+  unfolding those inTurn
+  turn-whole a b c =
+      let h = after-own ∙ true-and _ _ b c in
+      ⊎-elim
+      (λ (z : (roleOf w ≡ 9) × (eqb (roleOf w) 9 ≡ true)).
+      let u : y₁ .last ≡ positionOf s = last-opened ∙ chosen (positionOf s) (y .last) (z .1) in
+      ap (λ l. inTurn kind n (y .last) (map positionOf l)) (chosen (s ∷ (is ++ js)) (is ++ js) (z .1))
+      ∙ true-and (positionFits kind n (y .last) (positionOf s)) (inTurn kind n (positionOf s) (map positionOf (is ++ js))) (a (z .0))
+      (ap (λ l. inTurn kind n l (map positionOf (is ++ js))) (sym u) ∙ h))
+      (λ (z : (roleOf w ≡ 9 → ⊥) × (eqb (roleOf w) 9 ≡ false)).
+      let u : y₁ .last ≡ y .last = last-opened ∙ other (positionOf s) (y .last) (z .1) in
+      ap (λ l. inTurn kind n (y .last) (map positionOf l)) (other (s ∷ (is ++ js)) (is ++ js) (z .1))
+      ∙ ap (λ l. inTurn kind n l (map positionOf (is ++ js))) (sym u) ∙ h)
+      (eqb-cases (roleOf w) 9)
+
+-- R is what is known of the rows, I what is known of the tally along the walk
+module _ (kind : ℕ) (room : Room) (rows : List ℕ) (p₀ : Period) (R : ℕ → Type 0) (I : Tally → Type 0)
+    (plain : (q : ℕ) → R q → Plain rows q)
+    (keep : (q : ℕ) (s : Said) (y : Tally) → R q → I y → I (opened (getD rows q 0) s y))
+    (fits : (q : ℕ) (s : Said) (y : Tally) → R q → I y → elementFits kind (y .period) (getD rows q 0) s ≡ elementFits kind p₀ (getD rows q 0) s)
+    (now : (q : ℕ) (y : Tally) → R q → I y → formOf (getD rows q 0) ≡ 9 → y .period ≡ p₀) where
+  no-series : (c : Trees Said) → Within R c → Within (λ q. roleOf (getD rows q 0) ≡ 2 → ⊥) c
+  no-series c h = within-more (λ q r. plain q r .not-series) c h
+
+  no-period : (c : Trees Said) → Within R c → Within (λ q. roleOf (getD rows q 0) ≡ 3 → ⊥) c
+  no-period c h = within-more (λ q r. plain q r .not-period) c h
+
+  first-opened : (q : ℕ) (s : Said) (y : Tally) → R q → opened (getD rows q 0) s y .first ≡ y .first
+  first-opened q s y r = other (y .intervals) (y .first) (ne-eqb (roleOf (getD rows q 0)) 2 (plain q r .not-series))
+
+  -- after elements that fit
+  after-holds : (c : Trees Said) → Within R c → (y : Tally) → Holds kind room y → Segment kind room rows p₀ c y → Holds kind room (walked rows c y)
+  after-holds c h y a g =
+      let i = intervals-walked rows c y in
+      let f = first-walked rows c (no-series c h) y in
+      record {
+        begins = omega (arith, i, f, a .begins);
+        fit = omega (arith, i, g .fit);
+        few = λ k. omega (arith, i, f, a .begins, g .few k);
+      }
+
+  -- after a start tag
+  opened-holds : (q : ℕ) (s : Said) (y : Tally) → R q → Holds kind room y → y .intervals + unit 4 (getD rows q 0) ≤ room .intervals
+      → (kind ≡ 1 → y .intervals - y .first + unit 4 (getD rows q 0) ≤ 100) → Holds kind room (opened (getD rows q 0) s y)
+  opened-holds q s y r a m k =
+      let i = one-interval (getD rows q 0) s y in
+      let f = first-opened q s y r in
+      record { begins = omega (arith, i, f, a .begins); fit = omega (arith, i, m); few = λ e. omega (arith, i, f, a .begins, k e) }
+
+  -- where a start tag is taken, it is not one Interval too many
+  taken-fit : (w : ℕ) (s : Said) (y : Tally) → Holds kind room y → Taken kind room w s y
+      → (y .intervals + unit 4 w ≤ room .intervals) × (kind ≡ 1 → y .intervals - y .first + unit 4 w ≤ 100)
+  taken-fit w s y a t =
+      ⊎-elim
+      (λ (z : (roleOf w ≡ 4) × (eqb (roleOf w) 4 ≡ true)).
+      let u : unit 4 w ≡ 1 = chosen 1 0 (z .1) in
+      let h = t .another (z .0) in
+      (omega (arith, u, h .1), λ k. omega (arith, u, takes-few kind (y .intervals - y .first) (h .0) k)))
+      (λ (z : (roleOf w ≡ 4 → ⊥) × (eqb (roleOf w) 4 ≡ false)).
+      let u : unit 4 w ≡ 0 = other 1 0 (z .1) in
+      (omega (arith, u, a .fit), λ k. omega (arith, u, a .few k)))
+      (eqb-cases (roleOf w) 4)
+
+  pub passes-fit : (c : Trees Said) → Within R c → (y : Tally) → I y → Holds kind room y → Passes kind room rows c y → Segment kind room rows p₀ c y
+  unfolding Within Passes Each inTurn those walked quartersOf
+  passes-fit none h y i a t =
+      record { each = tt; turns = refl; few = λ k. let u = a .few k in omega (arith, u); fit = let u = a .fit in omega (arith, u) }
+  passes-fit (element q s inner after) h y i a t =
+      let w = getD rows q 0 in
+      let y₁ = opened w s y in
+      let y₂ = walked rows inner y₁ in
+      let m = taken-fit w s y a (t .0) in
+      let a₁ = opened-holds q s y (h .0) a (m .0) (m .1) in
+      let i₁ = keep q s y (h .0) i in
+      let g₁ = passes-fit inner (h .1) y₁ i₁ a₁ (t .1) in
+      let g₂ = passes-fit after (h .2) y₂ (invariant rows I R keep inner (h .1) y₁ i₁) (after-holds inner (h .1) y₁ a₁ g₁) (t .3) in
+      let l = length-element rows 4 q s inner after in
+      let n₁ = one-interval w s y in
+      let n₂ = intervals-walked rows inner y₁ in
+      let f₁ = first-opened q s y (h .0) in
+      let f₂ = first-walked rows inner (no-series inner (h .1)) y₁ in
+      record {
+        each = (sym (fits q s y (h .0) i) ∙ t .0 .fits, g₁ .each, g₂ .each);
+        turns =
+            turn-whole rows kind (quartersOf p₀) q s inner after y (plain q (h .0) .not-period) (no-period inner (h .1))
+            (λ r.
+            let e = plain q (h .0) .back r in
+            ap (λ (p : Period). positionFits kind (quartersOf p) (y .last) (positionOf s)) (sym (now q y (h .0) i e)) ∙ t .0 .turn e)
+            (g₁ .turns) (g₂ .turns);
+        few = λ k. let u = g₂ .few k in let b = a .begins in omega (arith, l, n₁, n₂, f₁, f₂, u, b);
+        fit = let u = g₂ .fit in omega (arith, l, n₁, n₂, u);
+      }
+
+  pub fit-passes : (c : Trees Said) → Within R c → (y : Tally) → I y → Holds kind room y → Segment kind room rows p₀ c y → Passes kind room rows c y
+  unfolding Within Passes Each inTurn those walked quartersOf
+  fit-passes none h y i a g = tt
+  fit-passes (element q s inner after) h y i a g =
+      let w = getD rows q 0 in
+      let y₁ = opened w s y in
+      let y₂ = walked rows inner y₁ in
+      let l = length-element rows 4 q s inner after in
+      let n₁ = one-interval w s y in
+      let n₂ = intervals-walked rows inner y₁ in
+      let f₁ = first-opened q s y (h .0) in
+      let f₂ = first-walked rows inner (no-series inner (h .1)) y₁ in
+      let m : y .intervals + unit 4 w ≤ room .intervals = let u = g .fit in omega (arith, l, u) in
+      let k : kind ≡ 1 → y .intervals - y .first + unit 4 w ≤ 100 = λ e. let u = g .few e in omega (arith, l, u) in
+      let a₁ = opened-holds q s y (h .0) a m k in
+      let i₁ = keep q s y (h .0) i in
+      let v = turn-parts rows kind (quartersOf p₀) q s inner after y (plain q (h .0) .not-period) (no-period inner (h .1)) (g .turns) in
+      let b = a .begins in
+      let g₁ : Segment kind room rows p₀ inner y₁ =
+      record {
+        each = g .each .1;
+        turns = v .1;
+        few = λ e. let u = g .few e in omega (arith, l, n₁, f₁, u, b);
+        fit = let u = g .fit in omega (arith, l, n₁, u);
+      } in
+      let g₂ : Segment kind room rows p₀ after y₂ =
+      record {
+        each = g .each .2;
+        turns = v .2;
+        few = λ e. let u = g .few e in omega (arith, l, n₁, n₂, f₁, f₂, u, b);
+        fit = let u = g .fit in omega (arith, l, n₁, n₂, u);
+      } in (
+        record {
+          fits = fits q s y (h .0) i ∙ g .each .0;
+          turn = λ e. ap (λ (p : Period). positionFits kind (quartersOf p) (y .last) (positionOf s)) (now q y (h .0) i e) ∙ v .0 (plain q (h .0) .turn e);
+          series = λ e. absurd (plain q (h .0) .not-series e);
+          another =
+              λ e.
+              let u : unit 4 w ≡ 1 = chosen 1 0 (eq-eqb (roleOf w) 4 e) in
+              (few-takes kind (y .intervals - y .first) (λ o. let z = k o in omega (arith, u, z)), omega (arith, u, m));
+          originals = λ e. absurd (plain q (h .0) .not-period e);
+        },
+        fit-passes inner (h .1) y₁ i₁ a₁ g₁,
+        (λ e. absurd (plain q (h .0) .not-period e)),
+        fit-passes after (h .2) y₂ (invariant rows I R keep inner (h .1) y₁ i₁) (after-holds inner (h .1) y₁ a₁ g₁) g₂,
+      )
