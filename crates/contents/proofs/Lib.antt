@@ -6,3 +6,7 @@ pub mod Segments
 pub mod Splits
 pub mod Levels
 pub mod Rules
+pub mod Lifted
+pub mod Bridge
+pub mod Tables
+pub mod Theorems

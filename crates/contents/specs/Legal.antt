@@ -24,6 +24,7 @@ use Rattle.rules.specs.declared.Held.{Held}
 use Rattle.guideline.specs.Columns.{formOf, collapsed, schemeOf, roleOf, periodCovered, pos, isRoot, isSeries, isInterval, isOriginal, isSeriesId, isPos}
 use Rattle.guideline.specs.Rows.{rowsOf}
 use Rattle.states.specs.Attributes.{agree, asksV, asksScheme, noOthers}
+use Rattle.states.specs.declared.Room.{Room}
 use Rattle.trees.specs.Trees.{Trees, none, element, Conforms}
 use Rattle.contents.specs.Said.{Said, given, bytes}
 
@@ -157,3 +158,8 @@ pub record Legal (kind : ℕ) (c : Trees Said) : Type 0 where
   pub series : All (SeriesFits kind (quartersOf (periodOf (rowsOf kind) c)) (rowsOf kind)) (inEach (hasRole isSeries) (rowsOf kind) c)
   -- "TimeSeriesIdentification used before in this document" is refused
   pub apart : Apart (identifications (rowsOf kind) c)
+
+-- "Room for series is the table length divided by 8, rounded down. .. room is the shorter length.": the rows of a content have room
+pub record HasRoom (room : Room) (kind : ℕ) (c : Trees Said) : Type 0 where
+  pub series : length (those (hasRole isSeries) (rowsOf kind) c) ≤ room .series
+  pub intervals : length (those (hasRole isInterval) (rowsOf kind) c) ≤ room .intervals

@@ -2,6 +2,7 @@
 use Prim.Native.Nat.{ℕ, _+_, _*_, _<_}
 use mathlib.Core.Path.{_≡_}
 use mathlib.Core.List.{List, [], _∷_, map}
+use mathlib.Core.Logic.{_⊎_}
 use lib.IntN.{ℤ, pos}
 use lib.ListN.{length, getD, take}
 use Rattle.characters.specs.Says.{says}
@@ -10,10 +11,12 @@ use Rattle.trims.specs.Trim.{dropped}
 use Rattle.numbers.specs.Amount.{amountOf}
 use Rattle.guideline.specs.Columns.{isSeries, isInterval, isObject, isBusinessType, isPos, isQty}
 use Rattle.reader.specs.Rows.{thousandthsOf}
+use Rattle.guideline.specs.Rows.{rowsOf}
 use Rattle.reader.specs.Reading.{Tables}
+use Rattle.reader.specs.Answer.{Outcome}
 use Rattle.trees.specs.Trees.{Trees}
 use Rattle.contents.specs.Said.{Said, bytes}
-use Rattle.contents.specs.Legal.{hasRole, those, inEach, positionOf, identifications}
+use Rattle.contents.specs.Legal.{hasRole, those, inEach, periodOf, quartersOf, positionOf, identifications}
 
 -- the amount that a Qty says, which is collapsed, in thousandths
 unfoldable pub amountIn : Said → ℤ
@@ -53,3 +56,25 @@ pub record Shows (doc : List ℕ) (t : Tables) (rows : List ℕ) (c : Trees Said
   pub series : (i : ℕ) → i < length (those (hasRole isSeries) rows c) → RowShows doc (t .series) rows c i
   pub positions : (j : ℕ) → getD (t .positions) j 0 ≡ getD (map positionOf (those (hasRole isPos) rows c)) j 0
   pub amounts : (j : ℕ) → getD (t .amounts) j (pos 0) ≡ getD (map amountIn (those (hasRole isQty) rows c)) j (pos 0)
+
+-- what is answered, and left in the tables, where a document that spells the content is accepted
+pub record Tells (doc : List ℕ) (o : Outcome) (kind : ℕ) (c : Trees Said) : Type 0 where
+  pub accepted : o .answer .refusal ≡ 0
+  pub kinds : o .answer .kind ≡ kind
+  pub series : o .answer .series ≡ length (those (hasRole isSeries) (rowsOf kind) c)
+  pub intervals : o .answer .intervals ≡ length (those (hasRole isInterval) (rowsOf kind) c)
+  pub quarters : o .answer .quarters ≡ quartersOf (periodOf (rowsOf kind) c)
+  pub tables : Shows doc (o .tables) (rowsOf kind) c
+
+-- two outcomes that differ in places alone
+pub record SameButPlaces (x : List ℕ) (o : Outcome) (y : List ℕ) (u : Outcome) : Type 0 where
+  pub refusal : o .answer .refusal ≡ u .answer .refusal
+  pub kinds : o .answer .kind ≡ u .answer .kind
+  pub series : o .answer .series ≡ u .answer .series
+  pub intervals : o .answer .intervals ≡ u .answer .intervals
+  pub quarters : o .answer .quarters ≡ u .answer .quarters
+  pub views : (i : ℕ) → i < o .answer .series → (j : ℕ) → (j ≡ 0) ⊎ ((j ≡ 2) ⊎ (j ≡ 4))
+      → view x (o .tables .series) (8 * i + j) ≡ view y (u .tables .series) (8 * i + j)
+  pub counts : (i : ℕ) → i < o .answer .series → (j : ℕ) → (j ≡ 6) ⊎ (j ≡ 7) → getD (o .tables .series) (8 * i + j) 0 ≡ getD (u .tables .series) (8 * i + j) 0
+  pub positions : (j : ℕ) → getD (o .tables .positions) j 0 ≡ getD (u .tables .positions) j 0
+  pub amounts : (j : ℕ) → getD (o .tables .amounts) j (pos 0) ≡ getD (u .tables .amounts) j (pos 0)

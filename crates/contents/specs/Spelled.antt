@@ -60,3 +60,14 @@ pub record Spells (doc : List ℕ) (kind : ℕ) (c : Trees Said) : Type 0 where
   pub begins : begin doc ≡ From from
   pub items : AllAllowed (itemsFrom doc from)
   pub tags : signsOf (itemsFrom doc from) ≡ spell (rowsOf kind) c
+
+-- The tags of two documents say the same: they differ in white text, in comments, in quotes, in the order of attributes, in white space in tags, or in an empty
+-- tag that stands for a start tag and its end.
+pub record Alike (x y : List ℕ) : Type 0 where
+  pub from : ℕ
+  pub begins : begin x ≡ From from
+  pub items : AllAllowed (itemsFrom x from)
+  pub other-from : ℕ
+  pub other-begins : begin y ≡ From other-from
+  pub other-items : AllAllowed (itemsFrom y other-from)
+  pub tags : signsOf (itemsFrom x from) ≡ signsOf (itemsFrom y other-from)

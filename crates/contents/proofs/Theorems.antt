@@ -1,0 +1,346 @@
+-- A document is accepted exactly where it spells a legal content; answer and tables are those of the content, and no other content is spelled.
+-- Assumes nothing.
+use Prim.Native.Nat.{ℕ, _+_, _*_, _/_, _≤_, _<_}
+use mathlib.Core.Path.{_≡_, refl, sym, ap, subst, _∙_}
+use mathlib.Core.List.{List, [], _∷_, map, head-eq-of-cons-eq}
+use mathlib.Core.Logic.{_⊎_, inl, inr, ⊎-elim}
+use mathlib.Core.Bool.{Bool, true, false, cond, _&&_}
+use native.Mathlib.Omega.{arith}
+use native.Mathlib.Nat.{zero-add}
+use lib.Dec.{leb, ltb}
+use lib.ListN.{length, getD, length-replicate}
+use lib.IntN.{pos}
+use borrow.Author.Tests.{le-ltb}
+use Rattle.lists.specs.Zeros.{zeros}
+use Rattle.lists.proofs.Cases.{leb-cases, eqb-cases, zero-not-one}
+use Rattle.slices.specs.Same.{same}
+use Rattle.elements.specs.Names.{names, numberIn, elementNo}
+use Rattle.structure.specs.Rows.{nameOf}
+use Rattle.tables.specs.Cells.{noAmounts}
+use Rattle.items.specs.declared.Item.{Item}
+use Rattle.items.specs.declared.Item.the-variants.{Start, Empty, End, Text, Comment, Refused}
+use Rattle.prolog.specs.Prolog.{begin}
+use Rattle.prolog.specs.declared.Begin.{Begin}
+use Rattle.prolog.specs.declared.Begin.the-variants.{From, Unreadable}
+use Rattle.guideline.specs.Rows.{beschaffungsanforderung, kostenblatt, rowsOf}
+use Rattle.states.specs.Attributes.{agree, asksV, there}
+use Rattle.states.specs.Moves.{begun}
+use Rattle.states.specs.declared.State.{State}
+use Rattle.states.specs.declared.Room.{Room}
+use Rattle.reader.specs.Items.{Placed, itemsFrom}
+use Rattle.reader.specs.Rows.{spanOf}
+use Rattle.reader.specs.Reading.{Tables, Out, blank, roomOf, roomIn, refusedAt, acceptedAt, readItems, itemsRead, readAfter, readInto, orBlank, readSheet}
+use Rattle.reader.specs.Answer.{Outcome, answerOf, told, noted, readOf}
+use Rattle.reader.proofs.Sheets.{into-items, sheet-taken, read-noted}
+use Rattle.trees.specs.Trees.{Sign, Opens, Trees, none, element, spell, Conforms}
+use Rattle.trees.specs.Cursor.{rowAfter, openAfter}
+use Rattle.trees.proofs.Theorems.{one-tree}
+use Rattle.contents.specs.Said.{Said, given}
+use Rattle.contents.specs.Spelled.{valueIn, saidBy, signsOf, AllAllowed, Spells, Alike}
+use Rattle.contents.specs.Legal.{hasRole, those, Period, periodOf, quartersOf, attributesFit, elementFits, Each, identifications, Legal, HasRoom}
+use Rattle.contents.specs.Shown.{Shows, RowShows, Tells, SameButPlaces, view}
+use Rattle.contents.proofs.Laid.{Layout, layout-one, layout-two}
+use Rattle.contents.proofs.Walk.{nothing, walked}
+use Rattle.contents.proofs.Fill.{saidByItem, saidOf, saying, stateOf, filled}
+use Rattle.contents.proofs.Tallies.{series-walked, intervals-walked, period-walked}
+use Rattle.contents.proofs.Segments.{and-true}
+use Rattle.contents.proofs.Splits.{document-shape}
+use Rattle.contents.proofs.Rules.{Rules, passes-rules, rules-passes}
+use Rattle.contents.proofs.Lifted.{Known, known-made, relabelled, signs-said, spell-said, conforms-said, lift}
+use Rattle.contents.proofs.Bridge.{Read, forth, back}
+use Rattle.contents.proofs.Tables.{Given, unused-apart, apart-unused, shows}
+
+-- ---- the kinds
+
+laid : (kind : ℕ) → Known kind → (p : ℕ) × Layout (rowsOf kind) p
+laid kind (inl e) = (26, subst (λ (k : ℕ). Layout (rowsOf k) 26) (sym e) layout-one)
+laid kind (inr e) = (28, subst (λ (k : ℕ). Layout (rowsOf k) 28) (sym e) layout-two)
+
+-- ---- where a value is asked for, it is there
+
+four-first : (a b c d : Bool) → a && b && c && d ≡ true → a ≡ true
+four-first true b c d e = refl
+four-first false b c d e = absurd (zero-not-one (cc))
+
+agreed : (g : Bool) → agree true g ≡ true → g ≡ true
+unfolding agree
+agreed g e = e
+
+asked-given : (w : ℕ) (s : Said) → attributesFit w s ≡ true → asksV w ≡ true → given (s .v) ≡ true
+unfolding attributesFit
+asked-given w s e a = agreed (given (s .v)) (ap (λ (b : Bool). agree b (given (s .v))) (sym a) ∙ four-first (agree (asksV w) (given (s .v))) _ _ _ e)
+
+given-there : (x : Item) (s : List ℕ) → given (saidByItem x s .v) ≡ true → there (spanOf x) ≡ true
+unfolding saidByItem saidBy valueIn given spanOf
+given-there (Start t) s e = by (there (t .v)) refl e
+  where
+    by : (b : Bool) → there (t .v) ≡ b → given (valueIn (t .v) s) ≡ true → there (t .v) ≡ true
+    by true q h = q
+    by false q h = let z : _≡_ {A = Bool} false true = rw q at h in absurd (zero-not-one (cc))
+given-there (Empty t) s e = by (there (t .v)) refl e
+  where
+    by : (b : Bool) → there (t .v) ≡ b → given (valueIn (t .v) s) ≡ true → there (t .v) ≡ true
+    by true q h = q
+    by false q h = let z : _≡_ {A = Bool} false true = rw q at h in absurd (zero-not-one (cc))
+given-there (End n e) s h = absurd (zero-not-one (cc))
+given-there (Text w e) s h = absurd (zero-not-one (cc))
+given-there (Comment e) s h = absurd (zero-not-one (cc))
+given-there (Refused p) s h = absurd (zero-not-one (cc))
+
+each-given : (kind : ℕ) (q : Period) (rows : List ℕ) (kids : Trees Placed) → Each (elementFits kind q) rows (saying kids) → Given rows kids
+unfolding Each Given saying elementFits
+each-given kind q rows none e = tt
+each-given kind q rows (element r x inner after) e = (
+  (λ a. given-there (x .item) (x .rest) (asked-given (getD rows r 0) (saidOf x) (and-true (attributesFit (getD rows r 0) (saidOf x)) _ (e .0) .0) a)),
+  each-given kind q rows inner (e .1),
+  each-given kind q rows after (e .2),
+)
+
+-- ---- the whole document around its items
+
+blank-room : (ns np na : ℕ) → roomIn (blank ns np na) ≡ roomOf ns np na
+unfolding roomIn blank
+blank-room ns np na = rw (length-replicate {A = ℕ} ns 0, length-replicate {A = ℕ} np 0, length-replicate na (pos 0)) refl
+
+room-cells : (ns np na n m : ℕ) → n ≤ roomOf ns np na .series → m ≤ roomOf ns np na .intervals → (8 * n ≤ ns) × (m ≤ np) × (m ≤ na)
+unfolding roomOf
+room-cells ns np na n m a b =
+    ⊎-elim
+    (λ (y : (np ≤ na) × (leb np na ≡ true)).
+    let c : n ≤ ns / 8 = rw (y .1) at a in
+    let d : m ≤ np = rw (y .1) at b in
+    (omega arith, d, omega (arith, d, y .0)))
+    (λ (y : (na < np) × (leb np na ≡ false)).
+    let c : n ≤ ns / 8 = rw (y .1) at a in
+    let d : m ≤ na = rw (y .1) at b in
+    (omega arith, omega (arith, d, y .0), d))
+    (leb-cases np na)
+
+module _ (doc : List ℕ) (ns np na nb : ℕ) (wide : 16 ≤ nb) (small : length doc ≤ 1048576) where
+  abbrev room : Room
+  room = roomOf ns np na
+
+  abbrev read : ℕ → Out
+  read n = readItems doc room (itemsFrom doc n) begun (blank ns np na)
+
+  into : (n : ℕ) → begin doc ≡ From n → readInto doc (blank ns np na) ≡ read n
+  unfolding itemsRead
+  into n e = sym (into-items doc (blank ns np na) n e) ∙ ap (λ r. readItems doc r (itemsFrom doc n) begun (blank ns np na)) (blank-room ns np na)
+
+  outcome-is : (n : ℕ) → begin doc ≡ From n → read n .found .refusal ≡ 0 → readOf doc ns np na nb ≡ noted nb (read n)
+  outcome-is n e z =
+      let i = into n e in
+      sym (read-noted doc ns np na nb wide)
+      ∙ ap (noted nb) (sym (sheet-taken doc ns np na small (ap (λ (o : Out). o .found .refusal) i ∙ z)) ∙ i)
+
+  sheet-found : readSheet doc ns np na .found ≡ readInto doc (blank ns np na) .found
+  unfolding readSheet orBlank
+  sheet-found = rw (le-ltb 1048576 (length doc) small) refl
+
+  outcome-refusal : readOf doc ns np na nb .answer .refusal ≡ readInto doc (blank ns np na) .found .refusal
+  unfolding noted told answerOf
+  outcome-refusal = ap (λ (o : Outcome). o .answer .refusal) (sym (read-noted doc ns np na nb wide)) ∙ ap (λ f. f .refusal) sheet-found
+
+  accepted-from : (b : Begin) → begin doc ≡ b → readInto doc (blank ns np na) .found .refusal ≡ 0 → (n : ℕ) × (begin doc ≡ From n) × (read n .found .refusal ≡ 0)
+  unfolding readInto readAfter refusedAt
+  accepted-from (From n) e z = (n, e, ap (λ (o : Out). o .found .refusal) (sym (into n e)) ∙ z)
+  accepted-from (Unreadable p) e z = let u : _≡_ {A = ℕ} 2 0 = rw e at z in absurd (omega (arith, u))
+
+  -- ---- accepted documents spell legal contents
+
+  pub accepted-legal : readOf doc ns np na nb .answer .refusal ≡ 0 → (kind : ℕ) × (c : Trees Said) × Spells doc kind c × Legal kind c × HasRoom room kind c
+  accepted-legal z =
+      let g = accepted-from (begin doc) refl (sym outcome-refusal ∙ z) in
+      let n = g .0 in
+      let f = forth doc room n (blank ns np na) small (g .2) in
+      let kind = f .0 in
+      let kids = f .1 in
+      let r = f .2 in
+      let rows = rowsOf kind in
+      let l = laid kind (r .known) in
+      let conforms = conforms-said rows 0 kids (r .conforms) in
+      let k = passes-rules kind room rows (l .0) (l .1) (saying kids) conforms (r .passes) in
+      let m = room-cells ns np na _ _ (k .series-room) (k .intervals-room) in (
+        kind,
+        saying kids,
+        record {
+          from = n;
+          begins = g .1;
+          items = r .allowed;
+          tags = signs-said (itemsFrom doc n) ∙ ap (map relabelled) (r .tags) ∙ sym (spell-said rows kids);
+        },
+        record {
+          known = r .known;
+          conforms = conforms;
+          elements = k .elements;
+          series = k .series;
+          apart =
+              unused-apart kind rows (l .0) (l .1) doc ns np na kids (r .conforms) (r .stands) (each-given kind _ rows kids (k .elements)) (m .0) (m .1) (m .2)
+              (r .unused);
+        },
+        record { series = k .series-room; intervals = k .intervals-room },
+      )
+
+  -- ---- documents that spell legal contents are accepted
+
+  module _ (kind : ℕ) (kids : Trees Placed) (n : ℕ) (begins : begin doc ≡ From n) (r : Read doc room n (blank ns np na) kind kids)
+      (rules : Rules kind room (rowsOf kind) (saying kids)) where
+    abbrev rows : List ℕ
+    rows = rowsOf kind
+
+    read-is : read n ≡ record {
+      found = acceptedAt (length doc) (stateOf kind (rowAfter 0 kids) (openAfter true kids) (walked rows (saying kids) nothing));
+      tables = filled kind rows kids nothing (blank ns np na);
+    }
+    read-is = back doc room n (blank ns np na) kind kids small r
+
+    outcome : readOf doc ns np na nb ≡ noted nb (record {
+      found = acceptedAt (length doc) (stateOf kind (rowAfter 0 kids) (openAfter true kids) (walked rows (saying kids) nothing));
+      tables = filled kind rows kids nothing (blank ns np na);
+    })
+    unfolding acceptedAt
+    outcome = outcome-is n begins (ap (λ (o : Out). o .found .refusal) read-is) ∙ ap (noted nb) read-is
+
+    tells : Tells doc (readOf doc ns np na nb) kind (saying kids)
+    unfolding noted told answerOf acceptedAt stateOf quartersOf nothing periodOf
+    tells =
+        let l = laid kind (r .known) in
+        let m = room-cells ns np na _ _ (rules .series-room) (rules .intervals-room) in
+        let e = outcome in
+        record {
+          accepted = ap (λ (o : Outcome). o .answer .refusal) e;
+          kinds = ap (λ (o : Outcome). o .answer .kind) e;
+          series = ap (λ (o : Outcome). o .answer .series) e ∙ series-walked rows (saying kids) nothing ∙ zero-add _;
+          intervals = ap (λ (o : Outcome). o .answer .intervals) e ∙ intervals-walked rows (saying kids) nothing ∙ zero-add _;
+          quarters = ap (λ (o : Outcome). o .answer .quarters) e ∙ ap quartersOf (period-walked rows (saying kids) nothing);
+          tables =
+              subst (λ (t : Tables). Shows doc t rows (saying kids)) (sym (ap (λ (o : Outcome). o .tables) e))
+              (shows kind rows (l .0) (l .1) doc ns np na kids (r .conforms) (r .stands) (each-given kind _ rows kids (rules .elements)) (m .0) (m .1) (m .2));
+        }
+
+  pub legal-accepted : (kind : ℕ) (c : Trees Said) → Spells doc kind c → Legal kind c → HasRoom room kind c → Tells doc (readOf doc ns np na nb) kind c
+  legal-accepted kind c s g h =
+      let rows = rowsOf kind in
+      let n = s .from in
+      let l = laid kind (g .known) in
+      let k = lift doc n kind c (g .known) (s .tags) (g .conforms) in
+      let kids = k .0 in
+      let e = k .1 in
+      let rules : Rules kind room rows c =
+      record { elements = g .elements; series = g .series; series-room = h .series; intervals-room = h .intervals } in
+      let own = subst (Rules kind room rows) (sym e) rules in
+      let m = room-cells ns np na _ _ (own .series-room) (own .intervals-room) in
+      let conforms = conforms-said rows 0 kids (k .3) in
+      let r : Read doc room n (blank ns np na) kind kids =
+      record {
+        known = g .known;
+        allowed = s .items;
+        tags = k .2;
+        conforms = k .3;
+        stands = k .4;
+        passes = rules-passes kind room rows (l .0) (l .1) (saying kids) conforms own;
+        unused =
+            apart-unused kind rows (l .0) (l .1) doc ns np na kids (k .3) (k .4) (each-given kind _ rows kids (own .elements)) (m .0) (m .1) (m .2)
+            (subst (λ d. Legal kind d) (sym e) g .apart);
+      } in
+      subst (Tells doc (readOf doc ns np na nb) kind) e (tells kind kids n (s .begins) r own)
+
+-- ---- there is one content
+
+root-names : nameOf (getD (rowsOf 1) 1 0) ≡ nameOf (getD (rowsOf 2) 1 0) → ⊥
+unfolding rowsOf beschaffungsanforderung kostenblatt elementNo numberIn names same nameOf
+root-names e = omega (arith, e)
+
+-- the first tag of a content that conforms is its root's
+first-tag : (kind : ℕ) → Known kind → (c : Trees Said) → Conforms (rowsOf kind) 0 c
+    → (s : Said) × (rest : List (Sign Said)) × (spell (rowsOf kind) c ≡ Opens s (nameOf (getD (rowsOf kind) 1 0)) ∷ rest)
+unfolding spell
+first-tag kind known c conforms =
+    let l = laid kind known in
+    let d = document-shape (rowsOf kind) (l .0) (l .1) c conforms in
+    (d .tag, _, ap (spell (rowsOf kind)) (d .is))
+
+opened-name : (s u : Said) (n m : ℕ) (l k : List (Sign Said)) → Opens s n ∷ l ≡ Opens u m ∷ k → n ≡ m
+opened-name s u n m l k e = cc
+
+same-names : (kind other : ℕ) → Known kind → Known other → (c d : Trees Said) → Conforms (rowsOf kind) 0 c → Conforms (rowsOf other) 0 d
+    → spell (rowsOf kind) c ≡ spell (rowsOf other) d → nameOf (getD (rowsOf kind) 1 0) ≡ nameOf (getD (rowsOf other) 1 0)
+same-names kind other k o c d a b e =
+    let f = first-tag kind k c a in
+    let g = first-tag other o d b in
+    opened-name (f .0) (g .0) _ _ (f .1) (g .1) (sym (f .2) ∙ e ∙ g .2)
+
+same-kind : (kind other : ℕ) → Known kind → Known other → nameOf (getD (rowsOf kind) 1 0) ≡ nameOf (getD (rowsOf other) 1 0) → kind ≡ other
+same-kind kind other (inl a) (inl b) e = a ∙ sym b
+same-kind kind other (inr a) (inr b) e = a ∙ sym b
+same-kind kind other (inl a) (inr b) e = absurd (root-names (rw (a, b) at e))
+same-kind kind other (inr a) (inl b) e = absurd (root-names (sym (rw (a, b) at e)))
+
+begins-once : (doc : List ℕ) (n m : ℕ) → begin doc ≡ From n → begin doc ≡ From m → n ≡ m
+begins-once doc n m a b = let e : From n ≡ From m = sym a ∙ b in cc
+
+-- "the content unambiguous": a document spells no two legal contents
+pub one-content : (doc : List ℕ) (kind other : ℕ) (c d : Trees Said) → Spells doc kind c → Spells doc other d → Legal kind c → Legal other d
+    → (kind ≡ other) × (c ≡ d)
+one-content doc kind other c d s u g h =
+    let f = begins-once doc (s .from) (u .from) (s .begins) (u .begins) in
+    let e : spell (rowsOf kind) c ≡ spell (rowsOf other) d = sym (s .tags) ∙ ap (λ n. signsOf (itemsFrom doc n)) f ∙ u .tags in
+    let k = same-kind kind other (g .known) (h .known) (same-names kind other (g .known) (h .known) c d (g .conforms) (h .conforms) e) in (
+      k,
+      one-tree Said (rowsOf other) (known-made other (h .known)) c d (subst (λ (i : ℕ). Conforms (rowsOf i) 0 c) k (g .conforms)) (h .conforms)
+          (ap (λ (i : ℕ). spell (rowsOf i) c) (sym k) ∙ e),
+    )
+
+-- ---- what may differ
+
+alike-spells : (x y : List ℕ) → Alike x y → (kind : ℕ) (c : Trees Said) → Spells x kind c → Spells y kind c
+alike-spells x y a kind c s =
+    record {
+      from = a .other-from;
+      begins = a .other-begins;
+      items = a .other-items;
+      tags = sym (a .tags) ∙ ap (λ n. signsOf (itemsFrom x n)) (begins-once x (a .from) (s .from) (a .begins) (s .begins)) ∙ s .tags;
+    }
+
+module _ (x y : List ℕ) (o u : Outcome) (kind : ℕ) (c : Trees Said) (t : Tells x o kind c) (v : Tells y u kind c) where
+  row : (i : ℕ) → i < o .answer .series → RowShows x (o .tables .series) (rowsOf kind) c i × RowShows y (u .tables .series) (rowsOf kind) c i
+  row i l = let l′ = rw (t .series) at l in (t .tables .series i l′, v .tables .series i l′)
+
+  views-same : (i : ℕ) → i < o .answer .series → (j : ℕ) → (j ≡ 0) ⊎ ((j ≡ 2) ⊎ (j ≡ 4))
+      → view x (o .tables .series) (8 * i + j) ≡ view y (u .tables .series) (8 * i + j)
+  views-same i l j (inl e) =
+      let r = row i l in
+      let z : 8 * i + j ≡ 8 * i = omega (arith, e) in
+      rw z (r .0 .identification ∙ sym (r .1 .identification))
+  views-same i l j (inr (inl e)) = let r = row i l in rw e (r .0 .object ∙ sym (r .1 .object))
+  views-same i l j (inr (inr e)) = let r = row i l in rw e (r .0 .businessType ∙ sym (r .1 .businessType))
+
+  counts-same : (i : ℕ) → i < o .answer .series → (j : ℕ) → (j ≡ 6) ⊎ (j ≡ 7)
+      → getD (o .tables .series) (8 * i + j) 0 ≡ getD (u .tables .series) (8 * i + j) 0
+  counts-same i l j (inl e) = let r = row i l in rw e (r .0 .first ∙ sym (r .1 .first))
+  counts-same i l j (inr e) = let r = row i l in rw e (r .0 .count ∙ sym (r .1 .count))
+
+  same-told : SameButPlaces x o y u
+  same-told =
+      record {
+        refusal = t .accepted ∙ sym (v .accepted);
+        kinds = t .kinds ∙ sym (v .kinds);
+        series = t .series ∙ sym (v .series);
+        intervals = t .intervals ∙ sym (v .intervals);
+        quarters = t .quarters ∙ sym (v .quarters);
+        views = views-same;
+        counts = counts-same;
+        positions = λ j. t .tables .positions j ∙ sym (v .tables .positions j);
+        amounts = λ j. t .tables .amounts j ∙ sym (v .tables .amounts j);
+      }
+
+-- "white text, comments, quotes, attribute order and the choice between an empty tag and a start with an end change nothing but places"
+pub nothing-but-places : (x y : List ℕ) (ns np na nb : ℕ) → 16 ≤ nb → length x ≤ 1048576 → length y ≤ 1048576 → Alike x y
+    → readOf x ns np na nb .answer .refusal ≡ 0 → SameButPlaces x (readOf x ns np na nb) y (readOf y ns np na nb)
+nothing-but-places x y ns np na nb w a b l z =
+    let g = accepted-legal x ns np na nb w a z in
+    let kind = g .0 in
+    let c = g .1 in
+    same-told x y (readOf x ns np na nb) (readOf y ns np na nb) kind c
+    (legal-accepted x ns np na nb w a kind c (g .2) (g .3) (g .4))
+    (legal-accepted y ns np na nb w b kind c (alike-spells x y l kind c (g .2)) (g .3) (g .4))
