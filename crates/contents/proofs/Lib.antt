@@ -10,3 +10,4 @@ pub mod Lifted
 pub mod Bridge
 pub mod Tables
 pub mod Theorems
+pub mod Examples
