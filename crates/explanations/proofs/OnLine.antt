@@ -32,12 +32,6 @@ bytes-size h (c ∷ s) =
     (by-cond Short (ltb h 16) (omega (arith, bytes-size 16 s)) (omega (arith, bytes-size (digitOf c) s)))
     (omega (arith, bytes-size h s))
 
-pub text-size : (s : List ℕ) → length (hexText s) ≤ 3 * length s - 1
-unfolding hexText
-text-size [] = omega arith
-text-size (b ∷ []) = omega arith
-text-size (b ∷ c ∷ s) = omega (arith, text-size (c ∷ s))
-
 pub on-long : (line : List ℕ) → 44 < length line → NotOneNote ≡ noteOn line
 unfolding noteOn
 on-long line h = simp (lt-ltb 44 (length line) h)

@@ -9,7 +9,9 @@ ghost use Rattle.characters.specs.Says.{says};
 ghost use Rattle.pictures.specs.Number.{numberAt};
 ghost use Rattle.pictures.specs.Picture.{digit, capital, capitalOrDigit, partyChar, firstThree, takes, held, fitsOf, test};
 
-fn is_digit(c: u32) -> bool
+// Whether a character is an ASCII digit.
+// Ruled out: true for a digit of another script, for `/` or `:`; false for `0` or `9`.
+pub fn is_digit(c: u32) -> bool
     ensures { λ r. ⌜ r ≡ digit c ⌝ }
 {
     if 0x30 <= c { c <= 0x39 } else { false }
