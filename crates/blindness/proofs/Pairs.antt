@@ -2,12 +2,10 @@
 use Prim.Native.Nat.{ℕ, _<_}
 use mathlib.Core.Path.{_≡_, refl, _∙_}
 use mathlib.Core.List.{List, [], _∷_}
-use mathlib.Core.Bool.{Bool, true, false}
 use mathlib.Core.Logic.{_⊎_, inl, inr, ⊎-elim}
 use lib.ListN.{drop}
 use Rattle.lists.proofs.Cases.{eqb-cases, zero-not-one}
 use Rattle.slices.specs.Bytes.{byte}
-use Rattle.slices.specs.Same.{same}
 use Rattle.slices.proofs.Sames.{same-equal}
 use Rattle.slices.specs.Text.{text}
 use Rattle.attributes.specs.Attribute.{partOf}

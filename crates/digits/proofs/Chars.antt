@@ -1,5 +1,5 @@
 -- The character at the front of alike lists is the same one, or two digits. Assumes nothing.
-use Prim.Native.Nat.{ℕ, _≤_}
+use Prim.Native.Nat.{ℕ}
 use mathlib.Core.Path.{_≡_, refl, ap, _∙_}
 use mathlib.Core.List.{List}
 use mathlib.Core.Bool.{true, false, cond}
@@ -8,7 +8,6 @@ use native.Mathlib.Omega.{arith}
 use lib.Dec.{eqb}
 use borrow.Author.Tests.{lt-leb}
 use Rattle.characters.proofs.Ascii.{low-ascii}
-use Rattle.lists.proofs.Cases.{by-cond}
 use Rattle.slices.specs.Bytes.{byte}
 use Rattle.characters.specs.Utf8.{seqLen, low, second, single, double, triple, fourfold, charAt, charUse}
 use Rattle.characters.specs.Says.{charNext, charsOver, allChars}

@@ -4,7 +4,7 @@ use mathlib.Core.Path.{_≡_, refl, ap}
 use mathlib.Core.List.{List, [], _∷_}
 use mathlib.Core.Bool.{Bool, true, false, cond}
 use lib.ListN.{length}
-use Rattle.lists.proofs.Cases.{past-cond, zero-not-one, never}
+use Rattle.lists.proofs.Cases.{past-cond, never}
 use Rattle.slices.specs.Run.{run}
 use Rattle.slices.specs.Walk.{Step, go, stop, walk}
 use Rattle.slices.specs.Same.{same, begins, seek, here, firstAt}

@@ -4,13 +4,10 @@ use mathlib.Core.Path.{_≡_, refl, sym, _∙_}
 use mathlib.Core.List.{List, [], _∷_}
 use mathlib.Core.Bool.{Bool, true, false, cond}
 use mathlib.Core.Logic.{inl, inr}
-use native.Mathlib.Omega.{arith}
 use lib.IntN.{ℤ}
-use lib.ListN.{length}
-use borrow.Author.Tests.{ne-eqb}
 use Rattle.characters.proofs.Saying.{said-some}
 use Rattle.characters.specs.Utf8.{charAt}
-use Rattle.characters.specs.Says.{saidBy, saidAt, saysAfter, says}
+use Rattle.characters.specs.Says.{saidBy, saysAfter, says}
 use Rattle.characters.specs.declared.Char.{Char}
 use Rattle.characters.specs.declared.Char.the-variants.{Is, NoChar}
 use Rattle.characters.specs.declared.Said.{Said}

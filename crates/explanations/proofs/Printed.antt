@@ -2,13 +2,11 @@
 -- Assumes nothing.
 use mathlib.Core.Path.{_≡_, refl, ap, _∙_}
 use mathlib.Core.List.{List, [], _∷_, _++_}
-use mathlib.Core.Bool.{true, false}
 use mathlib.Core.Logic.{⊎-elim}
 use Prim.Native.Nat.{ℕ, zero, suc, _+_, _*_, _/_, _%_, _^_, _≤_, _<_}
 use native.Mathlib.Omega.{arith}
-use borrow.Author.Tests.{lt-ltb, le-ltb, eq-eqb}
-use Rattle.lists.proofs.Cases.{ltb-cases, eqb-cases, zero-not-one}
-use Rattle.slices.specs.Same.{same}
+use borrow.Author.Tests.{lt-ltb, le-ltb}
+use Rattle.lists.proofs.Cases.{ltb-cases}
 use Rattle.lines.specs.Text.{digitOf, hexBytes, glyphOf, hexText}
 use Rattle.notes.specs.Note.{groupsIn, groups, flat, AllBelow}
 use Rattle.notes.proofs.Groups.{on, last, less}

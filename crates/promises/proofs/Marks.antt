@@ -10,7 +10,7 @@ use native.Mathlib.Nat.{add-zero, zero-add}
 use lib.Dec.{leb, ltb, eqb}
 use lib.ListN.{length, getD}
 use borrow.Author.Tests.{lt-leb, ne-eqb, leb-true, ltb-true}
-use Rattle.lists.proofs.Cases.{leb-cases, eqb-cases, zero-not-one, both-true}
+use Rattle.lists.proofs.Cases.{leb-cases, eqb-cases, both-true}
 use Rattle.slices.specs.Same.{same}
 use Rattle.slices.specs.Text.{text}
 use Rattle.elements.specs.Names.{names, numberIn, elementNo}

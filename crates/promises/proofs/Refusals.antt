@@ -4,7 +4,6 @@ use mathlib.Core.Path.{_≡_, refl}
 use mathlib.Core.List.{List}
 use mathlib.Core.Bool.{Bool, true, false, cond}
 use mathlib.Core.Logic.{⊎-elim}
-use native.Mathlib.Omega.{arith}
 use lib.Dec.{leb, eqb}
 use lib.ListN.{getD}
 use borrow.Author.Tests.{leb-false}
@@ -22,7 +21,7 @@ use Rattle.numbers.specs.declared.Number.{Number}
 use Rattle.numbers.specs.declared.Number.the-variants.{Is, NotNumber}
 use Rattle.guideline.specs.Columns.{formOf, schemeOf, roleOf}
 use Rattle.guideline.specs.Kinds.{hasEnough}
-use Rattle.rules.specs.Rules.{unless, version, formRefusal, refused, periodFits, judgePeriodBy, judgePeriod, judgeIntervalBy, judgeInterval, positionFits, judgePositionBy, judgePosition, judge}
+use Rattle.rules.specs.Rules.{unless, version, formRefusal, periodFits, judgePeriodBy, judgePeriod, judgeIntervalBy, judgeInterval, positionFits, judgePositionBy, judgePosition, judge}
 use Rattle.rules.specs.declared.Held.{Held}
 use Rattle.rules.specs.declared.Judged.{Judged}
 use Rattle.items.specs.declared.Tag.{Tag}

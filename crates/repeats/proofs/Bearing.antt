@@ -7,7 +7,6 @@ use mathlib.Core.Bool.{Bool, true, false, cond}
 use mathlib.Core.Logic.{⊎-elim}
 use native.Mathlib.Omega.{arith}
 use lib.ListN.{length}
-use borrow.Author.Tests.{eq-eqb}
 use Rattle.lists.proofs.Cases.{bool-cases, by-cond}
 use Rattle.slices.specs.Same.{same}
 use Rattle.slices.proofs.Sames.{same-self, same-equal}

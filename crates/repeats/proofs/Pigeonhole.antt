@@ -1,7 +1,7 @@
 -- The different names of a list of attributes: no more than its attributes, fewer where a name is there twice; and each step up in the
 -- order, to a name of the list, finds one more of them. Assumes nothing.
 use Prim.Native.Nat.{ℕ, suc, _+_, _≤_, _<_}
-use mathlib.Core.Path.{_≡_, refl, sym, ap, _∙_}
+use mathlib.Core.Path.{_≡_, sym, ap, _∙_}
 use mathlib.Core.List.{List, [], _∷_}
 use mathlib.Core.Bool.{true, false}
 use mathlib.Core.Logic.{_⊎_, inr, ⊎-elim}

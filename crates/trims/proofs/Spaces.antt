@@ -1,13 +1,13 @@
 -- A space in what a value says: byte 20 says it, and no other byte does. Assumes nothing.
-use Prim.Native.Nat.{ℕ, suc, _+_, _*_, _%_, _≤_, _<_}
+use Prim.Native.Nat.{ℕ, _+_, _*_, _%_, _≤_, _<_}
 use mathlib.Core.Path.{_≡_, refl, sym, ap, _∙_}
 use mathlib.Core.List.{List, _∷_}
 use mathlib.Core.Bool.{Bool, true, false, cond}
 use mathlib.Core.Logic.{_⊎_, inl, inr}
 use native.Mathlib.Omega.{arith}
 use lib.Dec.{leb, eqb, lit≤}
-use lib.ListN.{length, getD}
-use borrow.Author.Tests.{leb-true, leb-false, lt-leb, ne-eqb, eqb-true, eqb-false}
+use lib.ListN.{getD}
+use borrow.Author.Tests.{leb-true, leb-false, lt-leb, eqb-true, eqb-false}
 use Rattle.lists.proofs.Cases.{both-true}
 use Rattle.slices.specs.Bytes.{byte}
 use Rattle.characters.specs.Utf8.{seqLen, low, high, second, tail, control, nonchar, single, double, triple, fourfold, charAt}
