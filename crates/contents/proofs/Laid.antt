@@ -13,7 +13,8 @@ use Rattle.elements.specs.Names.{names, numberIn, elementNo}
 use Rattle.structure.specs.Rows.{parentOf, required, repeated}
 use Rattle.guideline.specs.Columns.{formOf, collapsed, roleOf}
 use Rattle.guideline.specs.Rows.{beschaffungsanforderung, kostenblatt, rowsOf}
-use Rattle.blindness.proofs.Tables.{allBelow, below, both-true, where-true}
+use Rattle.lists.proofs.Cases.{both-true}
+use Rattle.blindness.proofs.Tables.{allBelow, below, where-true}
 use Rattle.trees.specs.Trees.{wellMade}
 use Rattle.trees.proofs.Made.{one-well-made, two-well-made}
 

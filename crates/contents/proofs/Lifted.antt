@@ -1,11 +1,10 @@
 -- The order of tags does not look at what else they say: a content over what the tags say is a content over the items that say it. Assumes nothing.
-use Prim.Native.Nat.{ℕ, zero, suc, pred, _+_, _<_, _≤_}
-use mathlib.Core.Path.{_≡_, refl, sym, ap, subst, _∙_}
+use Prim.Native.Nat.{ℕ, zero, suc, pred}
+use mathlib.Core.Path.{_≡_, refl, sym, ap, _∙_}
 use mathlib.Core.List.{List, [], _∷_, _++_, map}
-use mathlib.Core.Bool.{Bool, true, false, cond}
+use mathlib.Core.Bool.{Bool, true, false}
 use mathlib.Core.Logic.{_⊎_, ⊎-elim}
-use native.Mathlib.Omega.{arith}
-use lib.ListN.{length, getD, drop}
+use lib.ListN.{getD, drop}
 use Rattle.lists.proofs.Cases.{zero-not-one}
 use Rattle.structure.specs.Rows.{nameOf, startOf, endOf}
 use Rattle.structure.specs.declared.Due.{Due}
@@ -14,7 +13,7 @@ use Rattle.guideline.specs.Rows.{rowsOf}
 use Rattle.items.specs.Item.{item, itemEnd}
 use Rattle.items.specs.declared.Item.{Item}
 use Rattle.items.specs.declared.Item.the-variants.{Start, Empty, End, Text, Comment, Refused}
-use Rattle.reader.specs.Items.{Placed, placed, itemsAfter, itemsFrom}
+use Rattle.reader.specs.Items.{Placed, itemsAfter, itemsFrom}
 use Rattle.trees.specs.Trees.{Sign, Opens, Closes, Trees, none, element, rowsTaken, spell, EachConforms, Conforms, wellMade}
 use Rattle.trees.specs.Cursor.{onRow, follows}
 use Rattle.trees.proofs.Made.{one-well-made, two-well-made}

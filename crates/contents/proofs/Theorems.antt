@@ -192,7 +192,7 @@ module _ (doc : List ℕ) (ns np na nb : ℕ) (wide : 16 ≤ nb) (small : length
       found = acceptedAt (length doc) (stateOf kind (rowAfter 0 kids) (openAfter true kids) (walked rows (saying kids) nothing));
       tables = filled kind rows kids nothing (blank ns np na);
     }
-    read-is = back doc room n (blank ns np na) kind kids small r
+    read-is = back doc room n (blank ns np na) small kind kids r
 
     outcome : readOf doc ns np na nb ≡ noted nb (record {
       found = acceptedAt (length doc) (stateOf kind (rowAfter 0 kids) (openAfter true kids) (walked rows (saying kids) nothing));

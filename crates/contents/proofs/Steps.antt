@@ -1,0 +1,575 @@
+-- One tag: the reading state that goes with a tally takes a start tag where the walk takes it and an end tag where the walk ends it, and goes on to the state
+-- of the tally after it.
+-- Assumes nothing.
+use Prim.Native.Nat.{ℕ, _+_, _-_, _<_}
+use mathlib.Core.Path.{_≡_, refl, sym, ap, _∙_}
+use mathlib.Core.List.{List}
+use mathlib.Core.Logic.{_⊎_, inl, inr, ⊎-elim}
+use mathlib.Core.Bool.{Bool, true, false, cond, _&&_}
+use native.Mathlib.Omega.{arith}
+use lib.ListN.{length, getD}
+use lib.Dec.{leb, ltb, eqb}
+use borrow.Author.Tests.{eq-eqb, ne-eqb, lt-ltb, le-ltb, lt-leb, leb-false, eqb-true}
+use Rattle.lists.proofs.Cases.{bool-cases, by-cond, eqb-cases, zero-not-one, both-true}
+use Rattle.attributes.specs.Attribute.{partOf}
+use Rattle.characters.specs.Says.{says}
+use Rattle.trims.specs.Trim.{dropped}
+use Rattle.forms.specs.Forms.{fixedVersion}
+use Rattle.numbers.specs.Number.{numberOf}
+use Rattle.numbers.specs.declared.Number.{Number}
+use Rattle.numbers.specs.declared.Number.the-variants.{Is, NotNumber}
+use Rattle.times.specs.Times.{interval}
+use Rattle.times.specs.declared.Interval.{Interval}
+use Rattle.times.specs.declared.Interval.the-variants.{Minutes, NotInterval}
+use Rattle.tags.specs.declared.Span.{Span}
+use Rattle.items.specs.declared.Tag.{Tag}
+use Rattle.guideline.specs.Columns.{formOf, collapsed, schemeOf, roleOf}
+use Rattle.guideline.specs.Kinds.{takesAnother}
+use Rattle.rules.specs.Rules.{refused, periodFits, judgePeriodBy, judgePeriod, positionFits, judgePositionBy, judgePosition, judge}
+use Rattle.rules.specs.declared.Held.{Held}
+use Rattle.rules.specs.declared.Judged.{Judged}
+use Rattle.states.specs.Attributes.{there, agree, asksV, asksScheme, noOthers, valueOf, schemeRefusal, least, alsoScheme, judgeTag}
+use Rattle.states.specs.Attributes.{attributesFit as tagFits}
+use Rattle.states.specs.Moves.{oneMore, heldOf, cutShort, tooMany, noRoom, halfOriginals, valuesJudged, judgedAt, startJudged, placed, oneSeries, oneInterval, oneOriginal, lastPos, covering, kept, entered, entryOf, closedAt, endRefusal}
+use Rattle.states.specs.declared.State.{State}
+use Rattle.states.specs.declared.Room.{Room}
+use Rattle.contents.specs.Said.{Absent, Given, Said, given, bytes}
+use Rattle.contents.specs.Spelled.{valueIn, saidBy}
+use Rattle.contents.specs.Legal.{periodBy, quartersOf, positionBy, positionOf, sayings, attributesFit, schemeFits, valueFits, elementFits}
+use Rattle.contents.proofs.Laid.{Layout}
+use Rattle.contents.proofs.Walk.{Tally, quartersIn, opened, Taken, Ended}
+use Rattle.contents.proofs.Fill.{stateOf}
+
+-- ---- tests
+
+both : (a b : Bool) → a && b ≡ true → (a ≡ true) × (b ≡ true)
+both true b h = (refl, h)
+both false b h = absurd (zero-not-one (cc))
+
+chained : (a b c d : Bool) → cond a (cond b (cond c d false) false) false ≡ (a && b && c && d)
+chained true true true d = refl
+chained true true false d = refl
+chained true false c d = refl
+chained false b c d = refl
+
+opposite : (t : Bool) → cond t false true ≡ false → t ≡ true
+opposite true e = refl
+opposite false e = absurd (zero-not-one (cc))
+
+-- ---- the attributes of a tag, by where they stand and by what they are
+
+given-there : (x : Span) (s : List ℕ) → given (valueIn x s) ≡ there x
+unfolding valueIn given
+given-there x s = by (there x)
+  where
+    by : (t : Bool) → given (cond t (Given (partOf s (x .start) (x .len))) Absent) ≡ t
+    by true = refl
+    by false = refl
+
+there-bytes : (x : Span) (s : List ℕ) → there x ≡ true → bytes (valueIn x s) ≡ partOf s (x .start) (x .len)
+unfolding valueIn bytes
+there-bytes x s e = rw e
+
+attributes-same : (w : ℕ) (t : Tag) (s : List ℕ) → tagFits w t ≡ attributesFit w (saidBy t s)
+unfolding tagFits attributesFit saidBy
+attributes-same w t s =
+    rw (given-there (t .v) s, given-there (t .coding) s, given-there (t .version) s)
+    (chained (agree (asksV w) (there (t .v))) (agree (asksScheme w) (there (t .coding))) (agree (eqb (roleOf w) 1) (there (t .version)))
+    (noOthers w (t .others) (t .passable)))
+
+-- what a row asks for is there
+asked-there : (a g : Bool) → agree a g ≡ true → a ≡ true → g ≡ true
+unfolding agree
+asked-there a g h e = rw e at h
+
+-- ---- what the reader judges of a tag's values, by what the tag says
+
+unfoldable judgedSaid : ℕ → Held → Said → Judged
+judgedSaid w h u =
+    cond (eqb (roleOf w) 1) (cond (fixedVersion (says (bytes (u .version)))) (refused 0) (refused 6))
+    (cond (eqb (formOf w) 0) (refused 0)
+    (alsoScheme (cond (schemeFits w u) 0 7) (judge (formOf w) h (sayings w u))))
+
+scheme-same : (w : ℕ) (t : Tag) (s : List ℕ) → agree (asksScheme w) (there (t .coding)) ≡ true
+    → schemeRefusal w (t .coding) s ≡ cond (schemeFits w (saidBy t s)) 0 7
+unfolding schemeRefusal schemeFits saidBy asksScheme
+scheme-same w t s h =
+    ⊎-elim
+    (λ y. rw (y .1))
+    (λ y. rw (y .1, there-bytes (t .coding) s (asked-there (asksScheme w) (there (t .coding)) h (rw (y .1)))))
+    (eqb-cases (schemeOf w) 0)
+
+value-same : (w : ℕ) (t : Tag) (s : List ℕ) → agree (asksV w) (there (t .v)) ≡ true → eqb (formOf w) 0 ≡ false
+    → says (valueOf w (t .v) s) ≡ sayings w (saidBy t s)
+unfolding valueOf sayings saidBy asksV
+value-same w t s h e = rw (there-bytes (t .v) s (asked-there (asksV w) (there (t .v)) h (rw e)))
+
+tag-judged : (w : ℕ) (t : Tag) (h : Held) (s : List ℕ) → tagFits w t ≡ true → judgeTag w t h s ≡ judgedSaid w h (saidBy t s)
+unfolding judgeTag judgedSaid tagFits saidBy
+tag-judged w t h s f =
+    let a = both-true (agree (asksV w) (there (t .v))) f in
+    let b = both-true (agree (asksScheme w) (there (t .coding))) (a .1) in
+    let c = both-true (agree (eqb (roleOf w) 1) (there (t .version))) (b .1) in
+    ⊎-elim
+    (λ y. rw (y .1, there-bytes (t .version) s (asked-there (eqb (roleOf w) 1) (there (t .version)) (c .0) (y .1))))
+    (λ y.
+    rw (y .1)
+    (⊎-elim
+    (λ z. rw (z .1))
+    (λ z. rw (z .1, scheme-same w t s (b .0), value-same w t s (a .0) (z .1)))
+    (eqb-cases (formOf w) 0)))
+    (eqb-cases (roleOf w) 1)
+
+least-none : (n : ℕ) → least n 0 ≡ n
+unfolding least
+least-none n = ⊎-elim (λ y. rw (y .1) (sym (y .0))) (λ y. rw (y .1)) (eqb-cases n 0)
+
+least-some : (n : ℕ) → eqb (least n 7) 0 ≡ false
+unfolding least
+least-some n =
+    ⊎-elim
+    (λ y. rw (y .1))
+    (λ y. rw (y .1) (by-cond (λ (m : ℕ). eqb m 0 ≡ false) (leb n 7) (y .1) refl))
+    (eqb-cases n 0)
+
+-- the values fit, v telling it of the value `v`
+abbrev valuesFit : ℕ → Said → Bool → Bool
+valuesFit w u v = cond (eqb (roleOf w) 1) (fixedVersion (says (bytes (u .version)))) (cond (eqb (formOf w) 0) true (schemeFits w u && v))
+
+judged-values : (w : ℕ) (h : Held) (u : Said)
+    → eqb (judgedSaid w h u .number) 0 ≡ valuesFit w u (eqb (judge (formOf w) h (sayings w u) .number) 0)
+unfolding judgedSaid alsoScheme
+judged-values w h u =
+    by (eqb (roleOf w) 1) (fixedVersion (says (bytes (u .version)))) (eqb (formOf w) 0) (schemeFits w u) (judge (formOf w) h (sayings w u))
+  where
+    by : (r v f c : Bool) (j : Judged)
+        → eqb (cond r (cond v (refused 0) (refused 6)) (cond f (refused 0) (alsoScheme (cond c 0 7) j)) .number) 0 ≡ cond r v (cond f true (c && eqb (j .number) 0))
+    by true true f c j = refl
+    by true false f c j = refl
+    by false v true c j = refl
+    by false v false true j = rw (least-none (j .number))
+    by false v false false j = least-some (j .number)
+
+-- ---- Pos, and what is no Pos
+
+no-position : (kind quarters last : ℕ) → positionFits kind quarters last 0 ≡ false
+unfolding positionFits
+no-position kind quarters last =
+    let never : (n : ℕ) → eqb 0 (n + 1) ≡ false = λ n. ne-eqb 0 (n + 1) (λ e. omega (arith, e)) in
+    by-cond (λ (t : Bool). t ≡ false) (ltb quarters 0) refl
+    (by-cond (λ (t : Bool). t ≡ false) (eqb kind 1) (never last) (by-cond (λ (t : Bool). t ≡ false) (eqb last 0) refl (le-ltb last 0 (omega arith))))
+
+position-judged : (kind quarters last : ℕ) (n : Number) → eqb (judgePositionBy kind quarters last n .number) 0 ≡ positionFits kind quarters last (positionBy n)
+unfolding judgePositionBy positionBy
+position-judged kind quarters last (Is p) =
+    ⊎-elim (λ y. rw y) (λ y. rw y) (bool-cases (positionFits kind quarters last p))
+position-judged kind quarters last NotNumber = sym (no-position kind quarters last)
+
+position-first : (kind quarters last : ℕ) (n : Number) → positionFits kind quarters last (positionBy n) ≡ true
+    → judgePositionBy kind quarters last n .first ≡ positionBy n
+unfolding judgePositionBy positionBy
+position-first kind quarters last (Is p) e = rw e
+position-first kind quarters last NotNumber e = refl
+
+period-kept : (kind : ℕ) (i : Interval) → judgePeriodBy kind i .number ≡ 0
+    → (judgePeriodBy kind i .first ≡ periodBy i .start) × (judgePeriodBy kind i .second ≡ periodBy i .end)
+unfolding judgePeriodBy periodBy
+period-kept kind (Minutes from to) e =
+    ⊎-elim
+    (λ y. (rw y, rw y))
+    (λ y. let z : _≡_ {A = ℕ} 8 0 = rw y at e in absurd (omega (arith, z)))
+    (bool-cases (periodFits kind from to))
+period-kept kind NotInterval e = absurd (omega (arith, e))
+
+-- only a Pos is held against the one before it
+judge-last : (form : ℕ) (h : Held) (l : ℕ) (cs : List ℕ) → (form ≡ 9 → ⊥)
+    → judge form h cs ≡ judge form (record { kind = h .kind; from = h .from; to = h .to; quarters = h .quarters; last = l }) cs
+unfolding judge
+judge-last form h l cs e = rw (ne-eqb form 9 e)
+
+-- ---- the tests before the values
+
+taken-many : (x : State) (role kind : ℕ) → tooMany x role kind ≡ false → role ≡ 4 → takesAnother kind (x .intervals - x .first) ≡ true
+unfolding tooMany
+taken-many x role kind h e = opposite (takesAnother kind (x .intervals - x .first)) (rw e at h)
+
+not-many : (x : State) (role kind : ℕ) → (role ≡ 4 → takesAnother kind (x .intervals - x .first) ≡ true) → tooMany x role kind ≡ false
+unfolding tooMany
+not-many x role kind f = ⊎-elim (λ y. rw (y .1, f (y .0))) (λ y. rw (y .1)) (eqb-cases role 4)
+
+series-room : (x : State) (role : ℕ) (room : Room) → noRoom x role room ≡ false → role ≡ 2 → x .series < room .series
+unfolding noRoom
+series-room x role room h e = leb-false (room .series) (x .series) (rw e at h)
+
+interval-room : (x : State) (role : ℕ) (room : Room) → noRoom x role room ≡ false → role ≡ 4 → x .intervals < room .intervals
+unfolding noRoom
+interval-room x role room h e = leb-false (room .intervals) (x .intervals) (rw e at h)
+
+has-room : (x : State) (role : ℕ) (room : Room) → (role ≡ 2 → x .series < room .series) → (role ≡ 4 → x .intervals < room .intervals)
+    → noRoom x role room ≡ false
+unfolding noRoom
+has-room x role room f g =
+    ⊎-elim
+    (λ y. rw (y .1) (lt-leb (room .series) (x .series) (f (y .0))))
+    (λ y.
+    rw (y .1)
+    (⊎-elim
+    (λ z. rw (z .1) (lt-leb (room .intervals) (x .intervals) (g (z .0))))
+    (λ z. rw (z .1))
+    (eqb-cases role 4)))
+    (eqb-cases role 2)
+
+none-or-five : (x : State) (role : ℕ) → halfOriginals x role ≡ false → role ≡ 3 → (x .originals ≡ 0) ⊎ (x .originals ≡ 5)
+unfolding halfOriginals
+none-or-five x role h e =
+    ⊎-elim
+    (λ y. inl (y .0))
+    (λ y.
+    ⊎-elim
+    (λ z. inr (z .0))
+    (λ z. let v : _≡_ {A = Bool} true false = rw (e, y .1, z .1) at h in absurd (zero-not-one (cc)))
+    (eqb-cases (x .originals) 5))
+    (eqb-cases (x .originals) 0)
+
+whole-originals : (x : State) (role : ℕ) → (role ≡ 3 → (x .originals ≡ 0) ⊎ (x .originals ≡ 5)) → halfOriginals x role ≡ false
+unfolding halfOriginals
+whole-originals x role f =
+    ⊎-elim
+    (λ y. rw (y .1) (⊎-elim (λ z. rw z) (λ z. rw z) (f (y .0))))
+    (λ y. rw (y .1))
+    (eqb-cases role 3)
+
+past : (t : Bool) (n : ℕ) (b : Judged) → (n ≡ 0 → ⊥) → cond t (refused n) b .number ≡ 0 → (t ≡ false) × (b .number ≡ 0)
+past true n b h e = absurd (h e)
+past false n b h e = (refl, e)
+
+-- every test that comes before the values
+record Clear (x : State) (kind : ℕ) (rows : List ℕ) (q : ℕ) (t : Tag) (empty : Bool) (room : Room) : Type 0 where
+  whole : cutShort empty rows q ≡ false
+  few : tooMany x (roleOf (getD rows q 0)) kind ≡ false
+  free : noRoom x (roleOf (getD rows q 0)) room ≡ false
+  attributes : tagFits (getD rows q 0) t ≡ true
+  originals : halfOriginals x (roleOf (getD rows q 0)) ≡ false
+
+module _ (x : State) (kind : ℕ) (rows : List ℕ) (q : ℕ) (t : Tag) (s : List ℕ) (empty : Bool) (room : Room) where
+  clear-judged : Clear x kind rows q t empty room → startJudged x kind rows q t s empty room ≡ judgeTag (getD rows q 0) t (heldOf x kind) s
+  unfolding startJudged judgedAt valuesJudged
+  clear-judged c = rw (c .whole, c .few, c .free, c .attributes, c .originals)
+
+  judged-clear : startJudged x kind rows q t s empty room .number ≡ 0 → Clear x kind rows q t empty room
+  unfolding startJudged judgedAt valuesJudged
+  judged-clear h =
+      let w = getD rows q 0 in
+      let values = valuesJudged x kind w t s in
+      let last = cond (tagFits w t) values (refused 5) in
+      let roomy = cond (noRoom x (roleOf w) room) (refused 4) last in
+      let a = past (cutShort empty rows q) 3 (cond (tooMany x (roleOf w) kind) (refused 3) roomy) (λ z. omega (arith, z)) h in
+      let b = past (tooMany x (roleOf w) kind) 3 roomy (λ z. omega (arith, z)) (a .1) in
+      let c = past (noRoom x (roleOf w) room) 4 last (λ z. omega (arith, z)) (b .1) in
+      let d : (tagFits w t ≡ true) × (values .number ≡ 0) = fitting (tagFits w t) values (c .1) in
+      let e = past (halfOriginals x (roleOf w)) 8 (judgeTag w t (heldOf x kind) s) (λ z. omega (arith, z)) (d .1) in
+      record { whole = a .0; few = b .0; free = c .0; attributes = d .0; originals = e .0 }
+    where
+      fitting : (f : Bool) (j : Judged) → cond f j (refused 5) .number ≡ 0 → (f ≡ true) × (j .number ≡ 0)
+      fitting true j e = (refl, e)
+      fitting false j e = absurd (omega (arith, e))
+
+-- ---- the values beside a tally
+
+module _ (kind k₀ r : ℕ) (o : Bool) (y : Tally) (w : ℕ) (u : Said) where
+  -- what the value `v` is held against
+  abbrev held : Held
+  held = heldOf (stateOf k₀ r o y) kind
+
+  abbrev valueJudged : Judged
+  valueJudged = judge (formOf w) held (sayings w u)
+
+  other-fits : (formOf w ≡ 9 → ⊥) → valueFits kind (y .period) w u ≡ eqb (valueJudged .number) 0
+  unfolding valueFits heldOf stateOf quartersOf
+  other-fits e = rw (ne-eqb (formOf w) 9 e) (ap (λ (j : Judged). eqb (j .number) 0) (sym (judge-last (formOf w) held 0 (sayings w u) e)))
+
+  pos-fits : formOf w ≡ 9 → valueFits kind (y .period) w u ≡ true
+  unfolding valueFits
+  pos-fits e = rw (eq-eqb (formOf w) 9 e)
+
+  pos-judged : formOf w ≡ 9 → collapsed w ≡ true
+      → valueJudged ≡ judgePositionBy kind (quartersIn y) (y .last) (numberOf (says (dropped (bytes (u .v)))) 5)
+  unfolding judge judgePosition heldOf stateOf sayings
+  pos-judged e c = rw (e, c)
+
+  period-judged : formOf w ≡ 6 → collapsed w ≡ false → valueJudged ≡ judgePeriodBy kind (interval (says (bytes (u .v))))
+  unfolding judge judgePeriod heldOf stateOf sayings
+  period-judged e c = rw (e, c)
+
+  pos-turn : formOf w ≡ 9 → collapsed w ≡ true → eqb (valueJudged .number) 0 ≡ positionFits kind (quartersIn y) (y .last) (positionOf u)
+  unfolding positionOf
+  pos-turn e c =
+      rw (pos-judged e c) (position-judged kind (quartersIn y) (y .last) (numberOf (says (dropped (bytes (u .v)))) 5))
+
+  -- a row with a `v` that is no root's
+  value-alone : (v : Bool) → (roleOf w ≡ 1 → ⊥) → (formOf w ≡ 0 → ⊥) → valuesFit w u v ≡ (schemeFits w u && v)
+  value-alone v a b = rw (ne-eqb (roleOf w) 1 a, ne-eqb (formOf w) 0 b)
+
+  value-kept : (roleOf w ≡ 1 → ⊥) → (formOf w ≡ 0 → ⊥)
+      → (judgedSaid w held u .first ≡ valueJudged .first) × (judgedSaid w held u .second ≡ valueJudged .second)
+  unfolding judgedSaid alsoScheme
+  value-kept a b = rw (ne-eqb (roleOf w) 1 a, ne-eqb (formOf w) 0 b) (refl, refl)
+
+  module _ (pos-row : formOf w ≡ 9 → (collapsed w ≡ true) × (roleOf w ≡ 1 → ⊥)) where
+    values-fit : valuesFit w u (eqb (valueJudged .number) 0) ≡ true
+        → (valuesFit w u (valueFits kind (y .period) w u) ≡ true)
+        × (formOf w ≡ 9 → positionFits kind (quartersIn y) (y .last) (positionOf u) ≡ true)
+    values-fit h =
+        ⊎-elim
+        (λ (e : (formOf w ≡ 9) × (eqb (formOf w) 9 ≡ true)).
+        let g = pos-row (e .0) in
+        let f : formOf w ≡ 0 → ⊥ = λ z. omega (arith, z, e .0) in
+        let a = both (schemeFits w u) (eqb (valueJudged .number) 0) (sym (value-alone (eqb (valueJudged .number) 0) (g .1) f) ∙ h) in
+        (value-alone (valueFits kind (y .period) w u) (g .1) f ∙ rw (a .0, pos-fits (e .0)), λ z. sym (pos-turn (e .0) (g .0)) ∙ a .1))
+        (λ (e : (formOf w ≡ 9 → ⊥) × (eqb (formOf w) 9 ≡ false)). (rw (other-fits (e .0)) h, λ z. absurd (e .0 z)))
+        (eqb-cases (formOf w) 9)
+
+    fit-values : valuesFit w u (valueFits kind (y .period) w u) ≡ true
+        → (formOf w ≡ 9 → positionFits kind (quartersIn y) (y .last) (positionOf u) ≡ true)
+        → valuesFit w u (eqb (valueJudged .number) 0) ≡ true
+    fit-values h turn =
+        ⊎-elim
+        (λ (e : (formOf w ≡ 9) × (eqb (formOf w) 9 ≡ true)).
+        let g = pos-row (e .0) in
+        let f : formOf w ≡ 0 → ⊥ = λ z. omega (arith, z, e .0) in
+        let a = both (schemeFits w u) (valueFits kind (y .period) w u) (sym (value-alone (valueFits kind (y .period) w u) (g .1) f) ∙ h) in
+        value-alone (eqb (valueJudged .number) 0) (g .1) f ∙ rw (a .0, pos-turn (e .0) (g .0)) (turn (e .0)))
+        (λ (e : (formOf w ≡ 9 → ⊥) × (eqb (formOf w) 9 ≡ false)). rw (← other-fits (e .0)) h)
+        (eqb-cases (formOf w) 9)
+
+-- ---- the state after a start tag
+
+one-more : (n : ℕ) → n < 4294967295 → oneMore n ≡ n + 1
+unfolding oneMore
+one-more n h = rw (lt-ltb n 4294967295 h)
+
+-- TimePeriodCovered is nothing else to the reader
+record Alone (role : ℕ) : Type 0 where
+  root : role ≡ 1 → ⊥
+  series : role ≡ 2 → ⊥
+  period : role ≡ 3 → ⊥
+  interval : role ≡ 4 → ⊥
+  original : role ≡ 5 → ⊥
+  pos : role ≡ 9 → ⊥
+
+module _ (kind k₀ r : ℕ) (o : Bool) (y : Tally) (q w : ℕ) (u : Said) (j : Judged) (within : Bool) where
+  abbrev after : State
+  after = entered (stateOf k₀ r o y) kind q w j within
+
+  after-series : roleOf w ≡ 2 → (formOf w ≡ 6 → ⊥) → y .series < 4294967295 → after ≡ stateOf kind q within (opened w u y)
+  unfolding entered placed kept oneSeries stateOf
+  after-series e f l = rw (e, ne-eqb (formOf w) 6 f, one-more (y .series) l)
+
+  after-period : roleOf w ≡ 3 → (formOf w ≡ 6 → ⊥) → after ≡ stateOf kind q within (opened w u y)
+  unfolding entered placed kept lastPos stateOf
+  after-period e f = rw (e, ne-eqb (formOf w) 6 f)
+
+  after-interval : roleOf w ≡ 4 → (formOf w ≡ 6 → ⊥) → y .intervals < 4294967295 → after ≡ stateOf kind q within (opened w u y)
+  unfolding entered placed kept oneInterval stateOf
+  after-interval e f l = rw (e, ne-eqb (formOf w) 6 f, one-more (y .intervals) l)
+
+  after-original : roleOf w ≡ 5 → (formOf w ≡ 6 → ⊥) → y .originals < 4294967295 → after ≡ stateOf kind q within (opened w u y)
+  unfolding entered placed kept oneOriginal stateOf
+  after-original e f l = rw (e, ne-eqb (formOf w) 6 f, one-more (y .originals) l)
+
+  after-pos : roleOf w ≡ 9 → (formOf w ≡ 6 → ⊥) → j .first ≡ positionOf u → after ≡ stateOf kind q within (opened w u y)
+  unfolding entered placed kept lastPos stateOf
+  after-pos e f l = rw (e, ne-eqb (formOf w) 6 f, l)
+
+  after-covered : formOf w ≡ 6 → Alone (roleOf w)
+      → (j .first ≡ periodBy (interval (says (bytes (u .v)))) .start) × (j .second ≡ periodBy (interval (says (bytes (u .v)))) .end)
+      → after ≡ stateOf kind q within (opened w u y)
+  unfolding entered placed kept covering stateOf
+  after-covered e a l =
+      rw (
+        ne-eqb (roleOf w) 2 (a .series),
+        ne-eqb (roleOf w) 3 (a .period),
+        ne-eqb (roleOf w) 4 (a .interval),
+        ne-eqb (roleOf w) 5 (a .original),
+        ne-eqb (roleOf w) 9 (a .pos),
+        eq-eqb (formOf w) 6 e,
+        l .0,
+        l .1,
+      )
+
+  after-other : eqb (roleOf w) 2 ≡ false → eqb (roleOf w) 3 ≡ false → eqb (roleOf w) 4 ≡ false → eqb (roleOf w) 5 ≡ false → eqb (roleOf w) 9 ≡ false
+      → eqb (formOf w) 6 ≡ false → after ≡ stateOf kind q within (opened w u y)
+  unfolding entered placed kept stateOf
+  after-other a b c d e f = rw (a, b, c, d, e, f)
+
+  after-opened : (formOf w ≡ 6 → Alone (roleOf w)) → (roleOf w ≡ 9 → j .first ≡ positionOf u)
+      → (formOf w ≡ 6 → (j .first ≡ periodBy (interval (says (bytes (u .v)))) .start) × (j .second ≡ periodBy (interval (says (bytes (u .v)))) .end))
+      → y .series < 4294967295 → y .intervals < 4294967295 → y .originals < 4294967295
+      → after ≡ stateOf kind q within (opened w u y)
+  after-opened alone first covered ls li lo =
+      ⊎-elim
+      (λ (e : (formOf w ≡ 6) × (eqb (formOf w) 6 ≡ true)). after-covered (e .0) (alone (e .0)) (covered (e .0)))
+      (λ (f : (formOf w ≡ 6 → ⊥) × (eqb (formOf w) 6 ≡ false)).
+      ⊎-elim
+      (λ a. after-series (a .0) (f .0) ls)
+      (λ (a : (roleOf w ≡ 2 → ⊥) × (eqb (roleOf w) 2 ≡ false)).
+      ⊎-elim
+      (λ b. after-period (b .0) (f .0))
+      (λ (b : (roleOf w ≡ 3 → ⊥) × (eqb (roleOf w) 3 ≡ false)).
+      ⊎-elim
+      (λ c. after-interval (c .0) (f .0) li)
+      (λ (c : (roleOf w ≡ 4 → ⊥) × (eqb (roleOf w) 4 ≡ false)).
+      ⊎-elim
+      (λ d. after-original (d .0) (f .0) lo)
+      (λ (d : (roleOf w ≡ 5 → ⊥) × (eqb (roleOf w) 5 ≡ false)).
+      ⊎-elim
+      (λ e. after-pos (e .0) (f .0) (first (e .0)))
+      (λ (e : (roleOf w ≡ 9 → ⊥) × (eqb (roleOf w) 9 ≡ false)). after-other (a .1) (b .1) (c .1) (d .1) (e .1) (f .1))
+      (eqb-cases (roleOf w) 9))
+      (eqb-cases (roleOf w) 5))
+      (eqb-cases (roleOf w) 4))
+      (eqb-cases (roleOf w) 3))
+      (eqb-cases (roleOf w) 2))
+      (eqb-cases (formOf w) 6)
+
+-- ---- a start tag
+
+module _ (kind : ℕ) (rows : List ℕ) (p : ℕ) (L : Layout rows p) (room : Room) where
+  pos-row : (q : ℕ) → q < length rows → formOf (getD rows q 0) ≡ 9 → (collapsed (getD rows q 0) ≡ true) × (roleOf (getD rows q 0) ≡ 1 → ⊥)
+  pos-row q inside e =
+      let a = L .only-pos-form q inside e in
+      (rw a (L .pos-collapsed), λ z. let b = L .only-root q inside z in let c = L .wide in omega (arith, a, b, c))
+
+  pos-role-form : (q : ℕ) → q < length rows → roleOf (getD rows q 0) ≡ 9 → formOf (getD rows q 0) ≡ 9
+  pos-role-form q inside e = let a = L .only-pos q inside e in rw a (L .pos-form)
+
+  covered-row : (q : ℕ) → q < length rows → formOf (getD rows q 0) ≡ 6 → (collapsed (getD rows q 0) ≡ false) × Alone (roleOf (getD rows q 0))
+  covered-row q inside e =
+      let a = L .covered-form q inside e in
+      let wide = L .wide in (
+        rw a (L .covered-kept),
+        record {
+          root = λ z. let b = L .only-root q inside z in omega (arith, a, b);
+          series = λ z. let b = L .only-series q inside z in omega (arith, a, b);
+          period = λ z. let b = L .only-period q inside z in omega (arith, a, b, wide);
+          interval = λ z. let b = L .only-interval q inside z in omega (arith, a, b, wide);
+          original = λ z. let b = L .only-originals q inside z .0 in omega (arith, a, b);
+          pos = λ z. let b = L .only-pos q inside z in omega (arith, a, b, wide);
+        },
+      )
+
+  module _ (k₀ r : ℕ) (o : Bool) (y : Tally) (q : ℕ) (inside : q < length rows) (tag : Tag) (s : List ℕ) (empty : Bool) where
+    abbrev row : ℕ
+    row = getD rows q 0
+
+    abbrev said : Said
+    said = saidBy tag s
+
+    abbrev verdict : Judged
+    verdict = startJudged (stateOf k₀ r o y) kind rows q tag s empty room
+
+    abbrev values : Judged
+    values = judgedSaid row (heldOf (stateOf k₀ r o y) kind) said
+
+    clear-values : Clear (stateOf k₀ r o y) kind rows q tag empty room → verdict ≡ values
+    clear-values c =
+        clear-judged (stateOf k₀ r o y) kind rows q tag s empty room c ∙
+        tag-judged row tag (heldOf (stateOf k₀ r o y) kind) s (c .attributes)
+
+    pub judged-taken : verdict .number ≡ 0 → Taken kind room row said y × (cutShort empty rows q ≡ false)
+    unfolding elementFits stateOf
+    judged-taken h =
+        let x = stateOf k₀ r o y in
+        let c = judged-clear x kind rows q tag s empty room h in
+        let n : values .number ≡ 0 = ap (λ (j : Judged). j .number) (sym (clear-values c)) ∙ h in
+        let v = values-fit kind k₀ r o y row said (pos-row q inside) (sym (judged-values row (heldOf x kind) said) ∙ eq-eqb (values .number) 0 n) in
+        let a : attributesFit row said ≡ true = sym (attributes-same row tag s) ∙ c .attributes in (
+          record {
+            fits = rw (a, v .0);
+            turn = v .1;
+            series = series-room x (roleOf row) room (c .free);
+            another = λ e. (taken-many x (roleOf row) kind (c .few) e, interval-room x (roleOf row) room (c .free) e);
+            originals = none-or-five x (roleOf row) (c .originals);
+          },
+          c .whole,
+        )
+
+    module _ (t : Taken kind room row said y) (whole : cutShort empty rows q ≡ false) where
+      taken-fits : (attributesFit row said ≡ true) × (valuesFit row said (valueFits kind (y .period) row said) ≡ true)
+      unfolding elementFits
+      taken-fits = both (attributesFit row said) (valuesFit row said (valueFits kind (y .period) row said)) (t .fits)
+
+      taken-values : verdict ≡ values
+      unfolding stateOf
+      taken-values =
+          let x = stateOf k₀ r o y in
+          clear-values
+          (record {
+            whole = whole;
+            few = not-many x (roleOf row) kind (λ e. t .another e .0);
+            free = has-room x (roleOf row) room (t .series) (λ e. t .another e .1);
+            attributes = attributes-same row tag s ∙ taken-fits .0;
+            originals = whole-originals x (roleOf row) (t .originals);
+          })
+
+      taken-value : valuesFit row said (eqb (valueJudged kind k₀ r o y row said .number) 0) ≡ true
+      taken-value = fit-values kind k₀ r o y row said (pos-row q inside) (taken-fits .1) (t .turn)
+
+      taken-first : formOf row ≡ 9 → verdict .first ≡ positionOf said
+      unfolding positionOf
+      taken-first e =
+          let g = pos-row q inside e in
+          ap (λ (j : Judged). j .first) taken-values ∙ value-kept kind k₀ r o y row said (g .1) (λ z. omega (arith, z, e)) .0 ∙
+          ap (λ (j : Judged). j .first) (pos-judged kind k₀ r o y row said e (g .0)) ∙
+          position-first kind (quartersIn y) (y .last) (numberOf (says (dropped (bytes (said .v)))) 5) (t .turn e)
+
+      taken-period : formOf row ≡ 6
+          → (verdict .first ≡ periodBy (interval (says (bytes (said .v)))) .start) × (verdict .second ≡ periodBy (interval (says (bytes (said .v)))) .end)
+      taken-period e =
+          let g = covered-row q inside e in
+          let f : formOf row ≡ 0 → ⊥ = λ z. omega (arith, z, e) in
+          let v = valueJudged kind k₀ r o y row said in
+          let d = period-judged kind k₀ r o y row said e (g .0) in
+          let a = both (schemeFits row said) (eqb (v .number) 0) (sym (value-alone kind k₀ r o y row said (eqb (v .number) 0) (g .1 .root) f) ∙ taken-value) in
+          let k = value-kept kind k₀ r o y row said (g .1 .root) f in
+          let l = period-kept kind (interval (says (bytes (said .v)))) (ap (λ (j : Judged). j .number) (sym d) ∙ eqb-true (v .number) 0 (a .1)) in (
+            ap (λ (j : Judged). j .first) taken-values ∙ k .0 ∙ ap (λ (j : Judged). j .first) d ∙ l .0,
+            ap (λ (j : Judged). j .second) taken-values ∙ k .1 ∙ ap (λ (j : Judged). j .second) d ∙ l .1,
+          )
+
+      pub taken-judged : (verdict .number ≡ 0)
+          × (formOf row ≡ 9 → verdict .first ≡ positionOf said)
+          × (formOf row ≡ 6 → (verdict .first ≡ periodBy (interval (says (bytes (said .v)))) .start)
+          × (verdict .second ≡ periodBy (interval (says (bytes (said .v)))) .end))
+      taken-judged =
+          let n : values .number ≡ 0 = eqb-true (values .number) 0 (judged-values row (heldOf (stateOf k₀ r o y) kind) said ∙ taken-value) in
+          (ap (λ (j : Judged). j .number) taken-values ∙ n, taken-first, taken-period)
+
+      pub entered-opened : y .series < 4294967295 → y .intervals < 4294967295 → y .originals < 4294967295 → (within : Bool)
+          → entered (stateOf k₀ r o y) kind q row verdict within ≡ stateOf kind q within (opened row said y)
+      entered-opened ls li lo within =
+          after-opened kind k₀ r o y q row said verdict within (λ e. covered-row q inside e .1) (λ e. taken-first (pos-role-form q inside e)) taken-period
+          ls li lo
+
+      pub entry-same : entryOf (roleOf row) (verdict .first) ≡ entryOf (roleOf row) (positionOf said)
+      unfolding entryOf
+      entry-same =
+          ⊎-elim
+          (λ (e : (roleOf row ≡ 9) × (eqb (roleOf row) 9 ≡ true)). rw (taken-first (pos-role-form q inside (e .0))))
+          (λ (e : (roleOf row ≡ 9 → ⊥) × (eqb (roleOf row) 9 ≡ false)). rw (e .1))
+          (eqb-cases (roleOf row) 9)
+
+-- ---- an end tag
+
+module _ (kind : ℕ) (rows : List ℕ) (r : ℕ) (o : Bool) (y : Tally) (q : ℕ) where
+  pub ended-taken : endRefusal (stateOf kind r o y) rows q ≡ 0 → Ended kind (getD rows q 0) y
+  unfolding endRefusal stateOf
+  ended-taken h e = rw e at h
+
+  pub taken-ended : Ended kind (getD rows q 0) y → endRefusal (stateOf kind r o y) rows q ≡ 0
+  unfolding endRefusal stateOf
+  taken-ended f = ⊎-elim (λ e. rw (e .1) (f (e .0))) (λ e. rw (e .1)) (eqb-cases (roleOf (getD rows q 0)) 3)
+
+  pub closed-same : closedAt (stateOf kind r o y) q ≡ stateOf kind q false y
+  unfolding closedAt stateOf
+  closed-same = refl
