@@ -13,6 +13,13 @@ pub mod Segments
 pub mod Splits
 pub mod Levels
 pub mod Rules
-pub mod Tables
+pub mod Shapes
+pub mod Views
+pub mod Roles
+pub mod Intervals
+pub mod Series
+pub mod Rows
+pub mod Shown
+pub mod Unused
 pub mod Theorems
 pub mod Examples

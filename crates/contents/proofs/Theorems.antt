@@ -48,13 +48,15 @@ use Rattle.contents.proofs.Splits.{document-shape}
 use Rattle.contents.proofs.Rules.{Rules, passes-rules, rules-passes}
 use Rattle.contents.proofs.Lifted.{Known, known-made, relabelled, signs-said, spell-said, conforms-said, lift}
 use Rattle.contents.proofs.Bridge.{Read, forth, back}
-use Rattle.contents.proofs.Tables.{Given, unused-apart, apart-unused, shows}
+use Rattle.contents.proofs.Roles.{Given, Valued, valued-one, valued-two}
+use Rattle.contents.proofs.Shown.{shows}
+use Rattle.contents.proofs.Unused.{unused-apart, apart-unused}
 
 -- ---- the kinds
 
-laid : (kind : ℕ) → Known kind → (p : ℕ) × Layout (rowsOf kind) p
-laid kind (inl e) = (26, subst (λ (k : ℕ). Layout (rowsOf k) 26) (sym e) layout-one)
-laid kind (inr e) = (28, subst (λ (k : ℕ). Layout (rowsOf k) 28) (sym e) layout-two)
+laid : (kind : ℕ) → Known kind → (p : ℕ) × Layout (rowsOf kind) p × Valued (rowsOf kind)
+laid kind (inl e) = (26, subst (λ (k : ℕ). Layout (rowsOf k) 26) (sym e) layout-one, subst (λ (k : ℕ). Valued (rowsOf k)) (sym e) valued-one)
+laid kind (inr e) = (28, subst (λ (k : ℕ). Layout (rowsOf k) 28) (sym e) layout-two, subst (λ (k : ℕ). Valued (rowsOf k)) (sym e) valued-two)
 
 -- ---- where a value is asked for, it is there
 
@@ -175,7 +177,7 @@ module _ (doc : List ℕ) (ns np na nb : ℕ) (wide : 16 ≤ nb) (small : length
           elements = k .elements;
           series = k .series;
           apart =
-              unused-apart kind rows (l .0) (l .1) doc ns np na kids (r .conforms) (r .stands) (each-given kind _ rows kids (k .elements)) (m .0) (m .1) (m .2)
+              unused-apart kind rows (l .0) (l .1) (l .2) doc ns np na kids (r .conforms) (r .stands) (each-given kind _ rows kids (k .elements)) (m .0)
               (r .unused);
         },
         record { series = k .series-room; intervals = k .intervals-room },
@@ -215,7 +217,7 @@ module _ (doc : List ℕ) (ns np na nb : ℕ) (wide : 16 ≤ nb) (small : length
           quarters = ap (λ (o : Outcome). o .answer .quarters) e ∙ ap quartersOf (period-walked rows (saying kids) nothing);
           tables =
               subst (λ (t : Tables). Shows doc t rows (saying kids)) (sym (ap (λ (o : Outcome). o .tables) e))
-              (shows kind rows (l .0) (l .1) doc ns np na kids (r .conforms) (r .stands) (each-given kind _ rows kids (rules .elements)) (m .0) (m .1) (m .2));
+              (shows kind rows (l .0) (l .1) (l .2) doc ns np na kids (r .conforms) (r .stands) (each-given kind _ rows kids (rules .elements)) (m .0) (m .1) (m .2));
         }
 
   pub legal-accepted : (kind : ℕ) (c : Trees Said) → Spells doc kind c → Legal kind c → HasRoom room kind c → Tells doc (readOf doc ns np na nb) kind c
@@ -240,7 +242,7 @@ module _ (doc : List ℕ) (ns np na nb : ℕ) (wide : 16 ≤ nb) (small : length
         stands = k .4;
         passes = rules-passes kind room rows (l .0) (l .1) (saying kids) conforms own;
         unused =
-            apart-unused kind rows (l .0) (l .1) doc ns np na kids (k .3) (k .4) (each-given kind _ rows kids (own .elements)) (m .0) (m .1) (m .2)
+            apart-unused kind rows (l .0) (l .1) (l .2) doc ns np na kids (k .3) (k .4) (each-given kind _ rows kids (own .elements)) (m .0)
             (subst (λ d. Legal kind d) (sym e) g .apart);
       } in
       subst (Tells doc (readOf doc ns np na nb) kind) e (tells kind kids n (s .begins) r own)

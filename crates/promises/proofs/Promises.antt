@@ -12,13 +12,19 @@ use Rattle.lists.specs.Zeros.{zeros, padded}
 use Rattle.notes.specs.Note.{noteOf}
 use Rattle.notes.specs.Reader.{noteIn}
 use Rattle.notes.specs.declared.NoteRead.the-variants.{Taken}
-use Rattle.reader.specs.Reading.{blank}
+use Rattle.reader.specs.Reading.{blank, roomOf}
 use Rattle.reader.specs.Answer.{Outcome, readOf}
 use Rattle.reader.specs.declared.Answer.{Answer}
 use Rattle.reader.proofs.Unique.{Permitted, read-one}
 use Rattle.blindness.specs.Readable.{DifferInQty}
 use Rattle.blindness.specs.Blind.{OwnDigitsDiffer}
 use Rattle.blindness.proofs.Outcomes.{two-runs}
+use Rattle.trees.specs.Trees.{Trees}
+use Rattle.contents.specs.Said.{Said}
+use Rattle.contents.specs.Spelled.{Spells, Alike}
+use Rattle.contents.specs.Legal.{Legal, HasRoom}
+use Rattle.contents.specs.Shown.{Tells, SameButPlaces}
+use Rattle.contents.proofs.Theorems.{accepted-legal, legal-accepted, one-content, nothing-but-places}
 use Rattle.promises.specs.Answers.{fiveOf, atOnce}
 use Rattle.promises.specs.Rows.{ZeroPast, InRoom, Sized}
 use Rattle.promises.specs.Items.{before, starts, kindIn, seriesElement, intervalElement, itemsIn, PlaceOf}
@@ -98,6 +104,23 @@ module _ (doc : List ℕ) (ns np na nb : ℕ) where
   -- "Cells past the last row are 0."
   pub zero-past-rows : ZeroPast (outcome .answer .series) (outcome .answer .intervals) (outcome .tables)
   zero-past-rows = cells-past doc ns np na nb
+
+  -- "A document is accepted exactly when it meets every rule of the format descriptions": where the note buffer and the document's length keep to 01's limits, it is
+  -- accepted exactly when it spells a legal content for which the tables have room; and then answer and tables are those of the content
+  pub accepted-exactly : 16 ≤ nb → length doc ≤ 1048576
+      → (outcome .answer .refusal ≡ 0 → (kind : ℕ) × (c : Trees Said) × Spells doc kind c × Legal kind c × HasRoom (roomOf ns np na) kind c)
+      × ((kind : ℕ) (c : Trees Said) → Spells doc kind c → Legal kind c → HasRoom (roomOf ns np na) kind c → Tells doc outcome kind c)
+  accepted-exactly wide small = (accepted-legal doc ns np na nb wide small, legal-accepted doc ns np na nb wide small)
+
+-- a document spells one legal content at most, so that its content is unambiguous
+pub content-alone : (doc : List ℕ) (kind other : ℕ) (c d : Trees Said) → Spells doc kind c → Spells doc other d → Legal kind c → Legal other d
+    → (kind ≡ other) × (c ≡ d)
+content-alone = one-content
+
+-- white text, comments, quotes, the order of attributes and the choice between an empty tag and a start with an end change nothing but places
+pub places-alone : (x y : List ℕ) (ns np na nb : ℕ) → 16 ≤ nb → length x ≤ 1048576 → length y ≤ 1048576 → Alike x y
+    → readOf x ns np na nb .answer .refusal ≡ 0 → SameButPlaces x (readOf x ns np na nb) y (readOf y ns np na nb)
+places-alone = nothing-but-places
 
 -- "Two documents of equal length that differ only in digits of readable Qty values get the same answer, place, counts and note, and the same cells but for
 -- the amounts of accepted intervals whose own digits differ." Of two runs of the code

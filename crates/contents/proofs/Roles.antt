@@ -1,0 +1,93 @@
+-- What a row is to the reader, case by case; what the content's lists have of one element; and that an element that has to bring a value brings it.
+-- Assumes nothing.
+use Prim.Native.Nat.{ℕ, _≤_, _<_}
+use mathlib.Core.Path.{_≡_, refl, _∙_}
+use mathlib.Core.List.{List, [], _∷_, _++_, map, map-append}
+use mathlib.Core.Bool.{Bool, true, false, cond}
+use mathlib.Core.Logic.{⊎-elim}
+use native.Mathlib.Omega.{arith}
+use lib.Dec.{eqb, leb}
+use lib.ListN.{length, getD}
+use borrow.Author.Tests.{le-leb}
+use Rattle.lists.proofs.Cases.{eqb-cases}
+use Rattle.slices.specs.Same.{same}
+use Rattle.elements.specs.Names.{names, numberIn, elementNo}
+use Rattle.guideline.specs.Columns.{formOf, roleOf}
+use Rattle.guideline.specs.Rows.{beschaffungsanforderung, kostenblatt, rowsOf}
+use Rattle.blindness.proofs.Tables.{allBelow, below, where-true}
+use Rattle.states.specs.Attributes.{there, asksV}
+use Rattle.reader.specs.Items.{Placed}
+use Rattle.reader.specs.Rows.{spanOf}
+use Rattle.trees.specs.Trees.{Trees, none, element}
+use Rattle.contents.specs.Legal.{those}
+
+-- the roles that bring something into the tables
+pub data Role (r : ℕ) : Type 0 where
+  is-series : r ≡ 2 → Role r
+  is-interval : r ≡ 4 → Role r
+  is-object : r ≡ 6 → Role r
+  is-business : r ≡ 7 → Role r
+  is-id : r ≡ 8 → Role r
+  is-pos : r ≡ 9 → Role r
+  is-qty : r ≡ 10 → Role r
+  is-other : eqb r 2 ≡ false → eqb r 4 ≡ false → eqb r 6 ≡ false → eqb r 7 ≡ false → eqb r 8 ≡ false → eqb r 9 ≡ false → eqb r 10 ≡ false → Role r
+
+pub role-cases : (r : ℕ) → Role r
+role-cases r =
+    ⊎-elim (λ a. is-series (a .0)) (λ a.
+    ⊎-elim (λ b. is-interval (b .0)) (λ b.
+    ⊎-elim (λ c. is-object (c .0)) (λ c.
+    ⊎-elim (λ d. is-business (d .0)) (λ d.
+    ⊎-elim (λ e. is-id (e .0)) (λ e.
+    ⊎-elim (λ f. is-pos (f .0)) (λ f.
+    ⊎-elim (λ g. is-qty (g .0)) (λ g. is-other (a .1) (b .1) (c .1) (d .1) (e .1) (f .1) (g .1))
+    (eqb-cases r 10)) (eqb-cases r 9)) (eqb-cases r 8)) (eqb-cases r 7)) (eqb-cases r 6)) (eqb-cases r 4)) (eqb-cases r 2)
+
+-- ---- the lists of a content
+
+-- an element's own part of them
+abbrev pub own : {A : Type 0} → Bool → A → List A
+own t a = cond t (a ∷ []) []
+
+own-first : {A : Type 0} (t : Bool) (a : A) (l : List A) → cond t (a ∷ l) l ≡ own t a ++ l
+own-first true a l = refl
+own-first false a l = refl
+
+pub those-parts : {A : Type 0} (test : ℕ → Bool) (rows : List ℕ) (q : ℕ) (s : A) (inner after : Trees A)
+    → those test rows (element q s inner after) ≡ own (test (getD rows q 0)) s ++ (those test rows inner ++ those test rows after)
+unfolding those
+those-parts test rows q s inner after = own-first (test (getD rows q 0)) s (those test rows inner ++ those test rows after)
+
+pub mapped-parts : {A B : Type 0} (f : A → B) (test : ℕ → Bool) (rows : List ℕ) (q : ℕ) (s : A) (inner after : Trees A)
+    → map f (those test rows (element q s inner after))
+    ≡ map f (own (test (getD rows q 0)) s) ++ (map f (those test rows inner) ++ map f (those test rows after))
+mapped-parts f test rows q s inner after =
+    let a = own (test (getD rows q 0)) s in
+    let b = those test rows inner in
+    let c = those test rows after in
+    rw (those-parts test rows q s inner after, map-append f a (b ++ c), map-append f b c)
+
+-- ---- values that have to be there
+
+-- each element whose row asks for `v` has it
+unfoldable pub Given : List ℕ → Trees Placed → Type 0
+Given rows none = Unit {0}
+Given rows (element q x inner after) =
+    (asksV (getD rows q 0) ≡ true → there (spanOf (x .item)) ≡ true) × Given rows inner × Given rows after
+
+-- what the tables show has a value
+abbrev pub Valued : List ℕ → Type 0
+Valued rows = (q : ℕ) → q < length rows → 6 ≤ roleOf (getD rows q 0) → asksV (getD rows q 0) ≡ true
+
+valued : (rows : List ℕ) → allBelow (length rows) (λ q. cond (leb 6 (roleOf (getD rows q 0))) (asksV (getD rows q 0)) true) ≡ true → Valued rows
+valued rows t q l h =
+    where-true (leb 6 (roleOf (getD rows q 0))) (below (length rows) (λ q. cond (leb 6 (roleOf (getD rows q 0))) (asksV (getD rows q 0)) true) t q l)
+    (le-leb 6 (roleOf (getD rows q 0)) h)
+
+pub valued-one : Valued (rowsOf 1)
+unfolding rowsOf beschaffungsanforderung kostenblatt elementNo numberIn names same roleOf formOf asksV
+valued-one = valued (rowsOf 1) refl
+
+pub valued-two : Valued (rowsOf 2)
+unfolding rowsOf beschaffungsanforderung kostenblatt elementNo numberIn names same roleOf formOf asksV
+valued-two = valued (rowsOf 2) refl

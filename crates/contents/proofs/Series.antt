@@ -1,0 +1,239 @@
+-- What the elements in a series put into its row of the series table, and that they put nothing into any other row.
+-- Assumes nothing.
+use Prim.Native.Nat.{ℕ, suc, _+_, _-_, _*_, _≤_, _<_}
+use mathlib.Core.Path.{_≡_, refl, sym, ap, _∙_}
+use mathlib.Core.List.{List, [], _∷_, _++_, map, append-assoc}
+use mathlib.Core.Bool.{Bool, true, false, cond}
+use mathlib.Core.Logic.{_⊎_, ⊎-elim}
+use native.Mathlib.Omega.{arith}
+use lib.ListN.{length, getD, set, drop, length-set}
+use lib.Seq.{getD-set-same, getD-set-other}
+use Rattle.slices.specs.Run.{run}
+use Rattle.trims.specs.Trim.{space, dropped}
+use Rattle.guideline.specs.Columns.{roleOf}
+use Rattle.states.specs.Attributes.{there}
+use Rattle.states.specs.Moves.{entryOf}
+use Rattle.reader.specs.Items.{Placed}
+use Rattle.reader.specs.Rows.{spanOf, quoted, cell, withView, seriesAfter}
+use Rattle.reader.specs.Reading.{Tables, tablesAfter}
+use Rattle.trees.specs.Trees.{Trees, none, element, rowsTaken, Stand, EachConforms}
+use Rattle.contents.specs.Said.{Said, bytes}
+use Rattle.contents.specs.Legal.{hasRole, those, positionOf, identifications}
+use Rattle.contents.specs.Shown.{view, objects, businessTypes}
+use Rattle.contents.proofs.Laid.{Layout}
+use Rattle.contents.proofs.Walk.{Tally, opened, walked}
+use Rattle.contents.proofs.Fill.{saidOf, saying, stateOf, entered, filled, Stands}
+use Rattle.contents.proofs.Shapes.{later}
+use Rattle.contents.proofs.Views.{same-view, whole-view, trimmed-view}
+use Rattle.contents.proofs.Roles.{Role, is-series, is-interval, is-object, is-business, is-id, is-pos, is-qty, is-other, role-cases, own, mapped-parts, Given, Valued}
+
+-- the last of a list, or d
+abbrev pub lastOf : {A : Type 0} → A → List A → A
+lastOf d [] = d
+lastOf d (a ∷ l) = lastOf a l
+
+last-append : {A : Type 0} (d : A) (a b : List A) → lastOf d (a ++ b) ≡ lastOf (lastOf d a) b
+last-append d [] b = refl
+last-append d (x ∷ a) b = last-append x a b
+
+abbrev pub valueBytes : Said → List ℕ
+valueBytes s = bytes (s .v)
+
+abbrev pub trimmedBytes : Said → List ℕ
+trimmedBytes s = dropped (bytes (s .v))
+
+-- a view that is stored at cell c
+stored : (t : List ℕ) (c a n j : ℕ) → (j ≡ c → ⊥) → (j ≡ c + 1 → ⊥) → getD (withView t c a n) j 0 ≡ getD t j 0
+unfolding withView
+stored t c a n j f g = getD-set-other (set t c a) (c + 1) j n 0 g ∙ getD-set-other t c j a 0 f
+
+stored-size : (t : List ℕ) (c a n : ℕ) → length (withView t c a n) ≡ length t
+unfolding withView
+stored-size t c a n = simp length-set
+
+-- cells of another view
+other-view : (doc t : List ℕ) (c a n j : ℕ) → (j ≡ c → ⊥) → (j ≡ c + 1 → ⊥) → (j + 1 ≡ c → ⊥) → view doc (withView t c a n) j ≡ view doc t j
+other-view doc t c a n j f g h = same-view doc t (withView t c a n) j (stored t c a n j f g) (stored t c a n (j + 1) h (λ e. f (omega (arith, e))))
+
+-- a count that stays
+still : (y y′ : Tally) → y′ .intervals ≡ y .intervals → y′ .first ≡ y .first → (n : ℕ) → n ≡ y .intervals - y .first → n ≡ y′ .intervals - y′ .first
+still y y′ ei ef n e = rw (ei, ef) e
+
+-- between two places of the walk inside series i its row takes these identifications, objects and BusinessTypes, of which the last stays;
+-- the tally's series stays, and so do the other rows
+pub record Effect (doc : List ℕ) (i : ℕ) (y : Tally) (t : List ℕ) (y′ : Tally) (t′ : List ℕ) (ids objs kinds : List (List ℕ)) : Type 0 where
+  pub series : y′ .series ≡ y .series
+  pub first : y′ .first ≡ y .first
+  pub size : length t′ ≡ length t
+  pub others : (j : ℕ) → (j < 8 * i) ⊎ (8 * i + 8 ≤ j) → getD t′ j 0 ≡ getD t j 0
+  pub start : getD t′ (8 * i + 6) 0 ≡ getD t (8 * i + 6) 0
+  pub count : getD t (8 * i + 7) 0 ≡ y .intervals - y .first → getD t′ (8 * i + 7) 0 ≡ y′ .intervals - y′ .first
+  pub identification : view doc t′ (8 * i) ≡ lastOf (view doc t (8 * i)) ids
+  pub object : view doc t′ (8 * i + 2) ≡ lastOf (view doc t (8 * i + 2)) objs
+  pub business : view doc t′ (8 * i + 4) ≡ lastOf (view doc t (8 * i + 4)) kinds
+
+effect-lists : {doc : List ℕ} {i : ℕ} {y : Tally} {t : List ℕ} {y′ : Tally} {t′ : List ℕ} {ids objs kinds ids₁ objs₁ kinds₁ : List (List ℕ)}
+    → ids ≡ ids₁ → objs ≡ objs₁ → kinds ≡ kinds₁ → Effect doc i y t y′ t′ ids objs kinds → Effect doc i y t y′ t′ ids₁ objs₁ kinds₁
+effect-lists e f g k = rw (e, f, g) at k
+
+module _ {doc : List ℕ} {i : ℕ} {y : Tally} {t : List ℕ} where
+  effect-on : {y₁ y₂ : Tally} {t₁ t₂ : List ℕ} {ids objs kinds ids₁ objs₁ kinds₁ : List (List ℕ)} → Effect doc i y t y₁ t₁ ids objs kinds
+      → Effect doc i y₁ t₁ y₂ t₂ ids₁ objs₁ kinds₁ → Effect doc i y t y₂ t₂ (ids ++ ids₁) (objs ++ objs₁) (kinds ++ kinds₁)
+  effect-on {y₁} {y₂} {t₁} {t₂} {ids} {objs} {kinds} {ids₁} {objs₁} {kinds₁} f g =
+      record {
+        series = g .series ∙ f .series;
+        first = g .first ∙ f .first;
+        size = g .size ∙ f .size;
+        others = λ j h. g .others j h ∙ f .others j h;
+        start = g .start ∙ f .start;
+        count = λ e. g .count (f .count e);
+        identification =
+            g .identification ∙ ap (λ (d : List ℕ). lastOf d ids₁) (f .identification) ∙ sym (last-append (view doc t (8 * i)) ids ids₁);
+        object = g .object ∙ ap (λ (d : List ℕ). lastOf d objs₁) (f .object) ∙ sym (last-append (view doc t (8 * i + 2)) objs objs₁);
+        business = g .business ∙ ap (λ (d : List ℕ). lastOf d kinds₁) (f .business) ∙ sym (last-append (view doc t (8 * i + 4)) kinds kinds₁);
+      }
+
+  -- ---- one element
+
+  module _ {y′ : Tally} (es : y′ .series ≡ y .series) (ef : y′ .first ≡ y .first) where
+    interval-effect : 8 * i + 8 ≤ length t → Effect doc i y t y′ (set t (8 * i + 7) (y′ .intervals - y′ .first)) [] [] []
+    interval-effect h =
+        let c = 8 * i + 7 in
+        let v = y′ .intervals - y′ .first in
+        record {
+          series = es;
+          first = ef;
+          size = length-set t c v;
+          others = λ j o. getD-set-other t c j v 0 (λ e. ⊎-elim (λ z. omega (arith, z, e)) (λ z. omega (arith, z, e)) o);
+          start = getD-set-other t c (8 * i + 6) v 0 (λ e. omega (arith, e));
+          count = λ e. getD-set-same t c v 0 (omega (arith, h));
+          identification =
+              same-view doc t (set t c v) (8 * i) (getD-set-other t c (8 * i) v 0 (λ e. omega (arith, e))) (getD-set-other t c (8 * i + 1) v 0 (λ e. omega (arith, e)));
+          object =
+              same-view doc t (set t c v) (8 * i + 2) (getD-set-other t c (8 * i + 2) v 0 (λ e. omega (arith, e)))
+              (getD-set-other t c (8 * i + 2 + 1) v 0 (λ e. omega (arith, e)));
+          business =
+              same-view doc t (set t c v) (8 * i + 4) (getD-set-other t c (8 * i + 4) v 0 (λ e. omega (arith, e)))
+              (getD-set-other t c (8 * i + 4 + 1) v 0 (λ e. omega (arith, e)));
+        }
+
+    module _ (ei : y′ .intervals ≡ y .intervals) where
+      kept-effect : Effect doc i y t y′ t [] [] []
+      kept-effect =
+          record {
+            series = es;
+            first = ef;
+            size = refl;
+            others = λ j o. refl;
+            start = refl;
+            count = λ e. still y y′ ei ef (getD t (8 * i + 7) 0) e;
+            identification = refl;
+            object = refl;
+            business = refl;
+          }
+
+      module _ (a n : ℕ) {b : List ℕ} where
+        id-effect : view doc (withView t (8 * i) a n) (8 * i) ≡ b → Effect doc i y t y′ (withView t (8 * i) a n) (b ∷ []) [] []
+        id-effect v =
+            let c = 8 * i in
+            record {
+              series = es;
+              first = ef;
+              size = stored-size t c a n;
+              others = λ j o.
+                  stored t c a n j (λ e. ⊎-elim (λ z. omega (arith, z, e)) (λ z. omega (arith, z, e)) o) (λ e. ⊎-elim (λ z. omega (arith, z, e)) (λ z. omega (arith, z, e)) o);
+              start = stored t c a n (8 * i + 6) (λ e. omega (arith, e)) (λ e. omega (arith, e));
+              count = λ e. still y y′ ei ef (getD (withView t c a n) (8 * i + 7) 0) (stored t c a n (8 * i + 7) (λ f. omega (arith, f)) (λ f. omega (arith, f)) ∙ e);
+              identification = v;
+              object = other-view doc t c a n (8 * i + 2) (λ e. omega (arith, e)) (λ e. omega (arith, e)) (λ e. omega (arith, e));
+              business = other-view doc t c a n (8 * i + 4) (λ e. omega (arith, e)) (λ e. omega (arith, e)) (λ e. omega (arith, e));
+            }
+
+        object-effect : view doc (withView t (8 * i + 2) a n) (8 * i + 2) ≡ b → Effect doc i y t y′ (withView t (8 * i + 2) a n) [] (b ∷ []) []
+        object-effect v =
+            let c = 8 * i + 2 in
+            record {
+              series = es;
+              first = ef;
+              size = stored-size t c a n;
+              others = λ j o.
+                  stored t c a n j (λ e. ⊎-elim (λ z. omega (arith, z, e)) (λ z. omega (arith, z, e)) o) (λ e. ⊎-elim (λ z. omega (arith, z, e)) (λ z. omega (arith, z, e)) o);
+              start = stored t c a n (8 * i + 6) (λ e. omega (arith, e)) (λ e. omega (arith, e));
+              count = λ e. still y y′ ei ef (getD (withView t c a n) (8 * i + 7) 0) (stored t c a n (8 * i + 7) (λ f. omega (arith, f)) (λ f. omega (arith, f)) ∙ e);
+              identification = other-view doc t c a n (8 * i) (λ e. omega (arith, e)) (λ e. omega (arith, e)) (λ e. omega (arith, e));
+              object = v;
+              business = other-view doc t c a n (8 * i + 4) (λ e. omega (arith, e)) (λ e. omega (arith, e)) (λ e. omega (arith, e));
+            }
+
+        business-effect : view doc (withView t (8 * i + 4) a n) (8 * i + 4) ≡ b → Effect doc i y t y′ (withView t (8 * i + 4) a n) [] [] (b ∷ [])
+        business-effect v =
+            let c = 8 * i + 4 in
+            record {
+              series = es;
+              first = ef;
+              size = stored-size t c a n;
+              others = λ j o.
+                  stored t c a n j (λ e. ⊎-elim (λ z. omega (arith, z, e)) (λ z. omega (arith, z, e)) o) (λ e. ⊎-elim (λ z. omega (arith, z, e)) (λ z. omega (arith, z, e)) o);
+              start = stored t c a n (8 * i + 6) (λ e. omega (arith, e)) (λ e. omega (arith, e));
+              count = λ e. still y y′ ei ef (getD (withView t c a n) (8 * i + 7) 0) (stored t c a n (8 * i + 7) (λ f. omega (arith, f)) (λ f. omega (arith, f)) ∙ e);
+              identification = other-view doc t c a n (8 * i) (λ e. omega (arith, e)) (λ e. omega (arith, e)) (λ e. omega (arith, e));
+              object = other-view doc t c a n (8 * i + 2) (λ e. omega (arith, e)) (λ e. omega (arith, e)) (λ e. omega (arith, e));
+              business = v;
+            }
+
+pub cell-at : (n i k : ℕ) → n ≡ suc i → cell n k ≡ 8 * i + k
+unfolding cell
+cell-at n i k e = let d : n - 1 ≡ i = omega (arith, e) in ap (λ (m : ℕ). 8 * m + k) d
+
+cell-first : (n i : ℕ) → n ≡ suc i → cell n 0 ≡ 8 * i
+cell-first n i e = let d = cell-at n i 0 e in omega (arith, d)
+
+module _ (kind : ℕ) (doc : List ℕ) where
+  pub step-effect : (w q i : ℕ) (x : Placed) (y : Tally) (t : List ℕ) → Role (roleOf w) → (roleOf w ≡ 2 → ⊥) → (6 ≤ roleOf w → there (spanOf (x .item)) ≡ true)
+      → x .rest ≡ drop (x .at) doc → y .series ≡ suc i → 8 * i + 8 ≤ length t
+      → Effect doc i y t (opened w (saidOf x) y)
+      (seriesAfter (x .at) (spanOf (x .item)) (x .rest) (stateOf kind q true (opened w (saidOf x) y)) (entryOf (roleOf w) (positionOf (saidOf x))) t)
+      (map valueBytes (own (hasRole 8 w) (saidOf x))) (map valueBytes (own (hasRole 6 w) (saidOf x))) (map trimmedBytes (own (hasRole 7 w) (saidOf x)))
+  unfolding seriesAfter entryOf stateOf
+  step-effect w q i x y t (is-series e) n v s a l = absurd (n e)
+  step-effect w q i x y t (is-interval e) n v s a l = rw (e, cell-at (y .series) i 7 a) (interval-effect refl refl l)
+  step-effect w q i x y t (is-object e) n v s a l =
+      rw (e, cell-at (y .series) i 2 a) (object-effect refl refl refl (x .at + spanOf (x .item) .start) (spanOf (x .item) .len) (whole-view doc x s (v (omega (arith, e))) t (8 * i + 2) (omega (arith, l))))
+  step-effect w q i x y t (is-business e) n v s a l =
+      rw (e, cell-at (y .series) i 4 a) (business-effect refl refl refl (x .at + spanOf (x .item) .start + run space (quoted (spanOf (x .item)) (x .rest)))
+      (length (dropped (quoted (spanOf (x .item)) (x .rest)))) (trimmed-view doc x s (v (omega (arith, e))) t (8 * i + 4) (omega (arith, l))))
+  step-effect w q i x y t (is-id e) n v s a l =
+      rw (e, cell-first (y .series) i a) (id-effect refl refl refl (x .at + spanOf (x .item) .start) (spanOf (x .item) .len) (whole-view doc x s (v (omega (arith, e))) t (8 * i) (omega (arith, l))))
+  step-effect w q i x y t (is-pos e) n v s a l = rw e (kept-effect refl refl refl)
+  step-effect w q i x y t (is-qty e) n v s a l = rw e (kept-effect refl refl refl)
+  step-effect w q i x y t (is-other b c d e f g h) n v s a l = simp (b, c, d, e, f, g, h) (kept-effect refl refl refl)
+
+-- ---- the elements in a series
+
+module _ (kind : ℕ) (rows : List ℕ) (p : ℕ) (L : Layout rows p) (W : Valued rows) (doc : List ℕ) where
+  pub no-series : (h q : ℕ) → 12 ≤ h → h < q → q < length rows → roleOf (getD rows q 0) ≡ 2 → ⊥
+  no-series h q a b l e = let d = L .only-series q l e in omega (arith, a, b, d)
+
+  pub inside : (kids : Trees Placed) (h i : ℕ) (y : Tally) (t : Tables) → 12 ≤ h → h < length rows → Stand rows h (rowsTaken kids) → EachConforms rows kids
+      → Stands doc kids → Given rows kids → y .series ≡ suc i → 8 * i + 8 ≤ length (t .series)
+      → Effect doc i y (t .series) (walked rows (saying kids) y) (filled kind rows kids y t .series)
+      (identifications rows (saying kids)) (objects rows (saying kids)) (businessTypes rows (saying kids))
+  unfolding walked filled saying rowsTaken Stand EachConforms Given Stands tablesAfter identifications objects businessTypes those
+  inside none h i y t a l s c d g e m = kept-effect refl refl refl
+  inside (element q x inner after) h i y t a l s c d g e m =
+      let w = getD rows q 0 in
+      let y₁ = opened w (saidOf x) y in
+      let t₁ = entered kind rows q x y₁ t in
+      let b = later rows p L h q l (s .0) (s .1) in
+      let one = step-effect kind doc w q i x y (t .series) (role-cases (roleOf w)) (no-series h q a b (s .0)) (λ r. g .0 (W q (s .0) r)) (d .1) e m in
+      let e₁ = one .series ∙ e in
+      let z₁ = one .size in
+      let two = inside inner q i y₁ t₁ (omega (arith, a, b)) (s .0) (c .0 .stand) (c .1) (d .2) (g .1) e₁ (omega (arith, z₁, m)) in
+      let e₂ = two .series ∙ e₁ in
+      let z₂ = two .size in
+      let three = inside after h i (walked rows (saying inner) y₁) (filled kind rows inner y₁ t₁) a l (s .2) (c .2) (d .3) (g .2) e₂ (omega (arith, z₂, z₁, m)) in
+      effect-lists
+      (sym (mapped-parts valueBytes (hasRole 8) rows q (saidOf x) (saying inner) (saying after)))
+      (sym (mapped-parts valueBytes (hasRole 6) rows q (saidOf x) (saying inner) (saying after)))
+      (sym (mapped-parts trimmedBytes (hasRole 7) rows q (saidOf x) (saying inner) (saying after)))
+      (effect-on one (effect-on two three))

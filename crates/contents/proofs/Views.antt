@@ -1,0 +1,115 @@
+-- What the parts of the document that two cells tell are: the value between the quotes, with or without the spaces at its ends.
+-- Assumes nothing.
+use Prim.Native.Nat.{ℕ, zero, suc, _+_, _≤_, _<_}
+use mathlib.Core.Path.{_≡_, refl, sym, ap, _∙_}
+use mathlib.Core.List.{List, [], _∷_}
+use mathlib.Core.Bool.{Bool, true, false, cond}
+use mathlib.Core.Logic.{⊎-elim}
+use native.Mathlib.Omega.{arith}
+use lib.ListN.{length, getD, take, drop, set, length-set, length-take}
+use lib.Seq.{getD-set-same, getD-set-other, take-take, drop-drop}
+use Rattle.lists.proofs.Cases.{bool-cases, zero-not-one}
+use Rattle.slices.specs.Run.{run}
+use Rattle.attributes.specs.Attribute.{partOf}
+use Rattle.trims.specs.Trim.{space, dropped}
+use Rattle.trims.proofs.Trails.{part-place}
+use Rattle.tags.specs.declared.Span.{Span}
+use Rattle.items.specs.declared.Item.{Item}
+use Rattle.items.specs.declared.Item.the-variants.{Start, Empty, End, Text, Comment, Refused}
+use Rattle.states.specs.Attributes.{there}
+use Rattle.reader.specs.Items.{Placed}
+use Rattle.reader.specs.Rows.{spanOf, quoted, withView}
+use Rattle.reader.proofs.Spans.{dropped-in, quoted-le}
+use Rattle.contents.specs.Said.{bytes}
+use Rattle.contents.specs.Spelled.{valueIn, saidBy}
+use Rattle.contents.specs.Shown.{view}
+use Rattle.contents.proofs.Fill.{saidByItem, saidOf}
+
+-- ---- parts
+
+part-in : (doc rest : List ℕ) (at a n : ℕ) → rest ≡ drop at doc → partOf doc (at + a) n ≡ partOf rest a n
+unfolding partOf
+part-in doc rest at a n e = rw e (ap (take n) (sym (drop-drop a at doc)))
+
+front-part : (n r len : ℕ) (l : List ℕ) → r + n ≤ len → take n (drop r (take len l)) ≡ take n (drop r l)
+front-part n zero len l h = take-take n len l (omega (arith, h))
+front-part n (suc r) zero l h = absurd (omega (arith, h))
+front-part n (suc r) (suc len) [] h = refl
+front-part n (suc r) (suc len) (b ∷ l) h = front-part n r len l (omega (arith, h))
+
+run-le : (p : ℕ → Bool) (l : List ℕ) → run p l ≤ length l
+unfolding run
+run-le p [] = omega arith
+run-le p (b ∷ l) =
+    let h = run-le p l in
+    elim (p b) as (λ (t : Bool). cond t (suc (run p l)) 0 ≤ suc (length l)) [ true ↦ omega (arith, h) | false ↦ omega arith ]
+
+-- the value without the spaces, where it stands in the item
+trimmed-part : (v : Span) (s : List ℕ) → partOf s (v .start + run space (quoted v s)) (length (dropped (quoted v s))) ≡ dropped (quoted v s)
+unfolding partOf quoted
+trimmed-part v s =
+    let q = quoted v s in
+    let h : run space q + length (dropped q) ≤ v .len = let a = dropped-in q (run-le space q) in let b = quoted-le v s in omega (arith, a, b) in
+    ap (take (length (dropped q))) (sym (drop-drop (run space q) (v .start) s))
+    ∙ sym (front-part (length (dropped q)) (run space q) (v .len) (drop (v .start) s) h)
+    ∙ part-place q
+
+-- ---- what an item says
+
+as-quoted : (v : Span) (s : List ℕ) → partOf s (v .start) (v .len) ≡ quoted v s
+unfolding quoted
+as-quoted v s = refl
+
+not-there : there (record { start = 0; len = 0 }) ≡ true → ⊥
+unfolding there
+not-there e = zero-not-one (cc)
+
+value-bytes : (v : Span) (s : List ℕ) → there v ≡ true → bytes (valueIn v s) ≡ quoted v s
+unfolding valueIn bytes quoted
+value-bytes v s e = rw e
+
+item-bytes : (i : Item) (s : List ℕ) → there (spanOf i) ≡ true → bytes (saidByItem i s .v) ≡ quoted (spanOf i) s
+unfolding spanOf saidByItem saidBy
+item-bytes (Start t) s e = value-bytes (t .v) s e
+item-bytes (Empty t) s e = value-bytes (t .v) s e
+item-bytes (End n f) s e = absurd (not-there e)
+item-bytes (Text w f) s e = absurd (not-there e)
+item-bytes (Comment f) s e = absurd (not-there e)
+item-bytes (Refused q) s e = absurd (not-there e)
+
+pub said-bytes : (x : Placed) → there (spanOf (x .item)) ≡ true → bytes (saidOf x .v) ≡ quoted (spanOf (x .item)) (x .rest)
+said-bytes x e = item-bytes (x .item) (x .rest) e
+
+-- ---- what two cells tell
+
+module _ (doc : List ℕ) where
+  pub same-view : (t u : List ℕ) (j : ℕ) → getD u j 0 ≡ getD t j 0 → getD u (j + 1) 0 ≡ getD t (j + 1) 0 → view doc u j ≡ view doc t j
+  unfolding view
+  same-view t u j a b = rw (a, b)
+
+  stored-view : (t : List ℕ) (j a n : ℕ) → j + 1 < length t → view doc (withView t j a n) j ≡ partOf doc a n
+  unfolding view withView
+  stored-view t j a n h =
+      let first : getD (set (set t j a) (j + 1) n) j 0 ≡ a
+      = getD-set-other (set t j a) (j + 1) j n 0 (λ e. omega (arith, e)) ∙ getD-set-same t j a 0 (omega (arith, h)) in
+      let second : getD (set (set t j a) (j + 1) n) (j + 1) 0 ≡ n = getD-set-same (set t j a) (j + 1) n 0 (rw (length-set t j a) h) in
+      rw (first, second)
+
+  module _ (x : Placed) (stands : x .rest ≡ drop (x .at) doc) (given : there (spanOf (x .item)) ≡ true) (t : List ℕ) (j : ℕ) (h : j + 1 < length t) where
+    pub whole-view : view doc (withView t j (x .at + spanOf (x .item) .start) (spanOf (x .item) .len)) j ≡ bytes (saidOf x .v)
+    whole-view =
+        let v = spanOf (x .item) in
+        stored-view t j (x .at + v .start) (v .len) h ∙ part-in doc (x .rest) (x .at) (v .start) (v .len) stands ∙ as-quoted v (x .rest) ∙ sym (said-bytes x given)
+
+    pub trimmed-view : view doc
+        (withView t j (x .at + spanOf (x .item) .start + run space (quoted (spanOf (x .item)) (x .rest))) (length (dropped (quoted (spanOf (x .item)) (x .rest))))) j
+        ≡ dropped (bytes (saidOf x .v))
+    trimmed-view =
+        let v = spanOf (x .item) in
+        let q = quoted v (x .rest) in
+        let e : x .at + v .start + run space q ≡ x .at + (v .start + run space q) = omega arith in
+        stored-view t j (x .at + v .start + run space q) (length (dropped q)) h
+        ∙ ap (λ (n : ℕ). partOf doc n (length (dropped q))) e
+        ∙ part-in doc (x .rest) (x .at) (v .start + run space q) (length (dropped q)) stands
+        ∙ trimmed-part v (x .rest)
+        ∙ ap dropped (sym (said-bytes x given))
