@@ -217,6 +217,75 @@ static const uint8_t ROOM[][SIZES] = {
     {7, 10, 0, 10, 0, 16, 3, 4},     {255, 255, 1, 255, 1, 16, 7, 6},  {64, 3, 0, 2, 0, 20, 9, 1}, {255, 255, 1, 255, 1, 15, 7, 5},
 };
 
+/* libFuzzer's own changes break most documents. Half of the changes are these, which keep a document near to acceptance: another value between quotes, white
+ * text or a comment after a tag, other sizes. */
+size_t LLVMFuzzerMutate(uint8_t *data, size_t size, size_t room);
+size_t LLVMFuzzerCustomMutator(uint8_t *data, size_t size, size_t room, unsigned seed);
+
+static uint64_t state;
+
+static size_t below(size_t n) {
+    state = state * 6364136223846793005u + 1442695040888963407u;
+    return (size_t)(state >> 33) % n;
+}
+
+/* The bytes from `from` to `to` become `put`. The size as it was where there is no room. */
+static size_t replaced(uint8_t *data, size_t size, size_t room, size_t from, size_t to, const char *put) {
+    size_t count = strlen(put);
+    if (size - (to - from) + count > room) return size;
+    memmove(data + from + count, data + to, size - to);
+    memcpy(data + from, put, count);
+    return size - (to - from) + count;
+}
+
+/* The first `byte` from a random place on, or from the document's begin on; `size` where there is none. */
+static size_t somewhere(const uint8_t *data, size_t size, uint8_t byte) {
+    const uint8_t *found = NULL;
+    if (size > SIZES) {
+        size_t from = SIZES + below(size - SIZES);
+        found = memchr(data + from, byte, size - from);
+        if (found == NULL) found = memchr(data + SIZES, byte, size - SIZES);
+    }
+    return found == NULL ? size : (size_t)(found - data);
+}
+
+static size_t with_value(uint8_t *data, size_t size, size_t room) {
+    char text[64];
+    size_t from = somewhere(data, size, '=') + 2;
+    if (from >= size) return size;
+    const uint8_t *end = memchr(data + from, data[from - 1], size - from);
+    if (end == NULL) return size;
+    switch (below(4)) {
+    case 0: snprintf(text, sizeof text, "%s%zu", below(3) ? "" : "-", below(1000000)); break;
+    case 1: snprintf(text, sizeof text, "%s%zu.%0*zu", below(2) ? " " : "", below(1000), (int)below(5), below(1000)); break;
+    case 2: snprintf(text, sizeof text, "%zu%s", below(120), below(3) ? "" : " "); break;
+    default: { /* the value of another tag */
+        size_t other = somewhere(data, size, '=') + 2, count = 0;
+        while (other + count < size && data[other + count] != data[other - 1] && count + 1 < sizeof text) count++;
+        snprintf(text, sizeof text, "%.*s", (int)count, (const char *)data + (other < size ? other : 0));
+    }
+    }
+    return replaced(data, size, room, from, (size_t)(end - data), text);
+}
+
+static size_t with_text(uint8_t *data, size_t size, size_t room) {
+    static const char *const TEXTS[] = {" ", "\n", "\r\n\t", "<!---->", "<!-- - -->", "<!--&\xC3\xA4-->\n"};
+    size_t tag = somewhere(data, size, '>');
+    return tag == size ? size : replaced(data, size, room, tag + 1, tag + 1, TEXTS[below(6)]);
+}
+
+size_t LLVMFuzzerCustomMutator(uint8_t *data, size_t size, size_t room, unsigned seed) {
+    state = seed;
+    switch (below(8)) {
+    case 0: case 1: return with_value(data, size, room);
+    case 2: return with_text(data, size, room);
+    case 3:
+        if (size >= SIZES) memcpy(data, ROOM[below(8)], SIZES);
+        return size;
+    default: return LLVMFuzzerMutate(data, size, room);
+    }
+}
+
 static int in_memory(const char *folder, const char *name, size_t number) {
     char path[4096], bytes[70000];
     snprintf(path, sizeof path, "%s/%s", folder, name);
