@@ -1,0 +1,331 @@
+/*
+ * The entry of libFuzzer. An input is sizes in its first bytes and a document after them. What is lent is allocated to the byte, so that AddressSanitizer
+ * sees one byte too far; the plain module reads first, then the module whose assumptions are checked, into buffers that hold other bytes before.
+ * What a promise says of one call or of the two together is checked, and a broken one ends the program.
+ *
+ * Nothing goes to disk: the corpus is in memory, and so are the files by which libFuzzer is given the samples (memfd).
+ */
+#define _GNU_SOURCE
+#include <dirent.h>
+#include <stdio.h>
+#include <stdlib.h>
+#include <string.h>
+#include <sys/mman.h>
+#include <unistd.h>
+
+#include "../library/lumintayag.h"
+
+uint32_t checked_lumintayag_read(const uint8_t *doc, size_t doc_len, uint32_t *series, size_t series_len, uint32_t *positions, size_t positions_len,
+                                 int64_t *amounts, size_t amounts_len, uint8_t *note, size_t note_len, uint32_t *answer, size_t answer_len);
+uint32_t checked_lumintayag_read_note(const uint8_t *note, size_t note_len, uint32_t *five, size_t five_len);
+
+enum { SIZES = 8 };
+
+struct sizes {
+    size_t series, positions, amounts, note, answer, five;
+};
+
+static struct sizes sizes_of(const uint8_t *b) {
+    struct sizes s = {b[0], b[1] + 256 * (b[2] & 1), b[3] + 256 * (b[4] & 1), b[5] & 31, b[6] & 15, b[7] & 7};
+    return s;
+}
+
+struct outcome {
+    uint8_t *doc, *note;
+    uint32_t *series, *positions, *answer;
+    int64_t *amounts;
+    uint32_t returned;
+};
+
+static struct sizes lent;
+static size_t length;
+static uint64_t refusals[11], notes[2];
+
+static void hold(int holds, const char *promise) {
+    if (holds) return;
+    fprintf(stderr, "BROKEN: %s\ndocument of %zu bytes; lent: series %zu, positions %zu, amounts %zu, note %zu, answer %zu, five %zu\n", promise, length,
+            lent.series, lent.positions, lent.amounts, lent.note, lent.answer, lent.five);
+    abort();
+}
+
+static void *filled(size_t bytes, int pattern) {
+    void *p = malloc(bytes);
+    if (p == NULL) exit(2);
+    memset(p, pattern, bytes);
+    return p;
+}
+
+typedef uint32_t reading(const uint8_t *, size_t, uint32_t *, size_t, uint32_t *, size_t, int64_t *, size_t, uint8_t *, size_t, uint32_t *, size_t);
+
+static struct outcome read_by(reading *read, const uint8_t *doc, size_t answer_len, int pattern) {
+    struct outcome o = {filled(length, 0), filled(lent.note, pattern), filled(4 * lent.series, pattern), filled(4 * lent.positions, pattern),
+                        filled(4 * answer_len, pattern), filled(8 * lent.amounts, pattern), 0};
+    memcpy(o.doc, doc, length);
+    o.returned = read(o.doc, length, o.series, lent.series, o.positions, lent.positions, o.amounts, lent.amounts, o.note, lent.note, o.answer, answer_len);
+    hold(memcmp(o.doc, doc, length) == 0, "the document is not written to");
+    return o;
+}
+
+static void let_go(struct outcome o) {
+    free(o.doc), free(o.note), free(o.series), free(o.positions), free(o.answer), free(o.amounts);
+}
+
+static int is_zero(const void *p, size_t from, size_t to) {
+    const uint8_t *b = p;
+    for (size_t i = from; i < to; i++)
+        if (b[i] != 0) return 0;
+    return 1;
+}
+
+static int same_but_amounts(struct outcome a, struct outcome b) {
+    return a.returned == b.returned && memcmp(a.series, b.series, 4 * lent.series) == 0 && memcmp(a.positions, b.positions, 4 * lent.positions) == 0 &&
+           memcmp(a.note, b.note, lent.note) == 0;
+}
+
+static int same(struct outcome a, struct outcome b) {
+    return same_but_amounts(a, b) && memcmp(a.amounts, b.amounts, 8 * lent.amounts) == 0;
+}
+
+/* `n` has the seven numbers. */
+static void judge_refusal(struct outcome o, const uint32_t *n) {
+    hold(n[0] <= 10, "refusals of the document reader end with 10");
+    hold(is_zero(o.series, 0, 4 * lent.series) && is_zero(o.positions, 0, 4 * lent.positions) && is_zero(o.amounts, 0, 8 * lent.amounts),
+         "on a refusal all cells of the tables are 0");
+    hold(n[5] == 0, "N is 0 on a refusal");
+    hold(n[1] <= length, "a place is at most the length");
+    hold((n[0] == 10) == (lent.note < 16), "10 is given for a note buffer of fewer than 16 bytes, and for nothing else");
+    hold((n[0] == 1) == (lent.note >= 16 && length > 1048576), "1 is given for a document of more than 1,048,576 bytes, and for nothing else");
+}
+
+static void judge_series(struct outcome o, const uint32_t *n, size_t i, uint32_t *rows) {
+    const uint32_t *row = o.series + 8 * i;
+    for (int k = 0; k < 6; k += 2)
+        hold(row[k] > 0 && (size_t)row[k] + row[k + 1] < length, "a view is a part of the document");
+    hold(row[6] == *rows && row[7] >= 1, "rows come in document order");
+    *rows += row[7];
+    hold(*rows <= n[4], "the rows of the series are the intervals");
+    for (uint32_t k = row[6], before = 0; k < *rows; before = o.positions[k++])
+        hold(o.positions[k] > before && o.positions[k] <= n[5] && (k > row[6] || o.positions[k] == 1) && (n[2] == 2 || o.positions[k] == before + 1),
+             "positions begin with 1 and rise to N at most");
+    hold(n[2] == 2 || row[7] == n[5], "a series of kind 1 has N intervals");
+}
+
+static void judge_acceptance(struct outcome o, const uint32_t *n) {
+    size_t room = lent.positions < lent.amounts ? lent.positions : lent.amounts;
+    uint32_t rows = 0;
+    hold(n[1] == length && (n[2] == 1 || n[2] == 2) && n[3] >= 1 && n[4] >= n[3] && n[5] >= 1, "the answer on acceptance");
+    hold(8 * (size_t)n[3] <= lent.series && n[4] <= room, "rows have room");
+    for (size_t i = 0; i < n[3]; i++) judge_series(o, n, i, &rows);
+    hold(rows == n[4], "the rows of the series are the intervals");
+    hold(is_zero(o.series, 32 * (size_t)n[3], 4 * lent.series) && is_zero(o.positions, 4 * (size_t)rows, 4 * lent.positions) &&
+             is_zero(o.amounts, 8 * (size_t)rows, 8 * lent.amounts),
+         "cells past the last row are 0");
+    for (size_t i = 0; i < rows; i++)
+        hold(o.amounts[i] <= INT64_C(999999999999999) && o.amounts[i] >= -INT64_C(999999999999999), "an amount has twelve digits and three at most");
+}
+
+typedef uint32_t rereading(const uint8_t *, size_t, uint32_t *, size_t);
+
+/* The refusal; `five` has the numbers for which there was room, and 0 in the place of the others. */
+static uint32_t read_note_by(rereading *read, const uint8_t *bytes, size_t count, size_t room, uint32_t *five) {
+    uint8_t *note = filled(count, 0);
+    uint32_t *cells = filled(4 * room, 0xB3);
+    memcpy(note, bytes, count);
+    uint32_t returned = read(note, count, cells, room);
+    memset(five, 0, 20);
+    memcpy(five, cells, 4 * (room < 5 ? room : 5));
+    hold(returned == 0 || returned == 11, "the note reader answers 0 or 11");
+    hold(room <= 5 || is_zero(cells, 20, 4 * room), "cells past the fifth are 0");
+    hold(returned == 0 || is_zero(five, 0, 20), "on 11 the five numbers are 0");
+    for (int k = 0; k < 5; k++) hold(five[k] < 1 << 21, "a number of a note is below 2^21");
+    free(note), free(cells);
+    return returned;
+}
+
+static void judge_note(const uint8_t *note, const uint32_t *n) {
+    uint32_t five[5], again[5];
+    hold(n[6] >= 5 && n[6] <= 15, "a note has 5 to 15 bytes");
+    hold(is_zero(note, n[6], lent.note), "the bytes past the note are 0");
+    hold(read_note_by(lumintayag_read_note, note, n[6], 5, five) == 0 && memcmp(five, n, 20) == 0, "a note read back gives its five numbers");
+    hold(read_note_by(checked_lumintayag_read_note, note, n[6], lent.five, again) == 0 && memcmp(five, again, 4 * (lent.five < 5 ? lent.five : 5)) == 0,
+         "a note read into fewer cells gives the first numbers");
+    hold(read_note_by(lumintayag_read_note, note, n[6] - 1, 5, five) == 11, "a note cut short is none");
+    if (n[6] < lent.note) hold(read_note_by(lumintayag_read_note, note, n[6] + 1, 5, five) == 11, "a zero is no part of a note");
+}
+
+/* Any bytes as a note. */
+static void judge_bytes(const uint8_t *bytes, size_t count) {
+    uint32_t five[5], again[5];
+    if (count > 24) count = 24;
+    uint32_t refusal = read_note_by(lumintayag_read_note, bytes, count, 5, five);
+    hold(refusal == read_note_by(checked_lumintayag_read_note, bytes, count, 5, again) && memcmp(five, again, 20) == 0, "the two modules read a note alike");
+    notes[refusal == 0]++;
+}
+
+/* In an accepted document each tag Qty has one attribute, so that its quoted digits are readable Qty digits; those in a comment change nothing either. */
+static void turn_digits(uint8_t *doc) {
+    for (size_t i = 0; i + 4 < length; i++) {
+        if (memcmp(doc + i, "<Qty", 4) != 0) continue;
+        uint8_t quote = 0;
+        for (; i < length && !(quote == 0 && doc[i] == '>'); i++) {
+            if (quote == 0 && (doc[i] == '"' || doc[i] == '\'')) quote = doc[i];
+            else if (doc[i] == quote) quote = 0;
+            else if (quote != 0 && doc[i] >= '0' && doc[i] <= '9') doc[i] = (uint8_t)('9' - (doc[i] - '0'));
+        }
+    }
+}
+
+static void judge_digits(const uint8_t *doc, struct outcome first, const uint32_t *n) {
+    uint8_t *other = filled(length, 0);
+    memcpy(other, doc, length);
+    turn_digits(other);
+    struct outcome o = read_by(lumintayag_read, other, 7, 0x11);
+    hold(same_but_amounts(first, o) && memcmp(o.answer, n, 28) == 0, "nothing but the amounts depends on the digits of a price");
+    let_go(o);
+    free(other);
+}
+
+int LLVMFuzzerTestOneInput(const uint8_t *data, size_t size);
+
+int LLVMFuzzerTestOneInput(const uint8_t *data, size_t size) {
+    uint8_t first[SIZES] = {0};
+    memcpy(first, data, size < SIZES ? size : SIZES);
+    const uint8_t *doc = data + (size < SIZES ? size : SIZES);
+    length = size < SIZES ? 0 : size - SIZES;
+    lent = sizes_of(first);
+
+    struct outcome a = read_by(lumintayag_read, doc, lent.answer, 0xA5);
+    struct outcome b = read_by(checked_lumintayag_read, doc, 7, 0x5A);
+    const uint32_t *n = b.answer;
+    hold(same(a, b), "the same document gives the same, whatever stood in what is lent");
+    hold(memcmp(a.answer, n, 4 * (lent.answer < 7 ? lent.answer : 7)) == 0, "the answer in fewer cells is its first numbers");
+    hold(lent.answer <= 7 || is_zero(a.answer, 28, 4 * lent.answer), "cells past the seventh are 0");
+    hold(b.returned == n[0], "what is returned is the refusal");
+    if (n[0] == 0) judge_acceptance(b, n), judge_digits(doc, a, n);
+    else judge_refusal(b, n);
+    refusals[n[0]]++;
+    if (n[0] == 10) hold(is_zero(b.note, 0, lent.note) && is_zero(n + 1, 0, 24), "on 10 the note buffer and the other numbers are 0");
+    else judge_note(b.note, n);
+    judge_bytes(doc, length);
+    let_go(a), let_go(b);
+    return 0;
+}
+
+/* Room for all rows; for no series; for one row; for fewer amounts than positions; a note of 15. Each sample is lent one of these. */
+static const uint8_t ROOM[][SIZES] = {
+    {255, 255, 1, 255, 1, 16, 7, 5}, {255, 255, 0, 200, 0, 31, 15, 7}, {8, 1, 0, 1, 0, 16, 7, 5}, {255, 255, 1, 255, 1, 16, 0, 0},
+    {7, 10, 0, 10, 0, 16, 3, 4},     {255, 255, 1, 255, 1, 16, 7, 6},  {64, 3, 0, 2, 0, 20, 9, 1}, {255, 255, 1, 255, 1, 15, 7, 5},
+};
+
+/* libFuzzer's own changes break most documents. Half of the changes are these, which keep a document near to acceptance: another value between quotes, white
+ * text or a comment after a tag, other sizes. */
+size_t LLVMFuzzerMutate(uint8_t *data, size_t size, size_t room);
+size_t LLVMFuzzerCustomMutator(uint8_t *data, size_t size, size_t room, unsigned seed);
+
+static uint64_t state;
+
+static size_t below(size_t n) {
+    state = state * 6364136223846793005u + 1442695040888963407u;
+    return (size_t)(state >> 33) % n;
+}
+
+/* The bytes from `from` to `to` become `put`. The size as it was where there is no room. */
+static size_t replaced(uint8_t *data, size_t size, size_t room, size_t from, size_t to, const char *put) {
+    size_t count = strlen(put);
+    if (size - (to - from) + count > room) return size;
+    memmove(data + from + count, data + to, size - to);
+    memcpy(data + from, put, count);
+    return size - (to - from) + count;
+}
+
+/* The first `byte` from a random place on, or from the document's begin on; `size` where there is none. */
+static size_t somewhere(const uint8_t *data, size_t size, uint8_t byte) {
+    const uint8_t *found = NULL;
+    if (size > SIZES) {
+        size_t from = SIZES + below(size - SIZES);
+        found = memchr(data + from, byte, size - from);
+        if (found == NULL) found = memchr(data + SIZES, byte, size - SIZES);
+    }
+    return found == NULL ? size : (size_t)(found - data);
+}
+
+static size_t with_value(uint8_t *data, size_t size, size_t room) {
+    char text[64];
+    size_t from = somewhere(data, size, '=') + 2;
+    if (from >= size) return size;
+    const uint8_t *end = memchr(data + from, data[from - 1], size - from);
+    if (end == NULL) return size;
+    switch (below(4)) {
+    case 0: snprintf(text, sizeof text, "%s%zu", below(3) ? "" : "-", below(1000000)); break;
+    case 1: snprintf(text, sizeof text, "%s%zu.%0*zu", below(2) ? " " : "", below(1000), (int)below(5), below(1000)); break;
+    case 2: snprintf(text, sizeof text, "%zu%s", below(120), below(3) ? "" : " "); break;
+    default: { /* the value of another tag */
+        size_t other = somewhere(data, size, '=') + 2, count = 0;
+        while (other + count < size && data[other + count] != data[other - 1] && count + 1 < sizeof text) count++;
+        snprintf(text, sizeof text, "%.*s", (int)count, (const char *)data + (other < size ? other : 0));
+    }
+    }
+    return replaced(data, size, room, from, (size_t)(end - data), text);
+}
+
+static size_t with_text(uint8_t *data, size_t size, size_t room) {
+    static const char *const TEXTS[] = {" ", "\n", "\r\n\t", "<!---->", "<!-- - -->", "<!--&\xC3\xA4-->\n"};
+    size_t tag = somewhere(data, size, '>');
+    return tag == size ? size : replaced(data, size, room, tag + 1, tag + 1, TEXTS[below(6)]);
+}
+
+size_t LLVMFuzzerCustomMutator(uint8_t *data, size_t size, size_t room, unsigned seed) {
+    state = seed;
+    switch (below(8)) {
+    case 0: case 1: return with_value(data, size, room);
+    case 2: return with_text(data, size, room);
+    case 3:
+        if (size >= SIZES) memcpy(data, ROOM[below(8)], SIZES);
+        return size;
+    default: return LLVMFuzzerMutate(data, size, room);
+    }
+}
+
+static int in_memory(const char *folder, const char *name, size_t number) {
+    char path[4096], bytes[70000];
+    snprintf(path, sizeof path, "%s/%s", folder, name);
+    FILE *file = fopen(path, "rb");
+    int fd = memfd_create("seed", 0);
+    if (file == NULL || fd < 0) exit(2);
+    size_t count = fread(bytes, 1, sizeof bytes, file);
+    fclose(file);
+    if (write(fd, ROOM[number % 8], SIZES) != SIZES || write(fd, bytes, count) != (ssize_t)count) exit(2);
+    return fd;
+}
+
+static void tell(void) {
+    printf("documents by refusal:");
+    for (int k = 0; k <= 10; k++) printf(" %d: %llu", k, (unsigned long long)refusals[k]);
+    printf("\nnotes taken: %llu, refused: %llu\n", (unsigned long long)notes[1], (unsigned long long)notes[0]);
+}
+
+int LLVMFuzzerInitialize(int *argc, char ***argv);
+
+/* The samples of the folder SAMPLES, as seeds. */
+int LLVMFuzzerInitialize(int *argc, char ***argv) {
+    static char words[65536] = "-seed_inputs=";
+    const char *folder = getenv("SAMPLES");
+    atexit(tell);
+    if (folder == NULL) return 0;
+    struct dirent **names;
+    int count = scandir(folder, &names, NULL, alphasort);
+    if (count < 0) exit(2);
+    size_t used = strlen(words), number = 0;
+    for (int i = 0; i < count; i++) {
+        if (names[i]->d_name[0] == '.') continue;
+        used += (size_t)snprintf(words + used, sizeof words - used, "%s/proc/self/fd/%d", number > 0 ? "," : "", in_memory(folder, names[i]->d_name, number));
+        number++;
+        if (used >= sizeof words) exit(2);
+    }
+    char **more = calloc((size_t)*argc + 2, sizeof *more);
+    if (more == NULL) exit(2);
+    memcpy(more, *argv, (size_t)*argc * sizeof *more);
+    more[(*argc)++] = words;
+    *argv = more;
+    return 0;
+}
