@@ -10,13 +10,18 @@ use lib.Seq.{drop-drop}
 use Rattle.lists.proofs.Cases.{by-cond}
 use Rattle.slices.specs.Same.{same}
 use Rattle.slices.specs.Text.{text}
+use Rattle.slices.specs.Bytes.{byte}
 use Rattle.attributes.specs.Attribute.{piece, partOf}
+use Rattle.attributes.specs.Short.{vLen}
+use Rattle.attributes.proofs.Short.{byte-drop, v-piece, v-name, close-piece, empty-piece}
 use Rattle.attributes.specs.declared.Piece.{Piece}
 use Rattle.attributes.specs.declared.Piece.the-variants.{Attribute, Close, CloseEmpty, Torn}
-use Rattle.tags.specs.Known.{noted}
+use Rattle.tags.specs.Known.{noted, noneKnown}
 use Rattle.tags.specs.Tail.{Attr, Ends, closed, torn, onto, endsAfter, ends, keep, tail}
 use Rattle.tags.specs.declared.Span.{Span}
 use Rattle.tags.specs.declared.Known.{Known}
+use Rattle.tags.specs.declared.Tail.{Tail}
+use Rattle.tags.specs.declared.Tail.the-variants.{Shut, Breaks}
 
 skip : (k at : ℕ) (l : List ℕ) → endsAfter k at l ≡ endsAfter 0 (at + k) (drop k l)
 unfolding endsAfter
@@ -107,3 +112,29 @@ noted-v k {next} name value j e p q =
   where
     P : Known → Type 0
     P x = x .v .start + x .v .len ≤ j
+
+-- t is the part of the tag from i on, and b what `byte_at` answered there
+pub close-tail : (s : List ℕ) (i : ℕ) {t : List ℕ} {b : ℕ} → t ≡ drop i s → b ≡ byte t 0 → b ≡ 0x3E → i < length s
+    → Shut noneKnown false (i + 1) ≡ tail noneKnown (ends s i)
+unfolding tail keep
+close-tail s i {t} et e f h = sym (ap (tail noneKnown) (ends-close s i t et (piece t) refl 1 h (close-piece t (sym e ∙ f))))
+
+pub v-tail : (s : List ℕ) (i : ℕ) {t : List ℕ} {r a b : ℕ} → t ≡ drop i s → r ≡ vLen t → 0 < r → a ≡ byte t (r + 4) → a ≡ 0x2F → b ≡ byte t (r + 5) → b ≡ 0x3E
+    → i + (r + 5) < length s
+    → Shut (noted noneKnown (text "v") (record { start = i + 4; len = r - 1 })) true (i + (r + 6)) ≡ tail noneKnown (ends s i)
+unfolding tail keep
+v-tail s i {t} {r} et e h ea fa eb fb inside =
+    let j = i + (r + 4) in
+    let l = drop j s in
+    let el : l ≡ drop (r + 4) t = sym (ap (drop (r + 4)) et ∙ drop-drop (r + 4) i s) in
+    let p : piece l ≡ CloseEmpty 2 =
+        empty-piece l
+        (ap (λ (x : List ℕ). byte x 0) el ∙ byte-drop t (r + 4) 0 ∙ ap (byte t) (omega arith) ∙ sym ea ∙ fa)
+        (ap (λ (x : List ℕ). byte x 1) el ∙ byte-drop t (r + 4) 1 ∙ ap (byte t) (omega arith) ∙ sym eb ∙ fb) in
+    let first = ends-attribute s i t et (piece t) refl 1 1 4 (r - 1) (r + 4) (omega arith) (v-piece t e h) (omega arith) in
+    let last = ends-empty s j l refl (piece l) refl 2 (omega arith) p in
+    sym
+    (ap (tail noneKnown) (first ∙ ap (onto (attr i t 1 1 4 (r - 1))) last)
+    ∙ tail-onto noneKnown (attr i t 1 1 4 (r - 1)) (closed [] true (j + 2))
+    ∙ ap (λ (n : List ℕ). Shut (noted noneKnown n (record { start = i + 4; len = r - 1 })) true (j + 2)) (v-name t e h)
+    ∙ ap (Shut (noted noneKnown (text "v") (record { start = i + 4; len = r - 1 })) true) (omega arith))

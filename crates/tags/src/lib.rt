@@ -2,7 +2,9 @@
 use attributes::Piece;
 use attributes::part;
 use attributes::piece_at;
+use attributes::v_len;
 use slices::begins_with;
+use slices::byte_at;
 use slices::is_same;
 use slices::rest;
 ghost use mathlib.Core.Path.{_≡_};
@@ -76,6 +78,21 @@ impl Known {
         }
     }
 
+    // `v` and no other.
+    fn only_v(value: Span) -> Known
+        ensures { λ r. ⌜ r ≡ noted noneKnown (text "v") value ⌝ }
+    {
+        let absent = Span { start: 0, len: 0 };
+        Known {
+            v: value,
+            coding: absent,
+            version: absent,
+            others: false,
+            passable: true,
+            many: 1,
+        }
+    }
+
     // Ruled out: a value kept under another name; an attribute `vv` or `V` taken for `v`; `xsi` passed over.
     pub fn noted(mut self, name: &[u8], value: Span) -> Known
         ensures { λ r. ⌜ r ≡ noted self (now (name .entry)) value ⌝ }
@@ -108,9 +125,8 @@ pub enum Tail {
     Breaks,
 }
 
-// The rest of the tag at the front of s, from the place `from` on.
-// Ruled out: the value of another attribute; an empty tag taken for a start; a place before or past the `>`.
-pub fn tail_at(s: &[u8], from: usize) -> Tail
+// The rest of a tag of any attributes.
+fn any_tail(s: &[u8], from: usize) -> Tail
     ensures tail { λ r. ⌜ r ≡ tail noneKnown (ends (now (s .entry)) from) ⌝ }
     ensures size { λ r. ⌜ (1 ≤ tailUse r) × (tailUse r ≤ length (now (s .entry)) + 3) × (tailValue r ≤ tailUse r) ⌝ }
 {
@@ -137,4 +153,29 @@ pub fn tail_at(s: &[u8], from: usize) -> Tail
         }
     }
     Tail::Breaks
+}
+
+// The rest of the tag at the front of s, from the place `from` on. `>`, and `v` alone in an empty tag, which nearly every tag has, are told
+// with no turn of a loop.
+// Ruled out: the value of another attribute; an empty tag taken for a start; a place before or past the `>`.
+pub fn tail_at(s: &[u8], from: usize) -> Tail
+    ensures tail { λ r. ⌜ r ≡ tail noneKnown (ends (now (s .entry)) from) ⌝ }
+    ensures size { λ r. ⌜ (1 ≤ tailUse r) × (tailUse r ≤ length (now (s .entry)) + 3) × (tailValue r ≤ tailUse r) ⌝ }
+{
+    let t = rest(s, from);
+    if byte_at(t, 0) == 0x3E {
+        return Tail::Shut(Known::none(), false, from + 1);
+    }
+    let m = v_len(t);
+    if 0 < m {
+        if byte_at(t, m + 4) == 0x2F {
+            if byte_at(t, m + 5) == 0x3E {
+                let start = from + 4;
+                let len = m - 1;
+                let k = Known::only_v(Span { start, len });
+                return Tail::Shut(k, true, from + (m + 6));
+            }
+        }
+    }
+    any_tail(s, from)
 }
