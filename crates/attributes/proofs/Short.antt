@@ -9,7 +9,7 @@ use lib.Dec.{leb, ltb, eqb}
 use lib.ListN.{length, getD, drop, take, List·getD-eq-default, length-drop}
 use lib.Seq.{getD-drop}
 use borrow.Author.Tests.{le-leb, ne-eqb, eqb-true}
-use Rattle.lists.proofs.Cases.{bool-cases, leb-cases, ltb-cases, eqb-cases, past-cond, zero-not-one}
+use Rattle.lists.proofs.Cases.{bool-cases, leb-cases, ltb-cases, eqb-cases, never, both-true}
 use Rattle.slices.specs.Bytes.{byte}
 use Rattle.slices.specs.Run.{run}
 use Rattle.slices.specs.Text.{text}
@@ -37,16 +37,16 @@ common-in b e =
     (λ y.
     ⊎-elim
     (λ z. (omega (arith, y .0, z .0), z .0, λ w. omega (arith, y .0, w)))
-    (λ z. absurd (zero-not-one (let f = simp (y .1, z .1) at e in cc)))
+    (λ z. never (simp (y .1, z .1) at e))
     (ltb-cases b 0x80))
     (λ y.
     ⊎-elim
     (λ z.
     ⊎-elim
     (λ w. (z .0, omega (arith, w .0), λ v. omega (arith, w .0, v)))
-    (λ w. absurd (zero-not-one (let f = simp (y .1, z .1, w .1) at e in cc)))
+    (λ w. never (simp (y .1, z .1, w .1) at e))
     (ltb-cases b 0x3C))
-    (λ z. absurd (zero-not-one (let f = simp (y .1, z .1) at e in cc)))
+    (λ z. never (simp (y .1, z .1) at e))
     (leb-cases 0x28 b))
     (ltb-cases 0x3C b)
 
@@ -92,16 +92,12 @@ opened : (u : List ℕ) → piece (0x20 ∷ 0x76 ∷ 0x3D ∷ 0x22 ∷ u) ≡ at
 unfolding piece pieceAfter run white attribute nameStart attributeName nameByte opening openingFrom attributeQuote quote byte
 opened u = refl
 
-both : (t : Bool) {a : Bool} → cond t a false ≡ true → (t ≡ true) × (a ≡ true)
-both true e = (refl, e)
-both false e = absurd (zero-not-one (cc))
-
 opens : (t : List ℕ) → opensV t ≡ true → t ≡ 0x20 ∷ 0x76 ∷ 0x3D ∷ 0x22 ∷ drop 4 t
 unfolding opensV
 opens t e =
-    let a = both (eqb (byte t 3) 0x22) e in
-    let b = both (eqb (byte t 2) 0x3D) (a .1) in
-    let c = both (eqb (byte t 1) 0x76) (b .1) in
+    let a = both-true (eqb (byte t 3) 0x22) e in
+    let b = both-true (eqb (byte t 2) 0x3D) (a .1) in
+    let c = both-true (eqb (byte t 1) 0x76) (b .1) in
     shape t (eqb-true (byte t 0) 0x20 (c .1)) (eqb-true (byte t 1) 0x76 (c .0)) (eqb-true (byte t 2) 0x3D (b .0)) (eqb-true (byte t 3) 0x22 (a .0))
 
 pub byte-drop : (t : List ℕ) (k j : ℕ) → byte (drop k t) j ≡ byte t (k + j)
