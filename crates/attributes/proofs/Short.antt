@@ -128,6 +128,11 @@ v-piece t {r} e h =
     let b : 4 + n + 1 ≡ r + 4 = omega (arith, u .2) in
     ap piece (opens t (u .0)) ∙ opened (drop 4 t) ∙ ap (attributeEnd 1 1 4) v ∙ ap (λ (k : ℕ). Attribute 1 1 4 k (4 + n + 1)) a ∙ ap (Attribute 1 1 4 (r - 1)) b
 
+pub v-inside : (t : List ℕ) {r : ℕ} → r ≡ vLen t → 0 < r → r + 4 ≤ length t
+v-inside t e h =
+    let u = upto t e h in
+    omega (arith, u .2, byte-there t (run common (drop 4 t) + 4) (sym (u .1)) (omega arith))
+
 pub v-name : (t : List ℕ) {r : ℕ} → r ≡ vLen t → 0 < r → partOf t 1 1 ≡ text "v"
 unfolding partOf
 v-name t e h = ap (λ (l : List ℕ). take 1 (drop 1 l)) (opens t (upto t e h .0))
