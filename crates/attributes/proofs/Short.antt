@@ -75,7 +75,7 @@ common-value (b ∷ t) at e =
     let n : run common (b ∷ t) ≡ 0 = run-cons common b t ∙ ap (λ (x : Bool). cond x (suc (run common t)) 0) d in
     let q : b ≡ 0x22 = rw n at e in
     let step : valueNext 0x22 at (charAt (b ∷ t)) ≡ stop (Long at) =
-        ap (valueNext 0x22 at) (char-ascii (b ∷ t) (omega (arith, q)) ∙ ap single q) ∙ quote-step at in
+    ap (valueNext 0x22 at) (char-ascii (b ∷ t) (omega (arith, q)) ∙ ap single q) ∙ quote-step at in
     rw (walk, step) (ap Long (rw n (omega arith))))
     (bool-cases (common b))
 

@@ -181,7 +181,7 @@ module _ (i m u : ℕ) (k : Known) (eu : u ≡ vUse m) (ek : k ≡ firstKnown i 
         let l = drop (i + u) s in
         let el : l ≡ drop u t = sym (ap (drop u) et ∙ drop-drop u i s) in
         let p : piece l ≡ CloseEmpty 2 =
-            empty-piece l
-            (ap (λ (y : List ℕ). byte y 0) el ∙ byte-drop t u 0 ∙ ap (byte t) (omega arith) ∙ sym ea ∙ fa)
-            (ap (λ (y : List ℕ). byte y 1) el ∙ byte-drop t u 1 ∙ ap (byte t) (omega arith) ∙ sym eb ∙ fb) in
+        empty-piece l
+        (ap (λ (y : List ℕ). byte y 0) el ∙ byte-drop t u 0 ∙ ap (byte t) (omega arith) ∙ sym ea ∙ fa)
+        (ap (λ (y : List ℕ). byte y 1) el ∙ byte-drop t u 1 ∙ ap (byte t) (omega arith) ∙ sym eb ∙ fb) in
         sym (ap (tail k) (ends-empty s (i + u) l refl (piece l) refl 2 (omega arith) p))

@@ -41,12 +41,11 @@ add-t11 c = search needs
 
 returns-2 : tie.Need-returns-2
 unfolding noneKnown absent
-returns-2 c =
-    (
-      ap (λ (k : Known). Shut k false (c .before .before .before .before .before .before .args .from + 1)) (c .none .ensures)
-          ∙ close-tail (c .before .before .before .before .before .before .args .s .now) (c .before .before .before .before .before .before .args .from) (c .before .before .before .rest .ensures .0) (c .before .before .byte-at .ensures) (c .before .if2 .taken) (c .before .before .before .before .if1 .left),
-      rw (c .none .ensures) (omega (arith, c .before .before .before .before .if1 .left)),
-    )
+returns-2 c = (
+  ap (λ (k : Known). Shut k false (c .before .before .before .before .before .before .args .from + 1)) (c .none .ensures)
+      ∙ close-tail (c .before .before .before .before .before .before .args .s .now) (c .before .before .before .before .before .before .args .from) (c .before .before .before .rest .ensures .0) (c .before .before .byte-at .ensures) (c .before .if2 .taken) (c .before .before .before .before .if1 .left),
+  rw (c .none .ensures) (omega (arith, c .before .before .before .before .if1 .left)),
+)
 
 v-len-requires : tie.Need-v-len-requires
 v-len-requires c κs = search needs
@@ -84,8 +83,7 @@ returns-3 c =
     let h = byte-there _ _ (c .before .byte-at3 .ensures) (omega (arith, c .if5 .taken)) in
     let i : c .before .before .before .before .before .before .before .before .before .before .before .before .before .args .from + (c .before .before .before .before .before .before .before .v-len .result + 5) < length (c .before .before .before .before .before .before .before .before .before .before .before .before .before .args .s .now) = omega (arith, h, c .before .before .before .before .before .before .before .before .before .before .rest .ensures .1) in
     let f = first-inside (c .before .before .before .before .before .before .before .before .before .before .before .before .before .args .from) (c .before .before .before .before .before .before .before .v-len .result) (c .before .before .before .before .before .v-use .result) (c .before .before .before .before .before .before .first-known .result) (c .before .before .before .before .before .v-use .ensures) (c .before .before .before .before .before .before .first-known .ensures) (c .before .before .before .before .before .before .before .before .before .before .before .before .before .args .s .now) (c .before .before .before .before .before .before .before .before .before .before .rest .ensures .0) (c .before .before .before .before .before .before .before .v-len .ensures .0) in
-    let v = first-v (c .before .before .before .before .before .before .before .before .before .before .before .before .before .args .from) (c .before .before .before .before .before .before .before .v-len .result) (c .before .before .before .before .before .v-use .result) (c .before .before .before .before .before .before .first-known .result) (c .before .before .before .before .before .v-use .ensures) (c .before .before .before .before .before .before .first-known .ensures) in
-    (
+    let v = first-v (c .before .before .before .before .before .before .before .before .before .before .before .before .before .args .from) (c .before .before .before .before .before .before .before .v-len .result) (c .before .before .before .before .before .v-use .result) (c .before .before .before .before .before .before .first-known .result) (c .before .before .before .before .before .v-use .ensures) (c .before .before .before .before .before .before .first-known .ensures) in (
       first-empty (c .before .before .before .before .before .before .before .before .before .before .before .before .before .args .from) (c .before .before .before .before .before .before .before .v-len .result) (c .before .before .before .before .before .v-use .result) (c .before .before .before .before .before .before .first-known .result) (c .before .before .before .before .before .v-use .ensures) (c .before .before .before .before .before .before .first-known .ensures) (c .before .before .before .before .before .before .before .before .before .before .before .before .before .args .s .now) (c .before .before .before .before .before .before .before .before .before .before .rest .ensures .0) (c .before .before .before .before .before .before .before .v-len .ensures .0) (c .before .before .before .before .if3 .taken) (c .before .before .before .byte-at2 .ensures) (c .before .before .if4 .taken) (c .before .byte-at3 .ensures) (c .if5 .taken) i
           ∙ first-tail (c .before .before .before .before .before .before .before .before .before .before .before .before .before .args .from) (c .before .before .before .before .before .before .before .v-len .result) (c .before .before .before .before .before .v-use .result) (c .before .before .before .before .before .before .first-known .result) (c .before .before .before .before .before .v-use .ensures) (c .before .before .before .before .before .before .first-known .ensures) (c .before .before .before .before .before .before .before .before .before .before .before .before .before .args .s .now) (c .before .before .before .before .before .before .before .before .before .before .rest .ensures .0) (c .before .before .before .before .before .before .before .v-len .ensures .0) (c .before .before .before .before .before .before .before .before .before .before .before .if1 .left),
       omega (arith, f, v, c .before .before .before .before .before .before .before .before .before .before .rest .ensures .1, c .before .before .before .before .before .before .before .before .before .before .before .if1 .left),
