@@ -1,3 +1,4 @@
 pub mod Values
 pub mod Named
+pub mod Short
 pub mod Unique

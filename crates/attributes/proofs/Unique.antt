@@ -8,6 +8,7 @@ use Rattle.lists.proofs.Unique.{one}
 use Rattle.slices.specs.Run.{run}
 use Rattle.attributes.specs.Names.{nameStart, nameByte, white}
 use Rattle.attributes.specs.Attribute.{piece, partOf}
+use Rattle.attributes.specs.Short.{vLen}
 use Rattle.attributes.specs.declared.Piece.{Piece}
 
 pub is-name-start-one : (b : ℕ) {r r′ : Bool} → r ≡ nameStart b → r′ ≡ nameStart b → r ≡ r′
@@ -24,3 +25,6 @@ piece-at-one s = one
 
 pub part-one : (s : List ℕ) (at n : ℕ) {r r′ : List ℕ} → r ≡ partOf s at n → r′ ≡ partOf s at n → r ≡ r′
 part-one s at n = one
+
+pub v-len-one : (s : List ℕ) {r r′ : ℕ} → r ≡ vLen s → r′ ≡ vLen s → r ≡ r′
+v-len-one s = one

@@ -1,2 +1,3 @@
 pub mod Names
 pub mod Attribute
+pub mod Short

@@ -9,6 +9,7 @@ ghost use Prim.Native.Nat.{_+_, _≤_};
 ghost use lib.ListN.{length};
 ghost use Rattle.slices.specs.Run.{run};
 ghost use Rattle.attributes.specs.Names.{nameStart, nameByte, white};
+ghost use Rattle.attributes.specs.Short.{common, opensV, vLen};
 ghost use Rattle.attributes.specs.Attribute.{quote, fit, plain, value, valueEnd, opening, attribute, piece, pieceUse, pieceValue, partOf};
 
 // Whether a name may begin with the byte.
@@ -249,6 +250,63 @@ pub fn piece_at(s: &[u8]) -> Piece
         return Piece::Torn;
     }
     attribute_at(s, w)
+}
+
+// Whether the byte is one of those that values are mostly made of: letters, digits, and no quote, `<`, `&`, space or longer character.
+fn is_common(b: u8) -> bool
+    ensures { λ r. ⌜ r ≡ common b ⌝ }
+{
+    if 0x3C < b {
+        b < 0x80
+    } else if 0x28 <= b {
+        b < 0x3C
+    } else {
+        false
+    }
+}
+
+fn common_len(s: &[u8]) -> usize
+    ensures run { λ r. ⌜ r ≡ run common (now (s .entry)) ⌝ }
+    ensures size { λ r. ⌜ r ≤ length (now (s .entry)) ⌝ }
+{
+    let mut i = 0;
+    while i < s.len() {
+        if is_common(s[i]) {
+            i += 1;
+        } else {
+            return i;
+        }
+    }
+    i
+}
+
+// Whether s begins with ` v="`. From the last byte on, since where that is there the others are too.
+fn opens_v(s: &[u8]) -> bool
+    ensures { λ r. ⌜ r ≡ opensV (now (s .entry)) ⌝ }
+{
+    if byte_at(s, 3) == 0x22 {
+        if byte_at(s, 2) == 0x3D {
+            if byte_at(s, 1) == 0x76 {
+                return byte_at(s, 0) == 0x20;
+            }
+        }
+    }
+    false
+}
+
+// One more than the length of the value, where s begins with ` v="`, common bytes and `"`; else 0. Nearly every attribute is of this form.
+// Ruled out: the length of a value that has no end, or of another attribute's; 0 for an empty value.
+pub fn v_len(s: &[u8]) -> usize
+    ensures len { λ r. ⌜ r ≡ vLen (now (s .entry)) ⌝ }
+    ensures size { λ r. ⌜ r ≤ length (now (s .entry)) + 1 ⌝ }
+{
+    if opens_v(s) {
+        let m = common_len(rest(s, 4));
+        if byte_at(s, m + 4) == 0x22 {
+            return m + 1;
+        }
+    }
+    0
 }
 
 // The n bytes of s from at on, fewer where s ends before.

@@ -18,7 +18,8 @@ use Rattle.reader.specs.Items.{Placed, placed, itemsAfter, itemsFrom}
 use Rattle.numbers.specs.Alike.{Alike, none, next}
 use Rattle.numbers.proofs.Blind.{alike-drop}
 use Rattle.digits.specs.Items.{InV, Stands, Laid}
-use Rattle.digits.proofs.Places.{alike-by, byte-drop}
+use Rattle.attributes.proofs.Short.{byte-drop}
+use Rattle.digits.proofs.Places.{alike-by}
 use Rattle.digits.proofs.Parts.{item-laid}
 use Rattle.digits.proofs.Begins.{begin-same}
 use Rattle.blindness.specs.Readable.{InQtyTag, InQty, InQtyAfter, QtyDigit, DifferInQty}

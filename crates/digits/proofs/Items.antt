@@ -23,7 +23,8 @@ use Rattle.pictures.specs.Picture.{digit}
 use Rattle.numbers.specs.Alike.{Alike}
 use Rattle.numbers.proofs.Blind.{alike-drop}
 use Rattle.digits.specs.Items.{InSpan, InV, SameButV}
-use Rattle.digits.proofs.Places.{alike-sym, alike-byte, byte-drop}
+use Rattle.attributes.proofs.Short.{byte-drop}
+use Rattle.digits.proofs.Places.{alike-sym, alike-byte}
 use Rattle.digits.proofs.Tests.{like-test, blind-nameByte, blind-nameStart}
 use Rattle.digits.proofs.Runs.{alike-run}
 use Rattle.digits.proofs.Pieces.{alike-mark}

@@ -5,7 +5,6 @@ use mathlib.Core.List.{List, [], _∷_}
 use mathlib.Core.Logic.{inl, inr, _↔_}
 use native.Mathlib.Omega.{arith}
 use lib.ListN.{length, take, drop}
-use lib.Seq.{getD-drop}
 use Rattle.slices.specs.Bytes.{byte}
 use Rattle.attributes.specs.Attribute.{partOf}
 use Rattle.numbers.specs.Alike.{Like, Alike, none, next}
@@ -67,7 +66,3 @@ part-same zero (suc n) (next {c} {d} {x} {y} e r) h =
     rw (first, rest)
 part-same (suc at) n none h = refl
 part-same (suc at) n (next e r) h = part-same at n r (λ i p q. h (suc i) (omega arith) (omega arith))
-
-pub byte-drop : (x : List ℕ) (n i : ℕ) → byte (drop n x) i ≡ byte x (n + i)
-unfolding byte
-byte-drop x n i = getD-drop n x i 0

@@ -1,3 +1,4 @@
+pub mod Lasts
 pub mod Ran
 pub mod Sheets
 pub mod Spans

@@ -156,15 +156,15 @@ fn clear_tables(series: &mut [u32], positions: &mut [u32], amounts: &mut [i64])
 }
 
 // An item moves the state, or is refused.
-fn step_in(
+fn step_in<'a>(
     doc: &[u8],
     t: &[u32],
     room: Room,
     item: Item,
     s: &[u8],
     st: State,
-    one: &[usize],
-    two: &[usize],
+    one: &'a [usize],
+    two: &'a [usize],
 ) -> Step
     ensures { λ r. ⌜ r ≡ withoutUsed (now (doc .entry)) (now (t .entry)) item (now (s .entry)) (step st (now (one .entry)) (now (two .entry)) item (now (s .entry)) room) ⌝ }
 {

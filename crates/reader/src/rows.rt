@@ -15,6 +15,7 @@ use trims::trimmed;
 ghost use mathlib.Core.Path.{_≡_};
 ghost use Prim.Native.Nat.{_+_, _-_, _*_, _≤_};
 ghost use lib.ListN.{getD, length};
+ghost use Rattle.slices.specs.Bytes.{byte};
 ghost use Rattle.slices.specs.Run.{run};
 ghost use Rattle.slices.specs.Same.{same};
 ghost use Rattle.characters.specs.Says.{says};
@@ -163,14 +164,27 @@ fn number_at(t: &[u32], i: usize) -> u32
     if i < t.len() { t[i] } else { 0 }
 }
 
-// Whether row i shows this identification.
+fn last_byte(s: &[u8]) -> u8
+    ensures { λ r. ⌜ r ≡ byte (now (s .entry)) (length (now (s .entry)) - 1) ⌝ }
+{
+    if s.len() == 0 {
+        return 0;
+    }
+    s[s.len() - 1]
+}
+
+// Whether row i shows this identification. Those of one document mostly differ at the end, so that is looked at first.
 fn is_shown(doc: &[u8], t: &[u32], i: u32, id: &[u8]) -> bool
     ensures { λ r. ⌜ r ≡ same (identificationAt (now (doc .entry)) (now (t .entry)) i) (now (id .entry)) ⌝ }
 {
     let k = 8 * (i as usize);
     let start = number_at(t, k) as usize;
     let len = number_at(t, k + 1) as usize;
-    is_same(part(doc, start, len), id)
+    let shown = part(doc, start, len);
+    if last_byte(shown) == last_byte(id) {
+        return is_same(shown, id);
+    }
+    false
 }
 
 // Whether one of the first n rows shows this identification.

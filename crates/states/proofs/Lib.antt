@@ -1,2 +1,3 @@
+pub mod Openings
 pub mod Lists
 pub mod Unique

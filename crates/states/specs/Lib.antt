@@ -1,2 +1,3 @@
 pub mod Attributes
+pub mod Opening
 pub mod Moves

@@ -23,11 +23,13 @@ use tags::Span;
 use times::quarter_hours;
 use trims::trimmed;
 ghost use mathlib.Core.Path.{_≡_};
+ghost use mathlib.Core.Bool.{cond};
 ghost use Prim.Native.Nat.{_-_};
 ghost use lib.Dec.{eqb};
 ghost use lib.ListN.{getD};
 ghost use Rattle.guideline.specs.Columns.{roleOf};
 ghost use Rattle.states.specs.Attributes.{there, agree, asksV, asksScheme, noOthers, attributesFit, valueOf, schemeRefusal, least, judgeTag};
+ghost use Rattle.states.specs.Opening.{openingOf, nameIn};
 ghost use Rattle.states.specs.Moves.{oneMore, cutShort, begun, heldOf, tooMany, noRoom, halfOriginals, valuesJudged, startJudged, entered, entryOf, started, closedAt, endRefusal, ended, moved, kindTold, step};
 
 pub struct State {
@@ -282,6 +284,46 @@ fn is_cut_short(empty: bool, rows: &[usize], row: usize) -> bool
     false
 }
 
+// The rows of the kind.
+fn rows_of<'a>(kind: u32, one: &'a [usize], two: &'a [usize]) -> &'a [usize]
+    ensures { λ r. ⌜ now r ≡ cond (eqb kind 1) (now (one .entry)) (now (two .entry)) ⌝ }
+{
+    if kind == 1 { one } else { two }
+}
+
+// The tag of an item that opens an element, and whether it is an empty one.
+enum Opening {
+    By(Tag, bool),
+    Not,
+}
+
+fn opening_of(item: Item) -> Opening
+    ensures { λ r. ⌜ r ≡ openingOf item ⌝ }
+{
+    match item {
+        Item::Start(t) => Opening::By(t, false),
+        Item::Empty(t) => Opening::By(t, true),
+        Item::End(_, _) => Opening::Not,
+        Item::Text(_, _) => Opening::Not,
+        Item::Comment(_) => Opening::Not,
+        Item::Refused(_) => Opening::Not,
+    }
+}
+
+// The name of a tag, and of any other item none.
+fn name_in(item: Item, s: &[u8]) -> &[u8]
+    ensures { λ r. ⌜ now r ≡ nameIn item (now (s .entry)) ⌝ }
+{
+    match item {
+        Item::Start(t) => part(s, 1, t.name),
+        Item::Empty(t) => part(s, 1, t.name),
+        Item::End(n, _) => part(s, 2, n),
+        Item::Text(_, _) => part(s, 0, 0),
+        Item::Comment(_) => part(s, 0, 0),
+        Item::Refused(_) => part(s, 0, 0),
+    }
+}
+
 impl State {
     // Before the first item: the document as a whole is open.
     // Ruled out: a kind before the root; a count that is not 0.
@@ -533,26 +575,14 @@ impl State {
     fn moved(self, kind: u32, rows: &[usize], item: Item, s: &[u8], room: Room) -> Step
         ensures { λ r. ⌜ r ≡ moved self kind (now (rows .entry)) item (now (s .entry)) room ⌝ }
     {
+        let name = element_no(name_in(item, s));
+        if let Opening::By(t, empty) = opening_of(item) {
+            return self.started(kind, rows, name, t, s, empty, room);
+        }
         match item {
-            Item::Start(t) => self.started(
-                kind,
-                rows,
-                element_no(part(s, 1, t.name)),
-                t,
-                s,
-                false,
-                room,
-            ),
-            Item::Empty(t) => self.started(
-                kind,
-                rows,
-                element_no(part(s, 1, t.name)),
-                t,
-                s,
-                true,
-                room,
-            ),
-            Item::End(n, _) => self.ended(rows, element_no(part(s, 2, n))),
+            Item::Start(_) => Step::Refused(2),
+            Item::Empty(_) => Step::Refused(2),
+            Item::End(_, _) => self.ended(rows, name),
             Item::Text(white, _) => {
                 if white {
                     return Step::Next(self, Entry::Nothing);
@@ -583,13 +613,17 @@ impl State {
 
     // One item moves the state, or is refused. `one` and `two` are the rows of the kinds.
     // Ruled out: an element that is not due taken; a refusal of a larger number where the item has a smaller; a count that a refused item moved.
-    pub fn step(self, one: &[usize], two: &[usize], item: Item, s: &[u8], room: Room) -> Step
+    pub fn step<'a>(
+        self,
+        one: &'a [usize],
+        two: &'a [usize],
+        item: Item,
+        s: &[u8],
+        room: Room,
+    ) -> Step
         ensures { λ r. ⌜ r ≡ step self (now (one .entry)) (now (two .entry)) item (now (s .entry)) room ⌝ }
     {
         let kind = self.kind_told(item, s);
-        if kind == 1 {
-            return self.moved(kind, one, item, s, room);
-        }
-        self.moved(kind, two, item, s, room)
+        self.moved(kind, rows_of(kind, one, two), item, s, room)
     }
 }

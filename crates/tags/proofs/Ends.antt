@@ -2,21 +2,30 @@
 use Prim.Native.Nat.{ℕ, zero, suc, pred, _+_, _-_, _≤_, _<_}
 use mathlib.Core.Path.{_≡_, refl, sym, ap, _∙_}
 use mathlib.Core.List.{List, [], _∷_}
-use mathlib.Core.Bool.{Bool, true, false}
+use mathlib.Core.Bool.{Bool, true, false, cond}
 use native.Mathlib.Omega.{arith}
 use native.Mathlib.Nat.{add-zero}
 use lib.ListN.{length, drop, drop-of-length-le, length-drop}
 use lib.Seq.{drop-drop}
-use Rattle.lists.proofs.Cases.{by-cond}
+use lib.Dec.{eqb}
+use mathlib.Core.Logic.{⊎-elim}
+use borrow.Author.Tests.{ne-eqb}
+use Rattle.lists.proofs.Cases.{by-cond, eqb-cases, ltb-cases}
 use Rattle.slices.specs.Same.{same}
 use Rattle.slices.specs.Text.{text}
+use Rattle.slices.specs.Bytes.{byte}
 use Rattle.attributes.specs.Attribute.{piece, partOf}
+use Rattle.attributes.specs.Short.{vLen}
+use Rattle.attributes.proofs.Short.{byte-drop, v-inside, v-piece, v-name, close-piece, empty-piece}
 use Rattle.attributes.specs.declared.Piece.{Piece}
 use Rattle.attributes.specs.declared.Piece.the-variants.{Attribute, Close, CloseEmpty, Torn}
-use Rattle.tags.specs.Known.{noted}
+use Rattle.tags.specs.Known.{noted, noneKnown, absent}
+use Rattle.tags.specs.First.{vUse, firstKnown}
 use Rattle.tags.specs.Tail.{Attr, Ends, closed, torn, onto, endsAfter, ends, keep, tail}
 use Rattle.tags.specs.declared.Span.{Span}
 use Rattle.tags.specs.declared.Known.{Known}
+use Rattle.tags.specs.declared.Tail.{Tail}
+use Rattle.tags.specs.declared.Tail.the-variants.{Shut, Breaks}
 
 skip : (k at : ℕ) (l : List ℕ) → endsAfter k at l ≡ endsAfter 0 (at + k) (drop k l)
 unfolding endsAfter
@@ -107,3 +116,72 @@ noted-v k {next} name value j e p q =
   where
     P : Known → Type 0
     P x = x .v .start + x .v .len ≤ j
+
+-- t is the part of the tag from i on, and b what `byte_at` answered there
+pub close-tail : (s : List ℕ) (i : ℕ) {t : List ℕ} {b : ℕ} → t ≡ drop i s → b ≡ byte t 0 → b ≡ 0x3E → i < length s
+    → Shut noneKnown false (i + 1) ≡ tail noneKnown (ends s i)
+unfolding tail keep
+close-tail s i {t} et e f h = sym (ap (tail noneKnown) (ends-close s i t et (piece t) refl 1 h (close-piece t (sym e ∙ f))))
+
+pos : (m : ℕ) → (m ≡ 0 → ⊥) → 0 < m
+pos m h = ⊎-elim (λ y. y .0) (λ y. absurd (h (omega (arith, y .0)))) (ltb-cases 0 m)
+
+-- m is what `v_len` answered, u how many bytes that is, and k what is known after them
+module _ (i m u : ℕ) (k : Known) (eu : u ≡ vUse m) (ek : k ≡ firstKnown i m) where
+  use-none : eqb m 0 ≡ true → u ≡ 0
+  unfolding vUse
+  use-none z = eu ∙ ap (λ (x : Bool). cond x 0 (m + 4)) z
+
+  use-some : eqb m 0 ≡ false → u ≡ m + 4
+  unfolding vUse
+  use-some z = eu ∙ ap (λ (x : Bool). cond x 0 (m + 4)) z
+
+  known-none : eqb m 0 ≡ true → k ≡ noneKnown
+  unfolding firstKnown
+  known-none z = ek ∙ ap (λ (x : Bool). cond x noneKnown (noted noneKnown (text "v") (record { start = i + 4; len = m - 1 }))) z
+
+  known-some : eqb m 0 ≡ false → k ≡ noted noneKnown (text "v") (record { start = i + 4; len = m - 1 })
+  unfolding firstKnown
+  known-some z = ek ∙ ap (λ (x : Bool). cond x noneKnown (noted noneKnown (text "v") (record { start = i + 4; len = m - 1 }))) z
+
+  pub first-v : k .v .start + k .v .len ≤ i + u
+  unfolding noneKnown absent
+  first-v =
+      ⊎-elim
+      (λ z. rw (known-none (z .1)) (omega arith))
+      (λ z.
+      let n : 0 < m = pos m (z .0) in
+      noted-v noneKnown (text "v") (record { start = i + 4; len = m - 1 }) (i + u) (known-some (z .1)) (omega arith) (omega (arith, use-some (z .1), n)))
+      (eqb-cases m 0)
+
+  module _ (s : List ℕ) {t : List ℕ} (et : t ≡ drop i s) (em : m ≡ vLen t) where
+    pub first-inside : u ≤ length t
+    first-inside =
+        ⊎-elim
+        (λ z. omega (arith, use-none (z .1)))
+        (λ z. omega (arith, use-some (z .1), v-inside t em (pos m (z .0))))
+        (eqb-cases m 0)
+
+    pub first-tail : i < length s → tail k (ends s (i + u)) ≡ tail noneKnown (ends s i)
+    first-tail h =
+        ⊎-elim
+        (λ z. rw (known-none (z .1), use-none (z .1), add-zero) refl)
+        (λ z.
+        let n : 0 < m = pos m (z .0) in
+        rw (use-some (z .1))
+        (tail-attribute s i noneKnown et refl h (v-piece t em n) (omega arith) (sym (v-name t em n)) (known-some (z .1))))
+        (eqb-cases m 0)
+
+    -- with `/>` after it; a and b are the two bytes
+    pub first-empty : {a b : ℕ} → 0 < m → a ≡ byte t (m + 4) → a ≡ 0x2F → b ≡ byte t (m + 5) → b ≡ 0x3E → i + (m + 5) < length s
+        → Shut k true (i + u + 2) ≡ tail k (ends s (i + u))
+    unfolding tail keep
+    first-empty n ea fa eb fb h =
+        let x : u ≡ m + 4 = use-some (ne-eqb m 0 (λ e. omega arith)) in
+        let l = drop (i + u) s in
+        let el : l ≡ drop u t = sym (ap (drop u) et ∙ drop-drop u i s) in
+        let p : piece l ≡ CloseEmpty 2 =
+        empty-piece l
+        (ap (λ (y : List ℕ). byte y 0) el ∙ byte-drop t u 0 ∙ ap (byte t) (omega arith) ∙ sym ea ∙ fa)
+        (ap (λ (y : List ℕ). byte y 1) el ∙ byte-drop t u 1 ∙ ap (byte t) (omega arith) ∙ sym eb ∙ fb) in
+        sym (ap (tail k) (ends-empty s (i + u) l refl (piece l) refl 2 (omega arith) p))

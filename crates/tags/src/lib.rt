@@ -2,7 +2,9 @@
 use attributes::Piece;
 use attributes::part;
 use attributes::piece_at;
+use attributes::v_len;
 use slices::begins_with;
+use slices::byte_at;
 use slices::is_same;
 use slices::rest;
 ghost use mathlib.Core.Path.{_≡_};
@@ -11,6 +13,7 @@ ghost use lib.ListN.{length};
 ghost use Rattle.slices.specs.Same.{same};
 ghost use Rattle.slices.specs.Text.{text};
 ghost use Rattle.tags.specs.Known.{passedOver, oneMore, noted, noneKnown};
+ghost use Rattle.tags.specs.First.{vUse, firstKnown};
 ghost use Rattle.tags.specs.Tail.{ends, tail, tailUse, tailValue};
 
 fn is_passed_over(name: &[u8]) -> bool
@@ -76,6 +79,21 @@ impl Known {
         }
     }
 
+    // `v` and no other.
+    fn only_v(value: Span) -> Known
+        ensures { λ r. ⌜ r ≡ noted noneKnown (text "v") value ⌝ }
+    {
+        let absent = Span { start: 0, len: 0 };
+        Known {
+            v: value,
+            coding: absent,
+            version: absent,
+            others: false,
+            passable: true,
+            many: 1,
+        }
+    }
+
     // Ruled out: a value kept under another name; an attribute `vv` or `V` taken for `v`; `xsi` passed over.
     pub fn noted(mut self, name: &[u8], value: Span) -> Known
         ensures { λ r. ⌜ r ≡ noted self (now (name .entry)) value ⌝ }
@@ -108,13 +126,13 @@ pub enum Tail {
     Breaks,
 }
 
-// The rest of the tag at the front of s, from the place `from` on.
-// Ruled out: the value of another attribute; an empty tag taken for a start; a place before or past the `>`.
-pub fn tail_at(s: &[u8], from: usize) -> Tail
-    ensures tail { λ r. ⌜ r ≡ tail noneKnown (ends (now (s .entry)) from) ⌝ }
+// The rest of a tag, where this is known of the attributes before it.
+fn any_tail(s: &[u8], from: usize, known: Known) -> Tail
+    requires { ⌜ known .v .start + known .v .len ≤ from ⌝ }
+    ensures tail { λ r. ⌜ r ≡ tail known (ends (now (s .entry)) from) ⌝ }
     ensures size { λ r. ⌜ (1 ≤ tailUse r) × (tailUse r ≤ length (now (s .entry)) + 3) × (tailValue r ≤ tailUse r) ⌝ }
 {
-    let mut k = Known::none();
+    let mut k = known;
     let mut i = from;
     while i < s.len() {
         let t = rest(s, i);
@@ -137,4 +155,52 @@ pub fn tail_at(s: &[u8], from: usize) -> Tail
         }
     }
     Tail::Breaks
+}
+
+// How many bytes `v` takes in its shortest form, where m is its `v_len`.
+fn v_use(m: usize) -> usize
+    requires { ⌜ m + 4 ≤ 18446744073709551615 ⌝ }
+    ensures { λ r. ⌜ r ≡ vUse m ⌝ }
+{
+    if m == 0 { 0 } else { m + 4 }
+}
+
+// What is known after it, where it begins at the place `from`.
+fn first_known(from: usize, m: usize) -> Known
+    requires { ⌜ from + 4 ≤ 18446744073709551615 ⌝ }
+    ensures { λ r. ⌜ r ≡ firstKnown from m ⌝ }
+{
+    if m == 0 {
+        return Known::none();
+    }
+    let start = from + 4;
+    let len = m - 1;
+    Known::only_v(Span { start, len })
+}
+
+// The rest of the tag at the front of s, from the place `from` on. `>`, and `v` alone in an empty tag, which nearly every tag has, are told
+// with no turn of a loop.
+// Ruled out: the value of another attribute; an empty tag taken for a start; a place before or past the `>`.
+pub fn tail_at(s: &[u8], from: usize) -> Tail
+    ensures tail { λ r. ⌜ r ≡ tail noneKnown (ends (now (s .entry)) from) ⌝ }
+    ensures size { λ r. ⌜ (1 ≤ tailUse r) × (tailUse r ≤ length (now (s .entry)) + 3) × (tailValue r ≤ tailUse r) ⌝ }
+{
+    if s.len() <= from {
+        return Tail::Breaks;
+    }
+    let t = rest(s, from);
+    if byte_at(t, 0) == 0x3E {
+        return Tail::Shut(Known::none(), false, from + 1);
+    }
+    let m = v_len(t);
+    let k = first_known(from, m);
+    let i = from + v_use(m);
+    if 0 < m {
+        if byte_at(t, m + 4) == 0x2F {
+            if byte_at(t, m + 5) == 0x3E {
+                return Tail::Shut(k, true, i + 2);
+            }
+        }
+    }
+    any_tail(s, i, k)
 }

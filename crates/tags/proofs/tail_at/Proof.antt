@@ -1,129 +1,119 @@
-use Prim.Native.Nat.{_+_, _-_, _≤_}
+use borrow.Author.Tests.{eq-eqb, le-leb, le-ltb, lt-leb, lt-ltb, ne-eqb}
+use Rattle.tags.specs.Tail.{keep, tail}
+use Prim.Native.Nat.{_+_, _-_, _≤_, _<_}
 use mathlib.Core.Path.{_≡_, refl, sym, ap, _∙_}
-use lib.ListN.{length}
+use mathlib.Core.Bool.{true, false}
 use native.Mathlib.Omega.{arith}
-use borrow.Author.Needs.{needs}
+use lib.ListN.{length}
+use Rattle.attributes.proofs.Short.{byte-there}
 use Rattle.tags.specs.Known.{noneKnown, absent}
-use Rattle.tags.specs.Tail.{ends, tail, keep}
 use Rattle.tags.specs.declared.Known.{Known}
-use Rattle.tags.proofs.Ends.{tail-attribute, noted-v, ends-close, ends-empty, ends-torn, ends-over}
+use Rattle.tags.specs.declared.Tail.the-variants.{Shut, Breaks}
+use Rattle.tags.proofs.Ends.{ends-over, close-tail, first-v, first-inside, first-tail, first-empty}
+use borrow.Author.Needs.{needs}
 use Rattle.tags.proofs.tail_at.Statement.{statement}
 use Rattle.tags.proofs.tail_at.Tie as tie
 use Rattle.tags.proofs.tail_at.Reads as reads
 use Rattle.tags.proofs.tail_at.Lts as lts
-use Rattle.attributes.proofs.part.Reads as part-reads
-use Rattle.attributes.proofs.piece_at.Reads as piece-at-reads
+use Rattle.attributes.proofs.v_len.Reads as v-len-reads
+use Rattle.slices.proofs.byte_at.Reads as byte-at-reads
 use Rattle.slices.proofs.rest.Reads as rest-reads
 use Rattle.tags.proofs.Known.none.Reads as none-reads
-use Rattle.tags.proofs.Known.noted.Reads as noted-reads
+use Rattle.tags.proofs.any_tail.Reads as any-tail-reads
+use Rattle.tags.proofs.first_known.Reads as first-known-reads
+use Rattle.tags.proofs.v_use.Reads as v-use-reads
 
-abbrev Inv-loop : tie.InvT-loop
-Inv-loop s from k₀ i₀ k i = (tail k (ends s i) ≡ tail noneKnown (ends s from)) × (k .v .start + k .v .len ≤ i)
+returns : tie.Need-returns
+unfolding tail
+returns c = (sym (ap (tail noneKnown) (ends-over (c .before .before .args .s .now) (c .before .before .args .from) (c .if1 .taken))), omega arith)
 
-abbrev μ-loop : tie.MeasureT-loop
-μ-loop s from k₀ i₀ k i = length s - i
-
-none-requires : tie.Need-none-requires Inv-loop μ-loop
-none-requires c κs = search needs
-
-loop-holds : tie.Need-loop-holds Inv-loop μ-loop
-unfolding noneKnown absent
-loop-holds c = (ap (λ (k : Known). tail k (ends (c .before .before .args .s .now) (c .before .before .args .from))) (c .none .ensures), rw (c .none .ensures) (omega arith))
-
-rest-requires : tie.Need-rest-requires Inv-loop μ-loop
+rest-requires : tie.Need-rest-requires
 rest-requires c κs = search needs
 
-piece-at-requires : tie.Need-piece-at-requires Inv-loop μ-loop
-piece-at-requires c κs = search needs
+byte-at-requires : tie.Need-byte-at-requires
+byte-at-requires c κs = search needs
 
-enum-known-at : tie.Need-enum-known-at Inv-loop μ-loop
-enum-known-at c = search needs
+none-requires : tie.Need-none-requires
+none-requires c κs = search needs
 
-add-start : tie.Need-add-start Inv-loop μ-loop
-add-start c = omega (arith, rw (c .before .at .given .1) at (c .before .before .before .piece-at .ensures .1), c .before .before .before .before .rest .ensures .1)
+add-t11 : tie.Need-add-t11
+add-t11 c = search needs
 
-add-after : tie.Need-add-after Inv-loop μ-loop
-add-after c = omega (arith, rw (c .before .at .given .1) at (c .before .before .before .piece-at .ensures .1), c .before .before .before .before .rest .ensures .1)
+returns-2 : tie.Need-returns-2
+unfolding noneKnown absent
+returns-2 c = (
+  ap (λ (k : Known). Shut k false (c .before .before .before .before .before .before .args .from + 1)) (c .none .ensures)
+      ∙ close-tail (c .before .before .before .before .before .before .args .s .now) (c .before .before .before .before .before .before .args .from) (c .before .before .before .rest .ensures .0) (c .before .before .byte-at .ensures) (c .before .if2 .taken) (c .before .before .before .before .if1 .left),
+  rw (c .none .ensures) (omega (arith, c .before .before .before .before .if1 .left)),
+)
 
-part-requires : tie.Need-part-requires Inv-loop μ-loop
-part-requires c κs = search needs
+v-len-requires : tie.Need-v-len-requires
+v-len-requires c κs = search needs
 
-noted-requires : tie.Need-noted-requires Inv-loop μ-loop
-noted-requires c κs = search needs
+first-known-requires : tie.Need-first-known-requires
+first-known-requires c κs = search needs
 
-loop-less : tie.Need-loop-less Inv-loop μ-loop
-loop-less c = omega (arith, rw (c .before .before .before .at .given .1) at (c .before .before .before .before .before .piece-at .ensures .1), c .before .before .before .before .before .before .rest .ensures .1)
+v-use-requires : tie.Need-v-use-requires
+v-use-requires c κs = search needs
 
-loop-again : tie.Need-loop-again Inv-loop μ-loop
-loop-again c =
-    let z = rw (c .before .before .before .at .given .1) at (c .before .before .before .before .before .piece-at .ensures .1) in (
-      tail-attribute (c .before .before .before .before .before .before .before .before .before .before .before .args .s .now) (c .before .before .before .before .before .before .before .before .loop .i) (c .before .before .before .before .before .before .before .before .loop .k) (c .before .before .before .before .before .before .rest .ensures .0) (c .before .before .before .before .before .piece-at .ensures .0) (c .before .before .before .before .before .before .before .loop-test .taken) (c .before .before .before .at .given .1) (z .0) (c .before .part .ensures) (c .noted .ensures)
-          ∙ c .before .before .before .before .before .before .before .before .loop .inv .0,
-      noted-v (c .before .before .before .before .before .before .before .before .loop .k) _ _ _ (c .noted .ensures) (omega (arith, z, c .before .before .before .before .before .before .before .before .loop .inv .1)) (omega (arith, z)),
+add-i : tie.Need-add-i
+add-i c =
+    let h = first-inside (c .before .before .before .before .before .before .before .before .args .from) (c .before .before .v-len .result) (c .v-use .result) (c .before .first-known .result) (c .v-use .ensures) (c .before .first-known .ensures) (c .before .before .before .before .before .before .before .before .args .s .now) (c .before .before .before .before .before .rest .ensures .0) (c .before .before .v-len .ensures .0) in
+    omega (arith, h, c .before .before .before .before .before .rest .ensures .1, c .before .before .before .before .before .before .if1 .left)
+
+add-byte-at : tie.Need-add-byte-at
+add-byte-at c = search needs
+
+byte-at-requires-2 : tie.Need-byte-at-requires-2
+byte-at-requires-2 c κs = search needs
+
+add-byte-at-2 : tie.Need-add-byte-at-2
+add-byte-at-2 c = search needs
+
+byte-at-requires-3 : tie.Need-byte-at-requires-3
+byte-at-requires-3 c κs = search needs
+
+add-t18 : tie.Need-add-t18
+add-t18 c =
+    let h = first-inside (c .before .before .before .before .before .before .before .before .before .before .before .before .before .args .from) (c .before .before .before .before .before .before .before .v-len .result) (c .before .before .before .before .before .v-use .result) (c .before .before .before .before .before .before .first-known .result) (c .before .before .before .before .before .v-use .ensures) (c .before .before .before .before .before .before .first-known .ensures) (c .before .before .before .before .before .before .before .before .before .before .before .before .before .args .s .now) (c .before .before .before .before .before .before .before .before .before .before .rest .ensures .0) (c .before .before .before .before .before .before .before .v-len .ensures .0) in
+    omega (arith, h, c .before .before .before .before .before .before .before .before .before .before .rest .ensures .1, c .before .before .before .before .before .before .before .before .before .before .before .if1 .left)
+
+returns-3 : tie.Need-returns-3
+returns-3 c =
+    let h = byte-there _ _ (c .before .byte-at3 .ensures) (omega (arith, c .if5 .taken)) in
+    let i : c .before .before .before .before .before .before .before .before .before .before .before .before .before .args .from + (c .before .before .before .before .before .before .before .v-len .result + 5) < length (c .before .before .before .before .before .before .before .before .before .before .before .before .before .args .s .now) = omega (arith, h, c .before .before .before .before .before .before .before .before .before .before .rest .ensures .1) in
+    let f = first-inside (c .before .before .before .before .before .before .before .before .before .before .before .before .before .args .from) (c .before .before .before .before .before .before .before .v-len .result) (c .before .before .before .before .before .v-use .result) (c .before .before .before .before .before .before .first-known .result) (c .before .before .before .before .before .v-use .ensures) (c .before .before .before .before .before .before .first-known .ensures) (c .before .before .before .before .before .before .before .before .before .before .before .before .before .args .s .now) (c .before .before .before .before .before .before .before .before .before .before .rest .ensures .0) (c .before .before .before .before .before .before .before .v-len .ensures .0) in
+    let v = first-v (c .before .before .before .before .before .before .before .before .before .before .before .before .before .args .from) (c .before .before .before .before .before .before .before .v-len .result) (c .before .before .before .before .before .v-use .result) (c .before .before .before .before .before .before .first-known .result) (c .before .before .before .before .before .v-use .ensures) (c .before .before .before .before .before .before .first-known .ensures) in (
+      first-empty (c .before .before .before .before .before .before .before .before .before .before .before .before .before .args .from) (c .before .before .before .before .before .before .before .v-len .result) (c .before .before .before .before .before .v-use .result) (c .before .before .before .before .before .before .first-known .result) (c .before .before .before .before .before .v-use .ensures) (c .before .before .before .before .before .before .first-known .ensures) (c .before .before .before .before .before .before .before .before .before .before .before .before .before .args .s .now) (c .before .before .before .before .before .before .before .before .before .before .rest .ensures .0) (c .before .before .before .before .before .before .before .v-len .ensures .0) (c .before .before .before .before .if3 .taken) (c .before .before .before .byte-at2 .ensures) (c .before .before .if4 .taken) (c .before .byte-at3 .ensures) (c .if5 .taken) i
+          ∙ first-tail (c .before .before .before .before .before .before .before .before .before .before .before .before .before .args .from) (c .before .before .before .before .before .before .before .v-len .result) (c .before .before .before .before .before .v-use .result) (c .before .before .before .before .before .before .first-known .result) (c .before .before .before .before .before .v-use .ensures) (c .before .before .before .before .before .before .first-known .ensures) (c .before .before .before .before .before .before .before .before .before .before .before .before .before .args .s .now) (c .before .before .before .before .before .before .before .before .before .before .rest .ensures .0) (c .before .before .before .before .before .before .before .v-len .ensures .0) (c .before .before .before .before .before .before .before .before .before .before .before .if1 .left),
+      omega (arith, f, v, c .before .before .before .before .before .before .before .before .before .before .rest .ensures .1, c .before .before .before .before .before .before .before .before .before .before .before .if1 .left),
     )
 
-enum-known-n : tie.Need-enum-known-n Inv-loop μ-loop
-enum-known-n c = search needs
+any-tail-requires : tie.Need-any-tail-requires
+any-tail-requires c κs = first-v (c .before .before .before .before .before .before .before .before .before .args .from) (c .before .before .before .v-len .result) (c .before .v-use .result) (c .before .before .first-known .result) (c .before .v-use .ensures) (c .before .before .first-known .ensures)
 
-add-t20 : tie.Need-add-t20 Inv-loop μ-loop
-add-t20 c = omega (arith, rw (c .before .n .given .1) at (c .before .before .before .piece-at .ensures .1), c .before .before .before .before .rest .ensures .1)
-
-returns : tie.Need-returns Inv-loop μ-loop
-unfolding tail keep
-returns c =
-    let more = ends-close (c .before .before .before .before .before .before .before .before .before .args .s .now) (c .before .before .before .before .before .before .loop .i) _ (c .before .before .before .before .rest .ensures .0) _ (c .before .before .before .piece-at .ensures .0) _ (c .before .before .before .before .before .loop-test .taken) (c .before .n .given .1) in
-    (sym (ap (tail (c .before .before .before .before .before .before .loop .k)) more) ∙ c .before .before .before .before .before .before .loop .inv .0, omega (arith, rw (c .before .n .given .1) at (c .before .before .before .piece-at .ensures .1), c .before .before .before .before .rest .ensures .1, c .before .before .before .before .before .before .loop .inv .1))
-
-enum-known-n-2 : tie.Need-enum-known-n-2 Inv-loop μ-loop
-enum-known-n-2 c = search needs
-
-add-t21 : tie.Need-add-t21 Inv-loop μ-loop
-add-t21 c = omega (arith, rw (c .before .n2 .given .1) at (c .before .before .before .piece-at .ensures .1), c .before .before .before .before .rest .ensures .1)
-
-returns-2 : tie.Need-returns-2 Inv-loop μ-loop
-unfolding tail keep
-returns-2 c =
-    let more = ends-empty (c .before .before .before .before .before .before .before .before .before .args .s .now) (c .before .before .before .before .before .before .loop .i) _ (c .before .before .before .before .rest .ensures .0) _ (c .before .before .before .piece-at .ensures .0) _ (c .before .before .before .before .before .loop-test .taken) (c .before .n2 .given .1) in
-    (sym (ap (tail (c .before .before .before .before .before .before .loop .k)) more) ∙ c .before .before .before .before .before .before .loop .inv .0, omega (arith, rw (c .before .n2 .given .1) at (c .before .before .before .piece-at .ensures .1), c .before .before .before .before .rest .ensures .1, c .before .before .before .before .before .before .loop .inv .1))
-
-enum-told : tie.Need-enum-told Inv-loop μ-loop
-enum-told c = search needs
-
-returns-3 : tie.Need-returns-3 Inv-loop μ-loop
-unfolding tail
-returns-3 c =
-    let more = ends-torn (c .before .before .before .before .before .before .before .before .args .s .now) (c .before .before .before .before .before .loop .i) _ (c .before .before .before .rest .ensures .0) _ (c .before .before .piece-at .ensures .0) (c .enum-told .given .1) in
-    (sym (ap (tail (c .before .before .before .before .before .loop .k)) more) ∙ c .before .before .before .before .before .loop .inv .0, omega arith)
-
-returns-4 : tie.Need-returns-4 Inv-loop μ-loop
-unfolding tail
-returns-4 c =
-    let more = ends-over (c .before .before .before .before .args .s .now) (c .before .loop .i) (c .loop-test .left) in
-    (sym (ap (tail (c .before .loop .k)) more) ∙ c .before .loop .inv .0, omega arith)
+returns-4 : tie.Need-returns-4
+returns-4 c = (c .any-tail .ensures .0 ∙ first-tail (c .before .before .before .before .before .before .before .before .before .before .args .from) (c .before .before .before .before .v-len .result) (c .before .before .v-use .result) (c .before .before .before .first-known .result) (c .before .before .v-use .ensures) (c .before .before .before .first-known .ensures) (c .before .before .before .before .before .before .before .before .before .before .args .s .now) (c .before .before .before .before .before .before .before .rest .ensures .0) (c .before .before .before .before .v-len .ensures .0) (c .before .before .before .before .before .before .before .before .if1 .left), c .any-tail .ensures .1)
 
 pub tail-at-spec : {M : Type 1} → statement M
 tail-at-spec =
     tie.close
     (tie.spec
-    Inv-loop
-    μ-loop
-    none-requires
-    loop-holds
-    rest-requires
-    piece-at-requires
-    enum-known-at
-    add-start
-    add-after
-    part-requires
-    noted-requires
-    loop-less
-    loop-again
-    enum-known-n
-    add-t20
     returns
-    enum-known-n-2
-    add-t21
+    rest-requires
+    byte-at-requires
+    none-requires
+    add-t11
     returns-2
-    enum-told
+    v-len-requires
+    first-known-requires
+    v-use-requires
+    add-i
+    add-byte-at
+    byte-at-requires-2
+    add-byte-at-2
+    byte-at-requires-3
+    add-t18
     returns-3
+    any-tail-requires
     returns-4)

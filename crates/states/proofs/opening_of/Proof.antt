@@ -1,0 +1,65 @@
+use Rattle.states.specs.Opening.{openingOf}
+use borrow.Author.Needs.{needs}
+use Rattle.states.proofs.opening_of.Statement.{statement}
+use Rattle.states.proofs.opening_of.Tie as tie
+use Rattle.states.proofs.opening_of.Reads as reads
+use Rattle.states.proofs.opening_of.Lts as lts
+
+enum-known-item : tie.Need-enum-known-item
+enum-known-item c = search needs
+
+enum-known-item-2 : tie.Need-enum-known-item-2
+enum-known-item-2 c = search needs
+
+enum-told : tie.Need-enum-told
+enum-told c = search needs
+
+enum-told-2 : tie.Need-enum-told-2
+enum-told-2 c = search needs
+
+enum-told-3 : tie.Need-enum-told-3
+enum-told-3 c = search needs
+
+enum-told-4 : tie.Need-enum-told-4
+enum-told-4 c = search needs
+
+returns : tie.Need-returns
+unfolding openingOf
+returns c = simp (c .before .item .given .1)
+
+returns-2 : tie.Need-returns-2
+unfolding openingOf
+returns-2 c = simp (c .before .item2 .given .1)
+
+returns-3 : tie.Need-returns-3
+unfolding openingOf
+returns-3 c = simp (c .enum-told .given .1)
+
+returns-4 : tie.Need-returns-4
+unfolding openingOf
+returns-4 c = simp (c .enum-told2 .given .1)
+
+returns-5 : tie.Need-returns-5
+unfolding openingOf
+returns-5 c = simp (c .enum-told3 .given .1)
+
+returns-6 : tie.Need-returns-6
+unfolding openingOf
+returns-6 c = simp (c .enum-told4 .given .1)
+
+pub opening-of-spec : {M : Type 1} → statement M
+opening-of-spec =
+    tie.close
+    (tie.spec
+    enum-known-item
+    enum-known-item-2
+    enum-told
+    enum-told-2
+    enum-told-3
+    enum-told-4
+    returns
+    returns-2
+    returns-3
+    returns-4
+    returns-5
+    returns-6)
