@@ -1,4 +1,4 @@
-//! What the two programs share: documents, peers and the clock.
+//! What the two programs share: documents, peers, the clock, and tables as docs/SPEED.md has them.
 pub mod document;
 pub mod peers;
 pub mod worst;
@@ -20,4 +20,36 @@ pub fn best(doc: &[u8], walks: &[(&str, Walk)], rounds: usize) -> Vec<f64> {
         }
     }
     best
+}
+
+/// The first two lines of a table.
+pub fn print_head(names: &[&str]) {
+    println!("| {} |\n|{}", names.join(" | "), "---|".repeat(names.len()));
+}
+
+pub fn print_row(cells: &[String]) {
+    println!("| {} |", cells.join(" | "));
+}
+
+/// A number with a comma after each three digits: 1,048,576.
+pub fn grouped(n: usize) -> String {
+    let digits = n.to_string();
+    let mut s = String::new();
+    for (k, digit) in digits.chars().enumerate() {
+        if k > 0 && (digits.len() - k) % 3 == 0 {
+            s.push(',');
+        }
+        s.push(digit);
+    }
+    s
+}
+
+/// With as many digits after the point as the number is worth.
+pub fn short(x: f64) -> String {
+    match x {
+        x if x < 0.1 => format!("{x:.3}"),
+        x if x < 1.0 => format!("{x:.2}"),
+        x if x < 100.0 => format!("{x:.1}"),
+        x => grouped(x.round() as usize),
+    }
 }

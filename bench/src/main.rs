@@ -1,5 +1,5 @@
 //! Walks the items of a Kostenblatt with the reader, with expat and with quick-xml, side by side.
-use side_by_side::{best, document, peers, Walk};
+use side_by_side::{best, document, grouped, peers, print_head, print_row, short, Walk};
 
 extern "C" {
     fn readable_len(doc: *const u8, len: usize) -> usize;
@@ -10,12 +10,11 @@ fn reader(doc: &[u8]) -> usize {
     unsafe { readable_len(doc.as_ptr(), doc.len()) }
 }
 
-fn main() {
+fn sheets() {
     let walks: &[(&str, Walk)] = &[("reader", reader), ("expat", peers::expat), ("quick-xml", peers::quick)];
-    let sizes = [4 << 10, 64 << 10, 1 << 20];
-    println!("{:<8}{:>9}  {:>12}{:>12}{:>12}  {:>14}{:>18}", "layout", "bytes", "reader MB/s", "expat", "quick-xml", "reader/expat", "reader/quick-xml");
-    for (layout, pretty) in [("plain", false), ("pretty", true)] {
-        for size in sizes {
+    print_head(&["layout", "bytes", "reader MB/s", "expat", "quick-xml", "reader/expat", "reader/quick-xml"]);
+    for (layout, pretty) in [("plain", false), ("pretty-printed", true)] {
+        for size in [4 << 10, 64 << 10, 1 << 20] {
             let doc = document::kostenblatt(size, pretty);
             assert!(reader(&doc) == doc.len(), "the reader refuses the document");
             for (name, walk) in walks {
@@ -23,12 +22,21 @@ fn main() {
             }
             let rounds = (400 << 20) / doc.len().max(1 << 17);
             let speed: Vec<f64> = best(&doc, walks, rounds.max(50)).iter().map(|s| doc.len() as f64 / s / 1e6).collect();
-            println!("{layout:<8}{:>9}  {:>12.1}{:>12.1}{:>12.1}  {:>14.2}{:>18.2}", doc.len(), speed[0], speed[1], speed[2], speed[0] / speed[1], speed[0] / speed[2]);
+            let mut cells = vec![layout.to_string(), grouped(doc.len())];
+            cells.extend(speed.iter().map(|s| grouped(s.round() as usize)));
+            cells.extend(speed[1..].iter().map(|s| short(speed[0] / s)));
+            print_row(&cells);
         }
     }
+}
+
+fn main() {
+    println!("The items of a Kostenblatt\n");
+    sheets();
     println!();
+    print_head(&["document", "bytes", "ms", "readable up to"]);
     for (what, doc) in document::hostile(1 << 20) {
         let seconds = best(&doc, &[("reader", reader)], 3)[0];
-        println!("{what:<56}{:>9} bytes{:>10.1} ms, readable up to {}", doc.len(), seconds * 1e3, reader(&doc));
+        print_row(&[what, grouped(doc.len()), short(seconds * 1e3), grouped(reader(&doc))]);
     }
 }

@@ -6,6 +6,7 @@
 #include <stdlib.h>
 #include <string.h>
 #include <sys/mman.h>
+#include <sys/resource.h>
 #include <sys/wait.h>
 #include <ucontext.h>
 #include <unistd.h>
@@ -65,6 +66,7 @@ static int suffices(uint8_t *bottom, size_t size) {
     int status;
     if (child < 0) exit(2);
     if (child == 0) {
+        setrlimit(RLIMIT_CORE, &(struct rlimit){0, 0}); /* a child that runs out of stack leaves no image on disk */
         for (size_t i = 0; i < count; i++) on_stack(&documents[i], bottom, size);
         _exit(0);
     }

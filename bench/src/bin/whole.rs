@@ -1,6 +1,6 @@
 //! Reads whole documents by the document reader (validation, tables, note), beside the bare events of expat, quick-xml and libxml2, libxml2's judgement by
 //! the XML Schemas of `peers/`, as a tree and as a stream, and plain scans of the bytes.
-use side_by_side::{best, document, peers, worst, Walk};
+use side_by_side::{best, document, grouped, peers, print_head, print_row, short, worst, Walk};
 use std::cell::RefCell;
 
 extern "C" {
@@ -70,94 +70,87 @@ const WALKS: &[(&str, Walk)] = &[
     ("expat", peers::expat),
     ("quick-xml", peers::quick),
     ("libxml2", peers::libxml2),
-    ("schema", peers::schema),
-    ("stream", peers::schema_stream),
-    ("scan", peers::scan),
-    ("memchr", peers::hops),
+    ("schema, tree", peers::schema),
+    ("schema, stream", peers::schema_stream),
+    ("`<` counted", peers::scan),
+    ("`<` by memchr", peers::hops),
 ];
 
 const SIZES: [(usize, (usize, usize)); 3] = [(4 << 10, (64, 2_048)), (64 << 10, (64, 2_048)), (1 << 20, MOST)];
 
-/// Seconds of each walk over documents of one kind and layout, a line for each size.
-fn sheets_of(kind: u32, make: Make, pretty: bool) -> Vec<(usize, Vec<f64>)> {
-    let layout = if pretty { "pretty" } else { "plain" };
+/// Kind and layout, bytes, and the seconds of each walk.
+struct Line {
+    front: [String; 2],
+    bytes: usize,
+    seconds: Vec<f64>,
+}
+
+fn lines() -> Vec<Line> {
+    let kinds: [(u32, Make); 2] = [(1, document::beschaffungsanforderung), (2, document::kostenblatt)];
     let mut lines = Vec::new();
-    for (size, (series, intervals)) in SIZES {
-        let doc = make(size, pretty);
-        LENT.replace(lent(series, intervals));
-        for (name, walk) in WALKS {
-            assert!(walk(&doc) > 0, "{name} refuses the document");
+    for (kind, make) in kinds {
+        for (layout, pretty) in [("plain", false), ("pretty-printed", true)] {
+            for (size, (series, intervals)) in SIZES {
+                let doc = make(size, pretty);
+                LENT.replace(lent(series, intervals));
+                for (name, walk) in WALKS {
+                    assert!(walk(&doc) > 0, "{name} refuses the document");
+                }
+                let rounds = (200 << 20) / doc.len().max(1 << 17);
+                lines.push(Line { front: [kind.to_string(), layout.to_string()], bytes: doc.len(), seconds: best(&doc, WALKS, rounds.max(50)) });
+            }
         }
-        let rounds = (200 << 20) / doc.len().max(1 << 17);
-        let seconds = best(&doc, WALKS, rounds.max(50));
-        print!("{kind:<5}{layout:<8}{:>9}{:>11.4}", doc.len(), seconds[0] * 1e3);
-        for s in &seconds {
-            print!("{:>10.1}", doc.len() as f64 / s / 1e6);
-        }
-        println!();
-        lines.push((doc.len(), seconds));
     }
     lines
 }
 
-/// A table of one number for each peer and line.
-fn print_table(title: &str, names: &[&str], lines: &[(String, Vec<f64>)]) {
-    println!("\n{title}\n");
-    print!("{:<22}", "");
-    for name in names {
-        print!("{name:>10}");
-    }
-    println!();
-    for (front, numbers) in lines {
-        print!("{front:<22}");
-        for n in numbers {
-            print!("{n:>10.3}");
-        }
-        println!();
-    }
+/// Kind, layout, perhaps bytes, and the numbers.
+fn print_line(line: &Line, bytes: bool, numbers: impl Iterator<Item = String>) {
+    let mut cells = line.front.to_vec();
+    cells.extend(bytes.then(|| grouped(line.bytes)));
+    cells.extend(numbers);
+    print_row(&cells);
 }
 
 fn sheets() {
-    let kinds: [(u32, Make); 2] = [(1, document::beschaffungsanforderung), (2, document::kostenblatt)];
+    let lines = lines();
     let names: Vec<&str> = WALKS.iter().map(|(name, _)| *name).collect();
-    println!("MB/s, best round\n");
-    print!("{:<5}{:<8}{:>9}{:>11}", "kind", "layout", "bytes", "reader ms");
-    for name in &names {
-        print!("{name:>10}");
+    println!("Whole documents, MB/s\n");
+    print_head(&[&["kind", "layout", "bytes", "reader ms"], &names[..]].concat());
+    for line in &lines {
+        let speed = line.seconds.iter().map(|s| grouped((line.bytes as f64 / s / 1e6).round() as usize));
+        print_line(line, true, std::iter::once(format!("{:.3}", line.seconds[0] * 1e3)).chain(speed));
     }
-    println!();
-    let (mut ratios, mut growth) = (Vec::new(), Vec::new());
-    for (kind, make) in kinds {
-        for pretty in [false, true] {
-            let lines = sheets_of(kind, make, pretty);
-            let front = format!("{kind}  {}", if pretty { "pretty" } else { "plain" });
-            for (bytes, seconds) in &lines {
-                ratios.push((format!("{front:<10}{bytes:>9}"), seconds[1..].iter().map(|s| s / seconds[0]).collect()));
-            }
-            let per_byte = |(bytes, seconds): &(usize, Vec<f64>)| seconds.iter().map(|s| s / *bytes as f64).collect::<Vec<f64>>();
-            let (first, last) = (per_byte(&lines[0]), per_byte(&lines[lines.len() - 1]));
-            growth.push((front, last.iter().zip(&first).map(|(a, b)| a / b).collect()));
-        }
+    println!("\nHow many times as quick as each of them the reader is\n");
+    print_head(&[&["kind", "layout", "bytes"], &names[1..]].concat());
+    for line in &lines {
+        print_line(line, true, line.seconds[1..].iter().map(|s| short(s / line.seconds[0])));
     }
-    print_table("The reader's speed as a multiple of each peer's", &names[1..], &ratios);
-    print_table("Time for a byte at 1 MiB as a multiple of that at the smallest size", &names, &growth);
+    println!("\nTime for a byte at 1 MiB over that at the smallest size\n");
+    print_head(&[&["kind", "layout"], &names[..]].concat());
+    for group in lines.chunks(SIZES.len()) {
+        let (first, last) = (&group[0], &group[group.len() - 1]);
+        let per_byte = |line: &Line, k: usize| line.seconds[k] / line.bytes as f64;
+        print_line(first, false, (0..names.len()).map(|k| format!("{:.2}", per_byte(last, k) / per_byte(first, k))));
+    }
 }
 
 /// Milliseconds at a quarter of the size and at all of it: work that grows with the length takes 4 times as long, with its square 16 times.
 fn hostile() {
     const SIZE: usize = 1 << 20;
     LENT.replace(lent(MOST.0, MOST.1));
-    println!("{:<64}{:>9}{:>10}{:>10}{:>8}{:>14}   answer", "document", "bytes", "256 KiB", "1 MiB", "growth", "quick-xml");
+    print_head(&["document", "256 KiB, ms", "1 MiB, ms", "growth", "quick-xml, 1 MiB, ms", "answer"]);
     let time = |doc: &[u8]| best(doc, &[("reader", reader as Walk)], 5)[0];
     for ((what, doc), (_, small)) in worst::documents(SIZE).into_iter().zip(worst::documents(SIZE / 4)) {
         assert!(doc.len() <= SIZE);
         let (quarter, whole) = (time(&small), time(&doc));
         let quick = best(&doc, &[("quick-xml", peers::quick)], 1)[0]; // once: it compares each attribute with all before it
-        let a = LENT.with_borrow(|t| t.answer);
-        println!(
-            "{what:<64}{:>9}{:>10.3}{:>10.3}{:>8.1}{:>14.2}   refusal {} at {}, series {}, intervals {}",
-            doc.len(), quarter * 1e3, whole * 1e3, whole / quarter, quick * 1e3, a[0], a[1], a[3], a[4]
-        );
+        let [refusal, place, _, series, intervals, ..] = LENT.with_borrow(|t| t.answer.map(|n| n as usize));
+        let answer = match refusal {
+            0 => format!("accepted, {} series, {} intervals", grouped(series), grouped(intervals)),
+            _ => format!("{refusal} at {}", grouped(place)),
+        };
+        print_row(&[what.to_string(), short(quarter * 1e3), short(whole * 1e3), short(whole / quarter), short(quick * 1e3), answer]);
     }
 }
 
