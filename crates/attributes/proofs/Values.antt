@@ -9,7 +9,7 @@ use lib.Dec.{eqb, ltb, leb}
 use lib.ListN.{length, take, drop, getD}
 use lib.Seq.{drop-cons}
 use borrow.Author.Tests.{le-leb, lt-leb, ne-eqb}
-use Rattle.lists.proofs.Cases.{ltb-cases, eqb-cases}
+use Rattle.lists.proofs.Cases.{ltb-cases, eqb-cases, never}
 use Rattle.slices.specs.Bytes.{byte}
 use Rattle.slices.specs.Walk.{Step, go, stop}
 use Rattle.lists.proofs.Loans.{rest-part}
@@ -21,21 +21,18 @@ use Rattle.attributes.specs.Attribute.{fit, plain, valueNext}
 use Rattle.attributes.specs.declared.Value.{Value}
 use Rattle.attributes.specs.declared.Value.the-variants.{Long, Broken}
 
-never : {A : Type 0} → _≡_ {A = Bool} true false → A
-never e = let z : _≡_ {A = ℕ} 0 1 = cc in absurd (omega arith)
-
 -- what a byte below 80 comes to
 plain-step : (q at b : ℕ) → plain b ≡ true → valueNext q at (single b) ≡ cond (eqb b q) (stop (Long at)) (go 1 (at + 1))
 unfolding plain single control fit valueNext
 plain-step q at b p =
     ⊎-elim
-    (λ y. never (sym (rw (y .1) at p)))
+    (λ y. never (rw (y .1) at p))
     (λ y.
     ⊎-elim
-    (λ z. never (sym (simp (y .1, z .1) at p)))
+    (λ z. never (simp (y .1, z .1) at p))
     (λ z.
     ⊎-elim
-    (λ w. never (sym (simp (y .1, z .1, w .1) at p)))
+    (λ w. never (simp (y .1, z .1, w .1) at p))
     (λ w. simp (le-leb 0x20 b (y .0), z .1, w .1, ne-eqb b 0x09 (omega arith), ne-eqb b 0x0A (omega arith), ne-eqb b 0x0D (omega arith)))
     (eqb-cases b 0x26))
     (eqb-cases b 0x3C))
@@ -65,7 +62,7 @@ broken-step q at b p =
     (λ z.
     ⊎-elim
     (λ w. simp (le-leb 0x20 b (y .0), z .1, w .1))
-    (λ w. never (simp (y .1, z .1, w .1) at p))
+    (λ w. never (sym (simp (y .1, z .1, w .1) at p)))
     (eqb-cases b 0x26))
     (eqb-cases b 0x3C))
     (ltb-cases b 0x20)

@@ -15,9 +15,10 @@ use Rattle.prolog.specs.Prolog.{begin}
 use Rattle.prolog.specs.declared.Begin.{Begin}
 use Rattle.prolog.specs.declared.Begin.the-variants.{From, Unreadable}
 use Rattle.reader.specs.Items.{Placed, placed, itemsAfter, itemsFrom}
-use Rattle.digits.specs.Alike.{Alike, none, next}
+use Rattle.numbers.specs.Alike.{Alike, none, next}
+use Rattle.numbers.proofs.Blind.{alike-drop}
 use Rattle.digits.specs.Items.{InV, Stands, Laid}
-use Rattle.digits.proofs.Places.{alike-drop, alike-by, byte-drop}
+use Rattle.digits.proofs.Places.{alike-by, byte-drop}
 use Rattle.digits.proofs.Parts.{item-laid}
 use Rattle.digits.proofs.Begins.{begin-same}
 use Rattle.blindness.specs.Readable.{InQtyTag, InQty, InQtyAfter, QtyDigit, DifferInQty}

@@ -7,9 +7,10 @@ use mathlib.Core.Logic.{⊎-elim}
 use native.Mathlib.Omega.{arith}
 use lib.Dec.{eqb, ltb}
 use lib.ListN.{length, getD}
-use borrow.Author.Tests.{eq-eqb, ne-eqb, lt-ltb, eqb-true, leb-false}
+use borrow.Author.Tests.{eq-eqb, ne-eqb, lt-ltb, eqb-true, leb-false, not-true}
 use Rattle.lists.proofs.Cases.{bool-cases, by-cond, eqb-cases, zero-not-one}
 use Rattle.slices.specs.Same.{same}
+use Rattle.slices.proofs.Sames.{same-equal}
 use Rattle.slices.specs.Text.{text}
 use Rattle.attributes.specs.Attribute.{partOf}
 use Rattle.elements.specs.Names.{names, numberIn, elementNo}
@@ -35,9 +36,8 @@ use Rattle.states.specs.declared.Entry.the-variants.{Nothing, Amount}
 use Rattle.states.specs.declared.Step.{Step}
 use Rattle.states.specs.declared.Step.the-variants.{Next, Refused}
 use Rattle.blindness.specs.Readable.{namedQty}
-use Rattle.blindness.proofs.Pairs.{same-equal}
 use Rattle.blindness.proofs.Steps.{row-named, row-role}
-use Rattle.blindness.proofs.Tables.{allBelow, below, not-true, where-true, waits, due, tested, one-tested, two-tested, waits-other, start-due, row-facts, end-waits}
+use Rattle.blindness.proofs.Tables.{allBelow, below, where-true, waits, due, tested, one-tested, two-tested, waits-other, start-due, row-facts, end-waits}
 
 -- the rows of a kind; where the root is still to come, those of kind 2
 abbrev pub rowsIn : ℕ → List ℕ
@@ -110,7 +110,7 @@ kept-interval : (p : State) (w : ℕ) (j : Judged) → roleOf w ≡ 4 → kept p
 unfolding kept
 kept-interval p w j h = rw h
 
-one-more : (n : ℕ) → n < 4294967295 → oneMore n ≡ n + 1
+pub one-more : (n : ℕ) → n < 4294967295 → oneMore n ≡ n + 1
 unfolding oneMore
 one-more n h = rw (lt-ltb n 4294967295 h)
 
@@ -136,7 +136,8 @@ untold : (t : Bool) (n : ℕ) (b : Judged) → (n ≡ 0 → ⊥) → cond t (ref
 untold true n b h e = absurd (h e)
 untold false n b h e = (refl, e)
 
-judged-zero : (x : State) (kind : ℕ) (rows : List ℕ) (r : ℕ) (t : Tag) (s : List ℕ) (empty : Bool) (room : Room)
+-- a tag that is not refused passed the tests
+pub judged-zero : (x : State) (kind : ℕ) (rows : List ℕ) (r : ℕ) (t : Tag) (s : List ℕ) (empty : Bool) (room : Room)
     → startJudged x kind rows r t s empty room .number ≡ 0 → (cutShort empty rows r ≡ false) × (noRoom x (roleOf (getD rows r 0)) room ≡ false)
 unfolding startJudged judgedAt
 judged-zero x kind rows r t s empty room h =

@@ -14,7 +14,7 @@ use Rattle.items.specs.Item.{item, itemRefusal, itemEnd}
 use Rattle.items.specs.declared.Item.{Item}
 use Rattle.items.specs.declared.Item.the-variants.{Start, Empty, End, Text, Comment, Refused}
 use Rattle.items.proofs.Promises.{refused-two}
-use Rattle.digits.specs.Alike.{Like, Alike, none, next}
+use Rattle.numbers.specs.Alike.{Like, Alike, none, next}
 use Rattle.digits.specs.Items.{InSpan, InV}
 use Rattle.digits.proofs.Places.{like-sym, alike-sym, alike-length}
 use Rattle.digits.proofs.Items.{item-same}

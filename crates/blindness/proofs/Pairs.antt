@@ -2,12 +2,11 @@
 use Prim.Native.Nat.{ℕ, _<_}
 use mathlib.Core.Path.{_≡_, refl, _∙_}
 use mathlib.Core.List.{List, [], _∷_}
-use mathlib.Core.Bool.{Bool, true, false}
 use mathlib.Core.Logic.{_⊎_, inl, inr, ⊎-elim}
 use lib.ListN.{drop}
 use Rattle.lists.proofs.Cases.{eqb-cases, zero-not-one}
 use Rattle.slices.specs.Bytes.{byte}
-use Rattle.slices.specs.Same.{same}
+use Rattle.slices.proofs.Sames.{same-equal}
 use Rattle.slices.specs.Text.{text}
 use Rattle.attributes.specs.Attribute.{partOf}
 use Rattle.items.specs.Item.{item, itemEnd}
@@ -15,7 +14,7 @@ use Rattle.items.specs.declared.Tag.{Tag}
 use Rattle.items.specs.declared.Item.{Item}
 use Rattle.items.specs.declared.Item.the-variants.{Start, Empty, End, Text, Comment, Refused}
 use Rattle.reader.specs.Items.{Placed}
-use Rattle.digits.specs.Alike.{Alike}
+use Rattle.numbers.specs.Alike.{Alike}
 use Rattle.digits.specs.Items.{SameButV, IsTag, valueIn, PartsSame}
 use Rattle.digits.proofs.Parts.{tag-parts, tag-v, end-name}
 use Rattle.blindness.specs.Readable.{namedQty, InQtyTag}
@@ -29,17 +28,6 @@ list-cases (c ∷ a) (d ∷ b) =
     ⊎-elim
     (λ q. ⊎-elim (λ e. inl (rw (q .0, e))) (λ e. inr (λ z. e (cc))) (list-cases a b))
     (λ q. inr (λ z. q .0 (cc)))
-    (eqb-cases c d)
-
-pub same-equal : (x y : List ℕ) → same x y ≡ true → x ≡ y
-unfolding same
-same-equal [] [] h = refl
-same-equal [] (d ∷ y) h = absurd (zero-not-one (cc))
-same-equal (c ∷ x) [] h = absurd (zero-not-one (cc))
-same-equal (c ∷ x) (d ∷ y) h =
-    ⊎-elim
-    (λ e. let q = same-equal x y (rw (e .1) at h) in let f = e .0 in cc)
-    (λ e. let z : _≡_ {A = Bool} false true = rw (e .1) at h in absurd (zero-not-one (cc)))
     (eqb-cases c d)
 
 -- a tag says the same in s and in s′, but for the digits of its `v` if it is named Qty

@@ -7,7 +7,7 @@ use mathlib.Core.Logic.{_⊎_, inl, inr, ⊎-elim}
 use lib.Dec.{eqb}
 use lib.ListN.{getD}
 use borrow.Author.Tests.{eq-eqb, eqb-true}
-use Rattle.lists.proofs.Cases.{by-cond}
+use Rattle.lists.proofs.Cases.{by-cond, both-true}
 use Rattle.slices.specs.Same.{same}
 use Rattle.slices.specs.Text.{text}
 use Rattle.attributes.specs.Attribute.{partOf}
@@ -35,7 +35,6 @@ use Rattle.reader.specs.Rows.{spanOf, quoted}
 use Rattle.digits.specs.Items.{valueIn, PartsSame}
 use Rattle.digits.proofs.Values.{alike-read}
 use Rattle.blindness.proofs.Pairs.{TagSays, Says}
-use Rattle.blindness.proofs.Tables.{both-true}
 
 -- a row that bears the name Qty is that of an amount: its form, its spaces and what it is to the reader
 unfoldable fitsQty : ℕ → Bool

@@ -7,8 +7,8 @@ use mathlib.Core.Logic.{⊎-elim}
 use native.Mathlib.Omega.{arith}
 use lib.Dec.{eqb, ltb}
 use lib.ListN.{length, getD}
-use borrow.Author.Tests.{eq-eqb, ne-eqb, lt-ltb, eqb-true, ltb-true}
-use Rattle.lists.proofs.Cases.{eqb-cases, ltb-cases, zero-not-one}
+use borrow.Author.Tests.{eq-eqb, ne-eqb, lt-ltb, eqb-true, ltb-true, not-true}
+use Rattle.lists.proofs.Cases.{eqb-cases, ltb-cases, zero-not-one, both-true}
 use Rattle.slices.specs.Same.{same}
 use Rattle.slices.specs.Text.{text}
 use Rattle.elements.specs.Names.{names, numberIn, elementNo}
@@ -19,10 +19,6 @@ use Rattle.guideline.specs.Columns.{roleOf}
 use Rattle.guideline.specs.Rows.{beschaffungsanforderung, kostenblatt, rowsOf}
 
 -- a test that is asked only after another
-pub both-true : (t : Bool) {b : Bool} → cond t b false ≡ true → (t ≡ true) × (b ≡ true)
-both-true true h = (refl, h)
-both-true false h = absurd (zero-not-one (cc))
-
 -- a test that is asked only where another holds
 pub where-true : (t : Bool) {b : Bool} → cond t b true ≡ true → t ≡ true → b ≡ true
 where-true true h e = h
@@ -79,10 +75,6 @@ one-tested = refl
 pub two-tested : tested (rowsOf 2) ≡ true
 unfolding tested rowTest startTest due waits rowsOf beschaffungsanforderung kostenblatt elementNo numberIn names same nameOf parentOf required repeated endsAtOnce endsIn roleOf
 two-tested = refl
-
-pub not-true : (b : Bool) → not b ≡ true → b ≡ false
-not-true true h = absurd (zero-not-one (cc))
-not-true false h = refl
 
 six : (a b c d e : Bool) {f : Bool} → cond a (cond b (cond c (cond d (cond e f false) false) false) false) false ≡ true
     → (a ≡ true) × (b ≡ true) × (c ≡ true) × (d ≡ true) × (e ≡ true) × (f ≡ true)

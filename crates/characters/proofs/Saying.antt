@@ -5,10 +5,16 @@ use mathlib.Core.List.{List, [], _∷_}
 use native.Mathlib.Omega.{arith}
 use lib.ListN.{length, take, drop, drop-of-length-le, length-drop}
 use lib.Seq.{drop-drop}
+use borrow.Author.Tests.{ne-eqb}
 use Rattle.lists.proofs.Loans.{rest-part}
-use Rattle.characters.specs.Says.{saidAt, saysAfter, says}
+use Rattle.characters.specs.Utf8.{charAt}
+use Rattle.characters.specs.Says.{saidBy, saidAt, saysAfter, says}
 use Rattle.characters.specs.declared.Said.{Said}
 use Rattle.characters.specs.declared.Said.the-variants.{Says, Over}
+
+pub said-some : (b : ℕ) (t : List ℕ) → saidAt (b ∷ t) ≡ saidBy (charAt (b ∷ t))
+unfolding saidAt
+said-some b t = simp (ne-eqb (suc (length t)) 0 (λ z. omega arith))
 
 skip : (k : ℕ) (v : List ℕ) → saysAfter k v ≡ saysAfter 0 (drop k v)
 unfolding saysAfter

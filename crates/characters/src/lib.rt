@@ -211,6 +211,12 @@ pub fn said_at(v: &[u8]) -> Said
     if v.len() == 0 {
         return Said::Over;
     }
+    let b = v[0];
+    if 0x20 <= b {
+        if b < 0x80 {
+            return Said::Says(b as u32, 1);
+        }
+    }
     match char_at(v) {
         Char::Is(c, n) => Said::Says(c, n),
         Char::NoChar => Said::Says(0, 1),

@@ -1,4 +1,3 @@
-pub mod Saids
 pub mod Rows
 pub mod Examples
 pub mod Unique

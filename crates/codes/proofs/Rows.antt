@@ -50,10 +50,6 @@ pub among-end : (s l : List ℕ) (i : ℕ) → length s ≤ i → false ≡ list
 unfolding listed words
 among-end s l i h = rw (drop-of-length-le s h)
 
--- a number that is none of 0 to m is greater
-pub up : (m : ℕ) {k : ℕ} → m ≤ k → (k ≡ m → ⊥) → m + 1 ≤ k
-up m h n = omega arith
-
 -- a number that no list has
 pub none-listed : (k : ℕ) → 17 ≤ k → codesOf k ≡ []
 unfolding codesOf lists

@@ -3,13 +3,9 @@ use Prim.Native.Nat.{ℕ}
 use mathlib.Core.Path.{_≡_}
 use mathlib.Core.List.{List}
 use mathlib.Core.Bool.{Bool}
-use Rattle.slices.specs.Same.{same}
 use Rattle.characters.specs.Says.{says}
 use Rattle.codes.specs.Lists.{codesOf, listed}
 use Rattle.lists.proofs.Unique.{one}
-
-pub said-one : (text v : List ℕ) {r r′ : Bool} → r ≡ same text (says v) → r′ ≡ same text (says v) → r ≡ r′
-said-one text v = one
 
 pub listed-one : (k : ℕ) (v : List ℕ) {r r′ : Bool} → r ≡ listed (codesOf k) (says v) → r′ ≡ listed (codesOf k) (says v) → r ≡ r′
 listed-one k v = one

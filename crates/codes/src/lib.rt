@@ -1,13 +1,10 @@
 // Code lists: the number of each, and whether a value is in one. The codes of a list stand in a row with single spaces between them.
-use characters::Said;
-use characters::said_at;
+use pictures::is_said;
 use slices::front;
 ghost use mathlib.Core.Path.{_≡_};
 ghost use Prim.Native.Nat.{_≤_};
-ghost use lib.Dec.{eqb};
 ghost use lib.ListN.{length};
 ghost use Rattle.slices.specs.Run.{run};
-ghost use Rattle.slices.specs.Same.{same};
 ghost use Rattle.characters.specs.Says.{says};
 ghost use Rattle.codes.specs.Lists.{listed, codesOf};
 ghost use Rattle.codes.specs.Words.{wordByte, words};
@@ -65,38 +62,6 @@ fn word_len(s: &[u8]) -> usize
         }
     }
     i
-}
-
-fn is_char(b: u8, c: u32) -> bool
-    ensures { λ r. ⌜ r ≡ eqb b c ⌝ }
-{
-    b as u32 == c
-}
-
-// Whether a value says a text, character for character.
-// Ruled out: true where the value only begins with the text, or the text with the value; false for an empty value and an empty text.
-pub fn is_said(text: &[u8], v: &[u8]) -> bool
-    ensures { λ r. ⌜ r ≡ same (now (text .entry)) (says (now (v .entry))) ⌝ }
-{
-    let mut i = 0;
-    let mut k = 0;
-    while i < v.len() {
-        match said_at(&v[i..]) {
-            Said::Says(c, n) => {
-                if text.len() <= k {
-                    return false;
-                }
-                if is_char(text[k], c) {
-                    i += n;
-                    k += 1;
-                } else {
-                    return false;
-                }
-            }
-            Said::Over => return text.len() <= k,
-        }
-    }
-    text.len() <= k
 }
 
 // Whether a value is one of the codes in a row.

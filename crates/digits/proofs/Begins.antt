@@ -20,8 +20,9 @@ use Rattle.prolog.specs.Prolog.{utf, declaredBy, declared, encodedBy, encoded, 
 use Rattle.prolog.specs.declared.Begin.{Begin}
 use Rattle.prolog.specs.declared.Begin.the-variants.{From, Unreadable}
 use Rattle.pictures.specs.Picture.{digit}
-use Rattle.digits.specs.Alike.{Alike}
-use Rattle.digits.proofs.Places.{alike-drop, part-same, byte-drop}
+use Rattle.numbers.specs.Alike.{Alike}
+use Rattle.numbers.proofs.Blind.{alike-drop}
+use Rattle.digits.proofs.Places.{part-same, byte-drop}
 use Rattle.digits.proofs.Tests.{blind-white}
 use Rattle.digits.proofs.Runs.{alike-run, plainText, alike-begins}
 use Rattle.digits.proofs.Pieces.{alike-mark, alike-piece}

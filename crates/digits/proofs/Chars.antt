@@ -1,5 +1,5 @@
 -- The character at the front of alike lists is the same one, or two digits. Assumes nothing.
-use Prim.Native.Nat.{ℕ, _≤_}
+use Prim.Native.Nat.{ℕ}
 use mathlib.Core.Path.{_≡_, refl, ap, _∙_}
 use mathlib.Core.List.{List}
 use mathlib.Core.Bool.{true, false, cond}
@@ -7,7 +7,7 @@ use mathlib.Core.Logic.{⊎-elim}
 use native.Mathlib.Omega.{arith}
 use lib.Dec.{eqb}
 use borrow.Author.Tests.{lt-leb}
-use Rattle.lists.proofs.Cases.{by-cond}
+use Rattle.characters.proofs.Ascii.{low-ascii}
 use Rattle.slices.specs.Bytes.{byte}
 use Rattle.characters.specs.Utf8.{seqLen, low, second, single, double, triple, fourfold, charAt, charUse}
 use Rattle.characters.specs.Says.{charNext, charsOver, allChars}
@@ -16,7 +16,7 @@ use Rattle.characters.specs.declared.Char.the-variants.{Is, NoChar}
 use Rattle.attributes.specs.Attribute.{valueNext, valueOver, value}
 use Rattle.pictures.specs.Picture.{digit}
 use Rattle.numbers.proofs.Reading.{digit-range}
-use Rattle.digits.specs.Alike.{Like, Alike}
+use Rattle.numbers.specs.Alike.{Like, Alike}
 use Rattle.digits.proofs.Places.{alike-byte}
 use Rattle.digits.proofs.Tests.{At-digits, blind-control, blind-seqLen, blind-tail, blind-fit, blind-mark}
 use Rattle.digits.proofs.Runs.{alike-walk}
@@ -26,15 +26,10 @@ pub data LikeChar : Char → Char → Type 0 where
   same : (x : Char) → LikeChar x x
   digits : {c d : ℕ} → digit c ≡ true → digit d ≡ true → LikeChar (Is c 1) (Is d 1)
 
--- no second byte of a character is below 80
-low-high : (a : ℕ) → 0x80 ≤ low a
-unfolding low
-low-high a = by-cond (λ (n : ℕ). 0x80 ≤ n) (eqb a 0xE0) (omega arith) (by-cond (λ (n : ℕ). 0x80 ≤ n) (eqb a 0xF0) (omega arith) (omega arith))
-
 blind-second : (a : ℕ) → At-digits (second a) false
 unfolding second
 blind-second a =
-    record { each = λ d e. let r = digit-range d e in let l = low-high a in rw (lt-leb (low a) d (omega arith)) }
+    record { each = λ d e. let r = digit-range d e in let l = low-ascii a in rw (lt-leb (low a) d (omega arith)) }
 
 -- a character by its four bytes
 of : ℕ → ℕ → ℕ → ℕ → Char

@@ -11,7 +11,7 @@ use Rattle.attributes.specs.declared.Piece.{Piece}
 use Rattle.attributes.specs.declared.Piece.the-variants.{Attribute, Close, CloseEmpty, Torn}
 use Rattle.tags.specs.Tail.{Attr, closed, onto, endsAfter}
 use Rattle.tags.proofs.Ends.{attr}
-use Rattle.digits.specs.Alike.{Alike, none, next}
+use Rattle.numbers.specs.Alike.{Alike, none, next}
 use Rattle.digits.specs.Items.{InSpan}
 use Rattle.digits.proofs.Places.{part-same}
 use Rattle.digits.proofs.Pieces.{alike-piece}

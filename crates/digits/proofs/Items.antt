@@ -20,9 +20,10 @@ use Rattle.items.specs.Item.{tagOf, tagItem, startTag, item, itemRefusal, itemE
 use Rattle.items.specs.declared.Item.{Item}
 use Rattle.items.specs.declared.Item.the-variants.{Refused}
 use Rattle.pictures.specs.Picture.{digit}
-use Rattle.digits.specs.Alike.{Alike}
+use Rattle.numbers.specs.Alike.{Alike}
+use Rattle.numbers.proofs.Blind.{alike-drop}
 use Rattle.digits.specs.Items.{InSpan, InV, SameButV}
-use Rattle.digits.proofs.Places.{alike-sym, alike-byte, alike-drop, byte-drop}
+use Rattle.digits.proofs.Places.{alike-sym, alike-byte, byte-drop}
 use Rattle.digits.proofs.Tests.{like-test, blind-nameByte, blind-nameStart}
 use Rattle.digits.proofs.Runs.{alike-run}
 use Rattle.digits.proofs.Pieces.{alike-mark}

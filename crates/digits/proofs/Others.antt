@@ -12,8 +12,9 @@ use Rattle.items.specs.Comment.{commentTo, comment}
 use Rattle.items.specs.Text.{textByte, textTo, textItem}
 use Rattle.items.specs.Item.{endClose, endName, endTag, commentTag}
 use Rattle.pictures.specs.Picture.{digit}
-use Rattle.digits.specs.Alike.{Alike}
-use Rattle.digits.proofs.Places.{alike-byte, alike-drop, alike-take}
+use Rattle.numbers.specs.Alike.{Alike}
+use Rattle.numbers.proofs.Blind.{alike-drop}
+use Rattle.digits.proofs.Places.{alike-byte, alike-take}
 use Rattle.digits.proofs.Tests.{like-test, blind-white, blind-nameByte, blind-nameStart, blind-textByte}
 use Rattle.digits.proofs.Runs.{alike-run, plainText, alike-first}
 use Rattle.digits.proofs.Chars.{alike-chars}

@@ -23,7 +23,7 @@ use Rattle.items.specs.Text.{textByte, textTo, textItem}
 use Rattle.items.specs.Item.{tagOf, tagItem, startTag, endTag, endName, endClose, commentItem, commentTag, item}
 use Rattle.items.specs.declared.Tag.{Tag}
 use Rattle.items.specs.declared.Item.the-variants.{Start, Empty, End}
-use Rattle.digits.specs.Alike.{Alike}
+use Rattle.numbers.specs.Alike.{Alike}
 use Rattle.digits.specs.Items.{InSpan, InV, SameButV, Stands, Apart, IsTag, ValuesLaid, TagLaid, Laid, valueIn, PartsSame}
 use Rattle.digits.proofs.Places.{alike-part, part-same}
 use Rattle.digits.proofs.Spans.{Within, ends-ordered}

@@ -12,8 +12,9 @@ use Rattle.slices.specs.Run.{run}
 use Rattle.attributes.specs.Names.{nameByte, white}
 use Rattle.attributes.specs.Attribute.{quote, openingFrom, opening, attributeQuote, attributeName, attribute, pieceAfter, piece}
 use Rattle.pictures.specs.Picture.{digit}
-use Rattle.digits.specs.Alike.{Alike}
-use Rattle.digits.proofs.Places.{alike-byte, alike-drop}
+use Rattle.numbers.specs.Alike.{Alike}
+use Rattle.numbers.proofs.Blind.{alike-drop}
+use Rattle.digits.proofs.Places.{alike-byte}
 use Rattle.digits.proofs.Tests.{like-test, blind-white, blind-nameByte, blind-nameStart, blind-quote, blind-mark}
 use Rattle.digits.proofs.Runs.{alike-run}
 use Rattle.digits.proofs.Chars.{alike-value}

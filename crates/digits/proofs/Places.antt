@@ -8,7 +8,8 @@ use lib.ListN.{length, take, drop}
 use lib.Seq.{getD-drop}
 use Rattle.slices.specs.Bytes.{byte}
 use Rattle.attributes.specs.Attribute.{partOf}
-use Rattle.digits.specs.Alike.{Like, Alike, none, next}
+use Rattle.numbers.specs.Alike.{Like, Alike, none, next}
+use Rattle.numbers.proofs.Blind.{alike-drop}
 
 pub like-refl : (c : ℕ) → Like c c
 like-refl c = inl refl
@@ -45,11 +46,6 @@ alike-by (c ∷ x) (d ∷ y) e h = next (h 0 (omega arith)) (alike-by x y (omega
 
 pub alike-pointwise : (x y : List ℕ) → ((length x ≡ length y) × ((p : ℕ) → Like (byte x p) (byte y p))) ↔ Alike x y
 alike-pointwise x y = (λ h. alike-by x y (h .0) (λ p q. h .1 p), λ r. (alike-length r, alike-byte r))
-
-pub alike-drop : {x y : List ℕ} (n : ℕ) → Alike x y → Alike (drop n x) (drop n y)
-alike-drop zero r = r
-alike-drop (suc n) none = none
-alike-drop (suc n) (next e r) = alike-drop n r
 
 pub alike-take : {x y : List ℕ} (n : ℕ) → Alike x y → Alike (take n x) (take n y)
 alike-take zero r = none

@@ -4,12 +4,12 @@ use mathlib.Core.Path.{_≡_, refl, ap}
 use mathlib.Core.List.{List, [], _∷_}
 use mathlib.Core.Bool.{Bool, true, false, cond}
 use lib.ListN.{length}
-use Rattle.lists.proofs.Cases.{past-cond, zero-not-one}
+use Rattle.lists.proofs.Cases.{past-cond, never}
 use Rattle.slices.specs.Run.{run}
 use Rattle.slices.specs.Walk.{Step, go, stop, walk}
 use Rattle.slices.specs.Same.{same, begins, seek, here, firstAt}
 use Rattle.pictures.specs.Picture.{digit}
-use Rattle.digits.specs.Alike.{Alike, none, next}
+use Rattle.numbers.specs.Alike.{Alike, none, next}
 use Rattle.digits.proofs.Places.{alike-take}
 use Rattle.digits.proofs.Tests.{At-digits, like-test, blind-marked}
 
@@ -56,16 +56,13 @@ unfoldable pub plainText : List ℕ → Bool
 plainText [] = true
 plainText (c ∷ t) = cond (digit c) false (plainText t)
 
-false-not : _≡_ {A = Bool} false true → ⊥
-false-not e = zero-not-one (cc)
-
 alike-same : (t : List ℕ) → plainText t ≡ true → {x y : List ℕ} → Alike x y → same t x ≡ same t y
 unfolding same plainText
 alike-same [] h none = refl
 alike-same [] h (next e r) = refl
 alike-same (c ∷ t) h none = refl
 alike-same (c ∷ t) h (next e r) =
-    let p = past-cond (digit c) false-not h in
+    let p = past-cond (digit c) never h in
     rw (like-test (blind-marked c (p .0)) e, alike-same t (p .1) r)
 
 pub alike-begins : (t : List ℕ) → plainText t ≡ true → {x y : List ℕ} → Alike x y → begins t x ≡ begins t y

@@ -17,7 +17,7 @@ use Rattle.items.specs.Text.{textByte}
 use Rattle.trims.specs.Trim.{space}
 use Rattle.pictures.specs.Picture.{digit}
 use Rattle.numbers.proofs.Reading.{digit-range}
-use Rattle.digits.specs.Alike.{Like}
+use Rattle.numbers.specs.Alike.{Like}
 
 -- the test answers `a` at every digit
 pub record At-digits {A : Type 0} (p : ℕ → A) (a : A) : Type 0 where

@@ -4,13 +4,10 @@ use mathlib.Core.Path.{_≡_, refl, sym, _∙_}
 use mathlib.Core.List.{List, [], _∷_}
 use mathlib.Core.Bool.{Bool, true, false, cond}
 use mathlib.Core.Logic.{inl, inr}
-use native.Mathlib.Omega.{arith}
 use lib.IntN.{ℤ}
-use lib.ListN.{length}
-use borrow.Author.Tests.{ne-eqb}
-use Rattle.slices.specs.Bytes.{byte}
+use Rattle.characters.proofs.Saying.{said-some}
 use Rattle.characters.specs.Utf8.{charAt}
-use Rattle.characters.specs.Says.{saidBy, saidAt, saysAfter, says}
+use Rattle.characters.specs.Says.{saidBy, saysAfter, says}
 use Rattle.characters.specs.declared.Char.{Char}
 use Rattle.characters.specs.declared.Char.the-variants.{Is, NoChar}
 use Rattle.characters.specs.declared.Said.{Said}
@@ -18,12 +15,10 @@ use Rattle.characters.specs.declared.Said.the-variants.{Says, Over}
 use Rattle.trims.specs.Trim.{space, dropLead, keep, dropTrail, dropped}
 use Rattle.numbers.specs.Amount.{minus, unsigned, amountForm, thousandths, signed, amountOf}
 use Rattle.numbers.specs.declared.Amount.the-variants.{Thousandths, NotAmount}
-use Rattle.numbers.specs.Shape.{OnlyDigitsDiffer}
 use Rattle.numbers.proofs.Blind.{blind}
 use Rattle.rules.specs.Rules.{amountBy, amount, formRefusal, judge}
 use Rattle.rules.specs.declared.Held.{Held}
-use Rattle.digits.specs.Alike.{Like, Alike, none, next}
-use Rattle.digits.proofs.Places.{alike-length, alike-byte}
+use Rattle.numbers.specs.Alike.{Like, Alike, none, next}
 use Rattle.digits.proofs.Tests.{like-test, blind-space}
 use Rattle.digits.proofs.Chars.{LikeChar, same, digits, alike-char}
 
@@ -51,10 +46,6 @@ pub alike-dropped : {x y : List ℕ} → Alike x y → Alike (dropped x) (droppe
 unfolding dropped
 alike-dropped r = alike-trail (alike-lead r)
 
-said-here : (c : ℕ) (x : List ℕ) → saidAt (c ∷ x) ≡ saidBy (charAt (c ∷ x))
-unfolding saidAt
-said-here c x = rw (ne-eqb (suc (length x)) 0 (λ z. omega arith))
-
 -- what is said first, and then what comes after it in t
 saidThen : Said → List ℕ → List ℕ
 saidThen (Says c n) t = c ∷ saysAfter (pred n) t
@@ -62,8 +53,8 @@ saidThen Over t = []
 
 said-then : (c : ℕ) (t : List ℕ) (x : Char) → charAt (c ∷ t) ≡ x → saysAfter zero (c ∷ t) ≡ saidThen (saidBy x) t
 unfolding saysAfter saidBy saidThen
-said-then c t (Is d n) q = rw (saysAfter, said-here c t, q)
-said-then c t NoChar q = rw (saysAfter, said-here c t, q)
+said-then c t (Is d n) q = rw (saysAfter, said-some c t, q)
+said-then c t NoChar q = rw (saysAfter, said-some c t, q)
 
 like-then : {a b : Char} (x y : List ℕ) → LikeChar a b → ((k : ℕ) → Alike (saysAfter k x) (saysAfter k y)) → Alike (saidThen (saidBy a) x) (saidThen (saidBy b) y)
 unfolding saidBy saidThen
@@ -82,10 +73,6 @@ pub alike-says : {x y : List ℕ} → Alike x y → Alike (says x) (says y)
 unfolding says
 alike-says r = alike-after r 0
 
-pub only-digits : {l m : List ℕ} → Alike l m → OnlyDigitsDiffer l m
-unfolding byte
-only-digits r = record { long = alike-length r; places = λ k h. alike-byte r k }
-
 by-form : (l : List ℕ) → amountBy (amountOf l) ≡ amountForm l
 unfolding amountOf amountBy
 by-form l = taken (amountForm l) (signed (minus l) (thousandths (unsigned l)))
@@ -96,7 +83,7 @@ by-form l = taken (amountForm l) (signed (minus l) (thousandths (unsigned l)))
 
 -- "Refusing an amount by its size, so that a note tells something about a price": what is said is an amount, or not, whatever its digits are
 pub alike-amount : {l m : List ℕ} → Alike l m → amountBy (amountOf l) ≡ amountBy (amountOf m)
-alike-amount {l} {m} r = by-form l ∙ blind l m (only-digits r) ∙ sym (by-form m)
+alike-amount {l} {m} r = by-form l ∙ blind r ∙ sym (by-form m)
 
 -- the form of an amount is 10
 pub alike-judged : {l m : List ℕ} (h : Held) → Alike l m → judge 10 h l ≡ judge 10 h m

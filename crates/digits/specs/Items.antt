@@ -10,7 +10,7 @@ use Rattle.items.specs.Item.{itemEnd}
 use Rattle.items.specs.declared.Tag.{Tag}
 use Rattle.items.specs.declared.Item.{Item}
 use Rattle.items.specs.declared.Item.the-variants.{Start, Empty, End, Text, Comment, Refused}
-use Rattle.digits.specs.Alike.{Alike}
+use Rattle.numbers.specs.Alike.{Alike}
 
 abbrev pub InSpan : ℕ → Span → Type 0
 InSpan i x = (x .start ≤ i) × (i < x .start + x .len)

@@ -5,23 +5,17 @@ use mathlib.Core.List.{List, [], _∷_, _++_}
 use mathlib.Core.Logic.{⊎-elim}
 use Prim.Native.Nat.{ℕ, zero, suc, _+_, _-_, _≤_, _<_, min}
 use native.Mathlib.Omega.{arith}
-use lib.ListN.{length, take, drop, set, length-append, length-drop}
+use lib.ListN.{length, take, drop, length-append, length-drop}
 use lib.Seq.{sets, length-sets, length-take-le}
 use borrow.Rule.Slice.PartMut.{midOf, putMid}
 use Rattle.io.specs.Counts.{Counts}
 use Rattle.lists.proofs.Cases.{leb-cases}
 use Rattle.lists.proofs.Loans.{lent-tail, back-tail}
-use Rattle.lists.proofs.Stores.{sets-out}
+use Rattle.lists.proofs.Stores.{sets-out, sets-more, sets-cons}
 
 -- w is put into out₀ from `at` on, as much as it has room for, and n is the place after it
 abbrev pub Adds : List ℕ → List ℕ → ℕ → ℕ → List ℕ → Type 0
 Adds w out₀ at n out = (n ≡ min (at + length w) (length out₀)) × (out ≡ sets out₀ at w)
-
-sets-more : (w out : List ℕ) (i : ℕ) (v : List ℕ) → sets out i (w ++ v) ≡ sets (sets out i w) (i + length w) v
-sets-more [] out i v = let e : i ≡ i + 0 = omega arith in ap (λ (k : ℕ). sets out k v) e
-sets-more (a ∷ w) out i v =
-    let e : suc i + length w ≡ i + suc (length w) = omega arith in
-    sets-more w (set out i a) (suc i) v ∙ ap (λ (k : ℕ). sets (sets (set out i a) (suc i) w) k v) e
 
 -- one text after another
 pub adds-more : (w v out₀ out l : List ℕ) (at n m : ℕ) → Adds w out₀ at n out → Adds v out n m l → Adds (w ++ v) out₀ at m l
@@ -50,10 +44,6 @@ adds-counts w out₀ out n p =
 pub adds-out : (s out : List ℕ) (at : ℕ) → length out < at → Adds s out at (length out) out
 adds-out s out at h = (omega arith, sym (sets-out s out at (omega arith)))
 
-sets-cons : (a : ℕ) (l : List ℕ) (k : ℕ) (s : List ℕ) → sets (a ∷ l) (suc k) s ≡ a ∷ sets l k s
-sets-cons a l k [] = refl
-sets-cons a l k (v ∷ s) = sets-cons a (set l k v) (suc k) s
-
 sets-tail : (at : ℕ) (l s : List ℕ) → sets l at s ≡ take at l ++ sets (drop at l) 0 s
 sets-tail zero l s = refl
 sets-tail (suc k) [] s = sets-out s [] (suc k) (omega arith) ∙ sym (sets-out s [] 0 (omega arith))
@@ -70,10 +60,6 @@ adds-lent s out l at n h en el =
 
 pub adds-same : (w v out₀ out : List ℕ) (at n : ℕ) → w ≡ v → Adds w out₀ at n out → Adds v out₀ at n out
 adds-same w v out₀ out at n e p = rw e at p
-
--- a number that is none of those below m, nor m
-pub up : (m : ℕ) {k : ℕ} → m ≤ k → (k ≡ m → ⊥) → m + 1 ≤ k
-up m h n = omega arith
 
 pub past : (m k : ℕ) → m + 1 ≤ k → m < k
 past m k h = omega arith

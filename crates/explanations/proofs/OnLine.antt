@@ -3,7 +3,7 @@
 use mathlib.Core.Path.{_≡_, sym, ap, _∙_}
 use mathlib.Core.List.{List, [], _∷_}
 use mathlib.Core.Bool.{Bool, true, false}
-use Prim.Native.Nat.{ℕ, suc, _+_, _-_, _*_, _≤_, _<_, min}
+use Prim.Native.Nat.{ℕ, suc, _+_, _-_, _≤_, _<_, min}
 use native.Mathlib.Omega.{arith}
 use lib.Dec.{ltb}
 use lib.ListN.{length, take, drop}
@@ -31,12 +31,6 @@ bytes-size h (c ∷ s) =
     by-cond Short (ltb (digitOf c) 16)
     (by-cond Short (ltb h 16) (omega (arith, bytes-size 16 s)) (omega (arith, bytes-size (digitOf c) s)))
     (omega (arith, bytes-size h s))
-
-pub text-size : (s : List ℕ) → length (hexText s) ≤ 3 * length s - 1
-unfolding hexText
-text-size [] = omega arith
-text-size (b ∷ []) = omega arith
-text-size (b ∷ c ∷ s) = omega (arith, text-size (c ∷ s))
 
 pub on-long : (line : List ℕ) → 44 < length line → NotOneNote ≡ noteOn line
 unfolding noteOn

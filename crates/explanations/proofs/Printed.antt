@@ -2,33 +2,14 @@
 -- Assumes nothing.
 use mathlib.Core.Path.{_≡_, refl, ap, _∙_}
 use mathlib.Core.List.{List, [], _∷_, _++_}
-use mathlib.Core.Bool.{true, false}
 use mathlib.Core.Logic.{⊎-elim}
 use Prim.Native.Nat.{ℕ, zero, suc, _+_, _*_, _/_, _%_, _^_, _≤_, _<_}
 use native.Mathlib.Omega.{arith}
-use borrow.Author.Tests.{lt-ltb, le-ltb, eq-eqb}
-use Rattle.lists.proofs.Cases.{ltb-cases, eqb-cases, zero-not-one}
-use Rattle.slices.specs.Same.{same}
+use borrow.Author.Tests.{lt-ltb, le-ltb}
+use Rattle.lists.proofs.Cases.{ltb-cases}
 use Rattle.lines.specs.Text.{digitOf, hexBytes, glyphOf, hexText}
 use Rattle.notes.specs.Note.{groupsIn, groups, flat, AllBelow}
 use Rattle.notes.proofs.Groups.{on, last, less}
-
--- ---- two lists that are the same
-pub same-self : (s : List ℕ) → same s s ≡ true
-unfolding same
-same-self [] = refl
-same-self (a ∷ s) = rw (eq-eqb a a refl) (same-self s)
-
-pub same-equal : (x y : List ℕ) → same x y ≡ true → x ≡ y
-unfolding same
-same-equal [] [] e = refl
-same-equal [] (b ∷ y) e = absurd (zero-not-one (cc))
-same-equal (a ∷ x) [] e = absurd (zero-not-one (cc))
-same-equal (a ∷ x) (b ∷ y) e =
-    ⊎-elim
-    (λ z. let t : same x y ≡ true = rw (z .1) at e in rw (z .0) (ap (λ (l : List ℕ). b ∷ l) (same-equal x y t)))
-    (λ z. let t : false ≡ true = rw (z .1) at e in absurd (zero-not-one (cc)))
-    (eqb-cases a b)
 
 -- ---- the bytes of a note
 below-both : (m : ℕ) (x y : List ℕ) → AllBelow m x → AllBelow m y → AllBelow m (x ++ y)

@@ -18,8 +18,10 @@ use lib.Seq.{take-append-seam}
 use borrow.Author.Tests.{le-ltb}
 use Rattle.lists.proofs.Cases.{ltb-cases, bool-cases, by-cond, zero-not-one}
 use Rattle.slices.specs.Same.{same, begins}
+use Rattle.slices.proofs.Sames.{same-self, same-equal}
 use Rattle.slices.specs.Text.{text}
 use Rattle.lines.specs.Text.{hexBytes, hexText}
+use Rattle.lines.proofs.Hex.{hex-size}
 use Rattle.notes.specs.declared.Note.{Note}
 use Rattle.notes.specs.declared.NoteRead.{NoteRead}
 use Rattle.notes.specs.declared.NoteRead.the-variants.{Taken, NotOneNote}
@@ -28,15 +30,14 @@ use Rattle.notes.specs.Reader.{noteIn}
 use Rattle.notes.proofs.Promises.{fits-fifteen, round-trip, accepts-exactly}
 use Rattle.explanations.specs.Decimal.{decimalIn, decimal, around}
 use Rattle.explanations.specs.Explanation.{refusals, headPart, wordsPart, refusalLine, placeLine, kinds, kindLine, seriesPart, intervalsPart, explained, noteOn, meaning, explanation}
-use Rattle.explanations.proofs.OnLine.{text-size}
-use Rattle.explanations.proofs.Printed.{same-self, same-equal, note-bytes, read-bytes, printed-back}
+use Rattle.explanations.proofs.Printed.{note-bytes, read-bytes, printed-back}
 
 on-printed : (n : Note) → AllBelow (2 ^ 21) (numbers n) → noteOn (hexText (noteOf n)) ≡ Taken n
 unfolding noteOn
 on-printed n h =
     let s = noteOf n in
     let b = printed-back s (note-bytes (numbers n) h) in
-    rw (le-ltb 44 (length (hexText s)) (omega (arith, text-size s, fits-fifteen n h)), b, same-self (hexText s)) (round-trip n h)
+    rw (le-ltb 44 (length (hexText s)) (omega (arith, hex-size s, fits-fifteen n h)), b, same-self (hexText s)) (round-trip n h)
 
 pub note-explained : (n : Note) → AllBelow (2 ^ 21) (numbers n) → explanation (hexText (noteOf n)) ≡ explained n
 unfolding explanation

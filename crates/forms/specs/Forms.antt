@@ -1,19 +1,12 @@
 -- Forms of values that are judged character by character.
 use Prim.Native.Nat.{ℕ}
 use mathlib.Core.List.{List, [], _∷_, _++_}
-use mathlib.Core.Bool.{Bool, true, false, cond}
+use mathlib.Core.Bool.{Bool}
 use lib.Dec.{leb}
 use lib.ListN.{length, replicate}
 use Rattle.slices.specs.Same.{same}
 use Rattle.slices.specs.Text.{text}
-use Rattle.pictures.specs.Picture.{digit, capitalOrDigit, partyChar, firstThree}
-
--- each character passes the test at its place, and there are as many
-unfoldable pub held : List (ℕ → Bool) → List ℕ → Bool
-held [] [] = true
-held [] (c ∷ l) = false
-held (p ∷ ps) [] = false
-held (p ∷ ps) (c ∷ l) = cond (p c) (held ps l) false
+use Rattle.pictures.specs.Picture.{digit, capitalOrDigit, partyChar, firstThree, held}
 
 -- "Identifications: 0 to 35 characters"
 unfoldable pub identification : List ℕ → Bool

@@ -1,7 +1,7 @@
 // Forms of values that are judged character by character.
 use characters::count_chars;
-use codes::is_said;
 use pictures::fits;
+use pictures::is_said;
 ghost use mathlib.Core.Path.{_≡_};
 ghost use Rattle.characters.specs.Says.{says};
 ghost use Rattle.forms.specs.Forms.{identification, marketPartner, resourceObject, party, fixedVersion, quarterHour};

@@ -1,3 +1,3 @@
 pub mod Columns
-pub mod Sound
+pub mod Named
 pub mod Unique

@@ -9,13 +9,9 @@ use native.Mathlib.Numerals.{add-one}
 use native.Mathlib.Omega.{arith}
 use lib.ListN.{length, take, drop, getD, set, drop-of-length-le}
 use lib.Seq.{sets, drop-cons}
+use Rattle.lists.proofs.Stores.{sets-cons}
 use Rattle.lists.specs.Zeros.{zeros}
 use Rattle.library.specs.Cells.{cells}
-
--- stores behind the first cell leave it
-behind : (a : ℕ) (l : List ℕ) (j : ℕ) (vs : List ℕ) → sets (a ∷ l) (suc j) vs ≡ a ∷ sets l j vs
-behind a l j [] = refl
-behind a l j (v ∷ vs) = behind a (set l j v) (suc j) vs
 
 few-zeros : (n m : ℕ) → n ≤ m → zeros n ≡ take n (zeros m)
 few-zeros zero m h = refl
@@ -29,7 +25,7 @@ into-zeros (v ∷ ns) zero m h = nowhere ns 1
     nowhere : (ws : List ℕ) (i : ℕ) → sets [] i ws ≡ []
     nowhere [] i = refl
     nowhere (w ∷ ws) i = nowhere ws (suc i)
-into-zeros (v ∷ ns) (suc n) m h = behind v (zeros n) 0 ns ∙ ap (λ (l : List ℕ). v ∷ l) (into-zeros ns n m (omega arith))
+into-zeros (v ∷ ns) (suc n) m h = sets-cons v (zeros n) 0 ns ∙ ap (λ (l : List ℕ). v ∷ l) (into-zeros ns n m (omega arith))
 
 -- i numbers of ns are put into t, which was a slice of n cells
 pub record Put (n : ℕ) (ns t : List ℕ) (i : ℕ) : Type 0 where

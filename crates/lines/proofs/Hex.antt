@@ -1,10 +1,11 @@
 -- The two loops over hexadecimal digits.
 --     Read     from digits to bytes
 --     Shown    from bytes to digits
+-- and how long the digits are.
 -- Assumes nothing.
 use mathlib.Core.Path.{_≡_, refl, sym}
 use mathlib.Core.List.{List, [], _∷_}
-use Prim.Native.Nat.{ℕ, suc, _+_, _*_, _/_, _≤_, _<_, min}
+use Prim.Native.Nat.{ℕ, suc, _+_, _-_, _*_, _/_, _≤_, _<_, min}
 use native.Mathlib.Numerals.{add-one}
 use native.Mathlib.Omega.{arith}
 use lib.ListN.{length, drop, set, getD, drop-of-length-le}
@@ -90,3 +91,10 @@ module _ (s out₀ out : List ℕ) (n i : ℕ) (r : Shown s out₀ out n i) (h :
 pub shown-end : (s out₀ out : List ℕ) (n i : ℕ) → Shown s out₀ out n i → length s ≤ i → Putting (hexText s) out₀ out n []
 unfolding hexText
 shown-end s out₀ out n i r h = rw (drop-of-length-le s h) at (r .put)
+
+-- two digits a byte, and a space between two
+pub hex-size : (s : List ℕ) → length (hexText s) ≤ 3 * length s - 1
+unfolding hexText
+hex-size [] = omega arith
+hex-size (b ∷ []) = omega arith
+hex-size (b ∷ c ∷ s) = let h = hex-size (c ∷ s) in omega arith

@@ -1,5 +1,4 @@
 pub mod Lines
 pub mod Hex
 pub mod Copies
-pub mod Signs
 pub mod Unique

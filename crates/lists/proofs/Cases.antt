@@ -1,8 +1,8 @@
 -- A test with what it tells, for a proof by cases on it:
 --     ⊎-elim (λ y. simp (y .1) ..) (λ y. simp (y .1) ..) (ltb-cases a b)
 -- Assumes nothing.
-use mathlib.Core.Path.{_≡_, refl}
-use Prim.Native.Nat.{ℕ, _≤_, _<_}
+use mathlib.Core.Path.{_≡_, refl, ap}
+use Prim.Native.Nat.{ℕ, _+_, _≤_, _<_}
 use mathlib.Core.Bool.{Bool, true, false, cond}
 use mathlib.Core.Logic.{_⊎_, inl, inr}
 use native.Mathlib.Omega.{arith}
@@ -38,6 +38,9 @@ eqb-cases a b = go (eqb a b) refl
 pub zero-not-one : _≡_ {A = ℕ} 0 1 → ⊥
 zero-not-one e = omega arith
 
+pub never : {A : Type 0} → _≡_ {A = Bool} false true → A
+never e = absurd (zero-not-one (ap (λ (b : Bool). cond b 1 0) e))
+
 -- what holds of both cases holds of their choice
 pub by-cond : {A : Type 0} (P : A → Type 0) (t : Bool) {a b : A} → P a → P b → P (cond t a b)
 by-cond P true p q = p
@@ -47,3 +50,12 @@ by-cond P false p q = q
 pub past-cond : {A : Type 0} {a b c : A} (t : Bool) → (a ≡ c → ⊥) → cond t a b ≡ c → (t ≡ false) × (b ≡ c)
 past-cond true other e = absurd (other e)
 past-cond false other e = (refl, e)
+
+-- of two tests, the second where the first passed
+pub both-true : (t : Bool) {u : Bool} → cond t u false ≡ true → (t ≡ true) × (u ≡ true)
+both-true true e = (refl, e)
+both-true false e = never e
+
+-- a number that is none of those below m, nor m
+pub up : (m : ℕ) {k : ℕ} → m ≤ k → (k ≡ m → ⊥) → m + 1 ≤ k
+up m h n = omega arith

@@ -1,9 +1,11 @@
 -- Stores into a list.
 --     sets-out    stores past the end
+--     sets-more   stores after other stores
+--     sets-cons   stores behind the first cell
 --     Putting     a loop that puts w into a buffer cell by cell, as far as it has room
 -- Assumes nothing.
 use mathlib.Core.Path.{_≡_, refl, sym, ap, _∙_}
-use mathlib.Core.List.{List, [], _∷_}
+use mathlib.Core.List.{List, [], _∷_, _++_}
 use mathlib.Core.Logic.{⊎-elim}
 use Prim.Native.Nat.{ℕ, suc, _+_, _≤_, min}
 use native.Mathlib.Omega.{arith}
@@ -16,6 +18,16 @@ module _ {A : Type 0} where
   pub sets-out : (vs l : List A) (i : ℕ) → length l ≤ i → sets l i vs ≡ l
   sets-out [] l i h = refl
   sets-out (a ∷ vs) l i h = rw (set-out l i a h) (sets-out vs l (suc i) (omega arith))
+
+  pub sets-more : (w l : List A) (i : ℕ) (v : List A) → sets l i (w ++ v) ≡ sets (sets l i w) (i + length w) v
+  sets-more [] l i v = let e : i ≡ i + 0 = omega arith in ap (λ (k : ℕ). sets l k v) e
+  sets-more (a ∷ w) l i v =
+      let e : suc i + length w ≡ i + suc (length w) = omega arith in
+      sets-more w (set l i a) (suc i) v ∙ ap (λ (k : ℕ). sets (sets (set l i a) (suc i) w) k v) e
+
+  pub sets-cons : (a : A) (l : List A) (k : ℕ) (vs : List A) → sets (a ∷ l) (suc k) vs ≡ a ∷ sets l k vs
+  sets-cons a l k [] = refl
+  sets-cons a l k (v ∷ vs) = sets-cons a (set l k v) (suc k) vs
 
   -- n cells of w are put into the buffer, and `rest` is to come
   pub record Putting (w out₀ out : List A) (n : ℕ) (rest : List A) : Type 0 where

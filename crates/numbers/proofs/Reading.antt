@@ -2,13 +2,14 @@
 use Prim.Native.Nat.{ℕ, zero, suc, _+_, _-_, _*_, _^_, _≤_, _<_}
 use mathlib.Core.Path.{_≡_, refl, sym, ap, _∙_}
 use mathlib.Core.List.{List, [], _∷_}
-use mathlib.Core.Bool.{Bool, true, false, cond}
+use mathlib.Core.Bool.{true, false}
 use native.Mathlib.Omega.{arith}
 use native.Mathlib.Nat.{pow-suc, pow-le-pow-right, mul-le-mul-left, mul-assoc}
 use native.Mathlib.Numerals.{add-one}
 use lib.ListN.{take, drop}
 use lib.Dec.{leb, lit<}
 use borrow.Author.Tests.{leb-true}
+use Rattle.lists.proofs.Cases.{both-true}
 use Rattle.pictures.specs.Picture.{digit}
 use Rattle.numbers.specs.Digits.{digits, numberFrom}
 
@@ -44,13 +45,9 @@ digits-full : (t : List ℕ) → digits 0 t ≡ 0
 unfolding digits
 digits-full t = refl
 
-both-true : (a b : Bool) → cond a b false ≡ true → (a ≡ true) × (b ≡ true)
-both-true true b e = (refl, e)
-both-true false b e = (e, cc)
-
 pub digit-range : (c : ℕ) → digit c ≡ true → (0x30 ≤ c) × (c ≤ 0x39)
 unfolding digit
-digit-range c e = let p = both-true (leb 0x30 c) (leb c 0x39) e in (leb-true _ _ (p .0), leb-true _ _ (p .1))
+digit-range c e = let p = both-true (leb 0x30 c) e in (leb-true _ _ (p .0), leb-true _ _ (p .1))
 
 tenfold : (b n : ℕ) → b * 10 ^ (n + 1) ≡ b * 10 ^ n * 10
 tenfold b n = rw (add-one n, pow-suc 10 n, ← mul-assoc b (10 ^ n) 10)

@@ -2,4 +2,4 @@ pub mod Digits
 pub mod Number
 pub mod Amount
 pub mod Parts
-pub mod Shape
+pub mod Alike

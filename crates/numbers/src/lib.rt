@@ -1,12 +1,12 @@
 // Numbers and amounts, as 01 writes them in values. Every character is read by `said_at`.
 use characters::Said;
 use characters::said_at;
+use pictures::is_digit;
 use slices::rest;
 ghost use mathlib.Core.Path.{_≡_};
 ghost use Prim.Native.Nat.{_+_, _*_, _<_, _≤_, _^_};
 ghost use lib.ListN.{take, drop};
 ghost use Rattle.characters.specs.Says.{says};
-ghost use Rattle.pictures.specs.Picture.{digit};
 ghost use Rattle.numbers.specs.Digits.{digits, numberFrom, ended};
 ghost use Rattle.numbers.specs.Number.{atMostNine, numberWithin, numberOf};
 ghost use Rattle.numbers.specs.Amount.{amountOf};
@@ -33,12 +33,6 @@ struct Digits {
     count: usize,
     value: u64,
     end: usize,
-}
-
-fn is_digit(c: u32) -> bool
-    ensures { λ r. ⌜ r ≡ digit c ⌝ }
-{
-    if 0x30 <= c { c <= 0x39 } else { false }
 }
 
 fn digits_of(v: &[u8], most: usize, before: u64) -> Digits

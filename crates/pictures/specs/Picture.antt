@@ -2,7 +2,7 @@
 -- other mark stands for itself.
 use Prim.Native.Nat.{ℕ}
 use Prim.Native.Char.{code}
-use mathlib.Core.List.{List, [], _∷_}
+use mathlib.Core.List.{List, [], _∷_, map}
 use mathlib.Core.Bool.{Bool, true, false, cond}
 use lib.Dec.{leb, eqb}
 
@@ -35,9 +35,17 @@ takes m c =
     (cond (eqb m (code "?")) (firstThree c)
     (eqb m c))))
 
--- the characters fit the picture: mark by mark, and neither is longer
+-- each character passes the test at its place, and there are as many
+unfoldable pub held : List (ℕ → Bool) → List ℕ → Bool
+held [] [] = true
+held [] (c ∷ l) = false
+held (p ∷ ps) [] = false
+held (p ∷ ps) (c ∷ l) = cond (p c) (held ps l) false
+
+-- the characters fit the picture: each is taken by the mark at its place, and there are as many
 unfoldable pub fitsOf : List ℕ → List ℕ → Bool
-fitsOf [] [] = true
-fitsOf [] (c ∷ cs) = false
-fitsOf (m ∷ ms) [] = false
-fitsOf (m ∷ ms) (c ∷ cs) = cond (takes m c) (fitsOf ms cs) false
+fitsOf picture l = held (map takes picture) l
+
+-- what the code holds a character against: in a plain text a character, which stands for itself, else a mark. Public contracts do not cite this.
+unfoldable pub test : Bool → ℕ → ℕ → Bool
+test plain m c = cond plain (eqb m c) (takes m c)

@@ -1,13 +1,17 @@
-// A value held against a picture of its form. Both functions look at what the value says, never at its bytes.
+// A value held against a picture of its form, or against a text. All functions look at what the value says, never at its bytes.
 use characters::Said;
 use characters::said_at;
 ghost use mathlib.Core.Path.{_≡_};
 ghost use Prim.Native.Nat.{_<_};
+ghost use mathlib.Core.List.{map};
+ghost use Rattle.slices.specs.Same.{same};
 ghost use Rattle.characters.specs.Says.{says};
 ghost use Rattle.pictures.specs.Number.{numberAt};
-ghost use Rattle.pictures.specs.Picture.{digit, capital, capitalOrDigit, partyChar, firstThree, takes, fitsOf};
+ghost use Rattle.pictures.specs.Picture.{digit, capital, capitalOrDigit, partyChar, firstThree, takes, held, fitsOf, test};
 
-fn is_digit(c: u32) -> bool
+// Whether a character is an ASCII digit.
+// Ruled out: true for a digit of another script, for `/` or `:`; false for `0` or `9`.
+pub fn is_digit(c: u32) -> bool
     ensures { λ r. ⌜ r ≡ digit c ⌝ }
 {
     if 0x30 <= c { c <= 0x39 } else { false }
@@ -57,30 +61,50 @@ fn is_taken(m: u8, c: u32) -> bool
     }
 }
 
-// Whether what v says fits the picture.
-// Ruled out: true for a value that only begins as the picture does, or that ends before it; a digit of another script under `9`.
-pub fn fits(picture: &[u8], v: &[u8]) -> bool
-    ensures { λ r. ⌜ r ≡ fitsOf (now (picture .entry)) (says (now (v .entry))) ⌝ }
+fn is_passed(plain: bool, m: u8, c: u32) -> bool
+    ensures { λ r. ⌜ r ≡ test plain m c ⌝ }
+{
+    if plain { m as u32 == c } else { is_taken(m, c) }
+}
+
+fn is_held(plain: bool, marks: &[u8], v: &[u8]) -> bool
+    ensures { λ r. ⌜ r ≡ held (map (test plain) (now (marks .entry))) (says (now (v .entry))) ⌝ }
 {
     let mut i = 0;
     let mut k = 0;
     while i < v.len() {
         match said_at(&v[i..]) {
             Said::Says(c, n) => {
-                if picture.len() <= k {
+                if marks.len() <= k {
                     return false;
                 }
-                if is_taken(picture[k], c) {
+                if is_passed(plain, marks[k], c) {
                     i += n;
                     k += 1;
                 } else {
                     return false;
                 }
             }
-            Said::Over => return picture.len() <= k,
+            Said::Over => return marks.len() <= k,
         }
     }
-    picture.len() <= k
+    marks.len() <= k
+}
+
+// Whether what v says fits the picture.
+// Ruled out: true for a value that only begins as the picture does, or that ends before it; a digit of another script under `9`.
+pub fn fits(picture: &[u8], v: &[u8]) -> bool
+    ensures { λ r. ⌜ r ≡ fitsOf (now (picture .entry)) (says (now (v .entry))) ⌝ }
+{
+    is_held(false, picture, v)
+}
+
+// Whether a value says a text, character for character.
+// Ruled out: true where the value only begins with the text, or the text with the value; false for an empty value and an empty text.
+pub fn is_said(text: &[u8], v: &[u8]) -> bool
+    ensures { λ r. ⌜ r ≡ same (now (text .entry)) (says (now (v .entry))) ⌝ }
+{
+    is_held(true, text, v)
 }
 
 // The number that n characters of what v says show, from the place `from` on.

@@ -27,6 +27,7 @@ use Rattle.reader.specs.Items.{Placed, placed, itemsAfter, itemsFrom}
 use Rattle.reader.specs.Rows.{spanOf, usedBefore}
 use Rattle.reader.specs.Reading.{Tables, Out, blank, roomIn, refusedAt, acceptedAt, endedAt, withoutUsed, stepOf, tablesAfter, readItems, itemsRead, readAfter, readInto, orBlank, readSheet}
 use Rattle.reader.proofs.Ran.{read-next, read-stop, items-over}
+use Rattle.blindness.proofs.Counts.{one-more}
 use Rattle.promises.specs.Rows.{ZeroPast, Sized}
 use Rattle.promises.specs.Items.{startedIn, before, starts, kindIn, seriesElement, intervalElement, itemsBy, itemsIn}
 use Rattle.promises.proofs.Steps.{Sound, Stepped, Rises}
@@ -59,10 +60,6 @@ none-left : (place : ℕ) → before place [] ≡ []
 unfolding before
 none-left place = refl
 
-exact : (n : ℕ) → n < 4294967295 → oneMore n ≡ n + 1
-unfolding oneMore
-exact n h = rw (lt-ltb n 4294967295 h) refl
-
 -- one item more
 starts-one : (element n m : ℕ) (p : Placed) (xs : List Placed) → n < 4294967295 → m ≡ raised (startedIn (p .item) (p .rest)) element n
     → m + starts element xs ≡ n + starts element (p ∷ xs)
@@ -71,7 +68,7 @@ starts-one element n m p xs b e =
     ⊎-elim
     (λ (y : eqb (startedIn (p .item) (p .rest)) element ≡ true).
     let z : m ≡ oneMore n = rw y at e in
-    rw y (omega (arith, z, exact n b)))
+    rw y (omega (arith, z, one-more n b)))
     (λ (y : eqb (startedIn (p .item) (p .rest)) element ≡ false).
     let z : m ≡ n = rw y at e in
     rw y (omega (arith, z)))

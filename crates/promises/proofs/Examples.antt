@@ -12,14 +12,14 @@ use Rattle.tags.specs.Known.{absent, noneKnown, oneMore as anotherKnown, noted 
 use Rattle.tags.specs.Tail.{onto, endsAfter, ends, keep, named, twice}
 use Rattle.items.specs.Item.{endClose, endName, endTag, tagOf, tagItem, startTag, item}
 use Rattle.prolog.specs.Prolog.{markLen, beginAfter, begin}
-use Rattle.pictures.specs.Picture.{capital, capitalOrDigit, firstThree, digit, takes, fitsOf}
+use Rattle.pictures.specs.Picture.{capital, capitalOrDigit, firstThree, digit, takes, held, fitsOf}
 use Rattle.pictures.specs.Number.{numberOf, numberAt}
 use Rattle.trims.specs.Trim.{space, dropLead, keep as keepEnd, dropTrail, dropped}
 use Rattle.numbers.specs.Digits.{digits, numberFrom, ended as nothingAfter, onlyDigits}
 use Rattle.numbers.specs.Amount.{minus, unsigned, fractionForm, unsignedForm, amountForm, filled, thousandths, signed, amountOf}
 use Rattle.numbers.specs.Number.{numberForm, atMostNine, numberWithin, numberOf as countOf}
 use Rattle.codes.specs.Lists.{lists, codesOf, listed}
-use Rattle.forms.specs.Forms.{held, identification, marketPartner, resourceObject, quarterHour, fixedVersion}
+use Rattle.forms.specs.Forms.{identification, marketPartner, resourceObject, quarterHour, fixedVersion}
 use Rattle.times.specs.Calendar.{leap, monthDays, realDate, daysBefore, leapDay, dayNumber, dayOf}
 use Rattle.times.specs.Times.{minuteOn, minuteAt, isMinute, dateTime, between, interval}
 use Rattle.times.specs.Periods.{costPeriod, quarterHours, dayBound, dayPeriod}

@@ -10,7 +10,7 @@ use native.Mathlib.Nat.{add-zero, zero-add}
 use lib.Dec.{leb, ltb, eqb}
 use lib.ListN.{length, getD}
 use borrow.Author.Tests.{lt-leb, ne-eqb, leb-true, ltb-true}
-use Rattle.lists.proofs.Cases.{leb-cases, eqb-cases, zero-not-one}
+use Rattle.lists.proofs.Cases.{leb-cases, eqb-cases, both-true}
 use Rattle.slices.specs.Same.{same}
 use Rattle.slices.specs.Text.{text}
 use Rattle.elements.specs.Names.{names, numberIn, elementNo}
@@ -27,16 +27,12 @@ abbrev eachRow : (ℕ → ℕ → Bool) → ℕ → List ℕ → Bool
 eachRow test i [] = true
 eachRow test i (w ∷ ws) = cond (test i w) (eachRow test (suc i) ws) false
 
-past-true : (t u : Bool) → cond t u false ≡ true → (t ≡ true) × (u ≡ true)
-past-true true u e = (refl, e)
-past-true false u e = let z : _≡_ {A = Bool} false true = e in absurd (zero-not-one (cc))
-
 row-at : (test : ℕ → ℕ → Bool) (i : ℕ) (ws : List ℕ) → eachRow test i ws ≡ true → (j : ℕ) → j < length ws → test (i + j) (getD ws j 0) ≡ true
 row-at test i [] e j h = absurd (omega arith)
-row-at test i (w ∷ ws) e zero h = rw add-zero (past-true (test i w) (eachRow test (suc i) ws) e .0)
+row-at test i (w ∷ ws) e zero h = rw add-zero (both-true (test i w) e .0)
 row-at test i (w ∷ ws) e (suc j) h =
     let q : suc i + j ≡ i + suc j = omega arith in
-    rw q at (row-at test (suc i) ws (past-true (test i w) (eachRow test (suc i) ws) e .1) j (omega arith))
+    rw q at (row-at test (suc i) ws (both-true (test i w) e .1) j (omega arith))
 
 row-of : (test : ℕ → ℕ → Bool) (ws : List ℕ) → eachRow test 0 ws ≡ true → (j : ℕ) → j < length ws → test j (getD ws j 0) ≡ true
 row-of test ws e j h = ap (λ (k : ℕ). test k (getD ws j 0)) (sym (zero-add j)) ∙ row-at test 0 ws e j h

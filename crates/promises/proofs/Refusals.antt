@@ -4,7 +4,6 @@ use mathlib.Core.Path.{_≡_, refl}
 use mathlib.Core.List.{List}
 use mathlib.Core.Bool.{Bool, true, false, cond}
 use mathlib.Core.Logic.{⊎-elim}
-use native.Mathlib.Omega.{arith}
 use lib.Dec.{leb, eqb}
 use lib.ListN.{getD}
 use borrow.Author.Tests.{leb-false}
@@ -22,7 +21,7 @@ use Rattle.numbers.specs.declared.Number.{Number}
 use Rattle.numbers.specs.declared.Number.the-variants.{Is, NotNumber}
 use Rattle.guideline.specs.Columns.{formOf, schemeOf, roleOf}
 use Rattle.guideline.specs.Kinds.{hasEnough}
-use Rattle.rules.specs.Rules.{unless, version, formRefusal, refused, periodFits, judgePeriodBy, judgePeriod, judgeIntervalBy, judgeInterval, positionFits, judgePositionBy, judgePosition, judge}
+use Rattle.rules.specs.Rules.{unless, version, formRefusal, periodFits, judgePeriodBy, judgePeriod, judgeIntervalBy, judgeInterval, positionFits, judgePositionBy, judgePosition, judge}
 use Rattle.rules.specs.declared.Held.{Held}
 use Rattle.rules.specs.declared.Judged.{Judged}
 use Rattle.items.specs.declared.Tag.{Tag}
@@ -31,6 +30,7 @@ use Rattle.states.specs.Attributes.{attributesFit, valueOf, schemeRefusal, leas
 use Rattle.states.specs.Moves.{heldOf, cutShort, tooMany, noRoom, halfOriginals, valuesJudged, judgedAt, startJudged, countRefusal, endRefusal}
 use Rattle.states.specs.declared.State.{State}
 use Rattle.states.specs.declared.Room.{Room}
+use Rattle.blindness.proofs.Counts.{judged-zero}
 
 -- 0, which is none, or 2 to 9
 abbrev pub given : ℕ → Bool
@@ -119,20 +119,10 @@ module _ (x : State) (kind : ℕ) (rows : List ℕ) (r : ℕ) (t : Tag) (s : Lis
       (by-cond GivenBy (noRoom x (roleOf w) room) refl
       (by-cond GivenBy (attributesFit w t) (by-cond GivenBy (halfOriginals x (roleOf w)) refl (tag-given w t (heldOf x kind) s)) refl)))
 
--- a tag that is not refused passed the tests before
-past-number : (t : Bool) (n : ℕ) (j : Judged) → (n ≡ 0 → ⊥) → cond t (refused n) j .number ≡ 0 → (t ≡ false) × (j .number ≡ 0)
-past-number true n j f e = absurd (f e)
-past-number false n j f e = (refl, e)
-
 module _ (x : State) (kind : ℕ) (rows : List ℕ) (r : ℕ) (t : Tag) (s : List ℕ) (empty : Bool) (room : Room) where
-  -- among them that for room: "4: a due series or Interval start finds its table full"
+  -- of the tests, that for room: "4: a due series or Interval start finds its table full"
   roomy : startJudged x kind rows r t s empty room .number ≡ 0 → noRoom x (roleOf (getD rows r 0)) room ≡ false
-  unfolding startJudged judgedAt
-  roomy e =
-      let w = getD rows r 0 in
-      let a = past-number (cutShort empty rows r) 3 _ (λ z. omega arith) e in
-      let b = past-number (tooMany x (roleOf w) kind) 3 _ (λ z. omega arith) (a .1) in
-      past-number (noRoom x (roleOf w) room) 4 _ (λ z. omega arith) (b .1) .0
+  roomy e = judged-zero x kind rows r t s empty room e .1
 
   module _ (e : startJudged x kind rows r t s empty room .number ≡ 0) where
     pub series-room : roleOf (getD rows r 0) ≡ 2 → x .series < room .series

@@ -2,14 +2,14 @@
 use Prim.Native.Nat.{ℕ, zero, suc, _+_, _≤_, _<_}
 use mathlib.Core.Path.{_≡_, refl, sym, ap, _∙_}
 use mathlib.Core.List.{List, [], _∷_}
-use mathlib.Core.Bool.{Bool, true, false, cond}
+use mathlib.Core.Bool.{true}
 use native.Mathlib.Omega.{arith}
 use native.Mathlib.Nat.{add-zero}
 use lib.Dec.{eqb}
 use lib.IntN.{ℤ}
 use lib.ListN.{length, drop, drop-of-length-le, length-drop}
 use lib.Seq.{drop-drop}
-use Rattle.lists.proofs.Cases.{by-cond, zero-not-one}
+use Rattle.lists.proofs.Cases.{by-cond, never}
 use Rattle.items.specs.Item.{item, itemEnd}
 use Rattle.items.specs.declared.Item.{Item}
 use Rattle.items.specs.declared.Item.the-variants.{Start, Empty, End, Text, Comment}
@@ -92,17 +92,14 @@ unfolding step stepOn moved
 unreadable st one two p s room =
     by-cond (λ (y : Step). y ≡ Refused 2) (eqb (kindTold st (Unreadable p) s) 1) refl refl
 
-false-not-true : _≡_ {A = Bool} false true → ⊥
-false-not-true e = zero-not-one (ap (λ (b : Bool). cond b 1 0) e)
-
 still : (st : State) (one two : List ℕ) (x : Item) → passed x ≡ true → (s : List ℕ) (room : Room) → step st one two x s room ≡ Next st Nothing
 unfolding step stepOn moved passed
-still st one two (Start t) w s room = absurd (false-not-true w)
-still st one two (Empty t) w s room = absurd (false-not-true w)
-still st one two (End n e) w s room = absurd (false-not-true w)
+still st one two (Start t) w s room = never w
+still st one two (Empty t) w s room = never w
+still st one two (End n e) w s room = never w
 still st one two (Text white e) w s room = rw w (by-cond (λ (y : Step). y ≡ Next st Nothing) (eqb (kindTold st (Text true e) s) 1) refl refl)
 still st one two (Comment e) w s room = by-cond (λ (y : Step). y ≡ Next st Nothing) (eqb (kindTold st (Comment e) s) 1) refl refl
-still st one two (Unreadable p) w s room = absurd (false-not-true w)
+still st one two (Unreadable p) w s room = never w
 
 module _ {doc : List ℕ} {from : ℕ} {t : Tables} {one two : List ℕ} {room : Room} {ser pos : List ℕ} {ams : List ℤ} {st : State} {at : ℕ}
     (r : Ran doc from t one two room ser pos ams st at) where

@@ -6,6 +6,7 @@ use numbers::amount_of;
 use slices::is_same;
 use states::Entry;
 use states::State;
+use states::count_of;
 use tables::set_amount;
 use tables::set_number;
 use tags::Span;
@@ -58,16 +59,6 @@ fn cell_of(series: u32, k: u32) -> usize
 {
     let row = last_of(series) as usize;
     8 * row + k as usize
-}
-
-fn count_of(intervals: u32, first: u32) -> u32
-    ensures { λ r. ⌜ r ≡ intervals - first ⌝ }
-{
-    if first <= intervals {
-        intervals - first
-    } else {
-        0
-    }
 }
 
 fn set_view(t: &mut [u32], series: u32, k: u32, start: usize, len: usize)

@@ -7,12 +7,11 @@ use mathlib.Core.Bool.{Bool, true, false, cond}
 use mathlib.Core.Logic.{⊎-elim}
 use native.Mathlib.Omega.{arith}
 use lib.ListN.{length}
-use borrow.Author.Tests.{eq-eqb}
 use Rattle.lists.proofs.Cases.{bool-cases, by-cond}
 use Rattle.slices.specs.Same.{same}
+use Rattle.slices.proofs.Sames.{same-self, same-equal}
 use Rattle.tags.specs.Tail.{Attr, Ends, closed, torn, onto, named, twice, twiceIn}
 use Rattle.repeats.specs.Bearers.{attributesOf, bearers, bears}
-use Rattle.repeats.proofs.Pigeonhole.{same-equal}
 
 -- n so far, and what f counts of the attributes from here on; nothing where the tag is torn
 unfoldable pub total : (List Attr → ℕ) → ℕ → Ends → ℕ
@@ -107,11 +106,6 @@ twice-torn = refl
 -- k attributes bear the name x
 pub told-twice : (x : List ℕ) (e : Ends) (k : ℕ) → k ≡ bearers x (attributesOf e) → 2 ≤ k → true ≡ twiceIn e
 told-twice x e k q h = sym (twice-in e ∙ two-borne x (attributesOf e) (rw q at h))
-
-same-self : (x : List ℕ) → same x x ≡ true
-unfolding same
-same-self [] = refl
-same-self (a ∷ x) = rw (eq-eqb a a refl) (same-self x)
 
 pub bears-here : (a : Attr) (e : Ends) → bears (a .name) (onto a e) ≡ true
 unfolding bears onto named

@@ -1,29 +1,19 @@
 -- The different names of a list of attributes: no more than its attributes, fewer where a name is there twice; and each step up in the
 -- order, to a name of the list, finds one more of them. Assumes nothing.
 use Prim.Native.Nat.{ℕ, suc, _+_, _≤_, _<_}
-use mathlib.Core.Path.{_≡_, refl, sym, ap, _∙_}
+use mathlib.Core.Path.{_≡_, sym, ap, _∙_}
 use mathlib.Core.List.{List, [], _∷_}
 use mathlib.Core.Bool.{true, false}
 use mathlib.Core.Logic.{_⊎_, inr, ⊎-elim}
 use native.Mathlib.Omega.{arith}
 use native.Mathlib.Nat.{le-refl}
 use lib.ListN.{length}
-use Rattle.lists.proofs.Cases.{bool-cases, eqb-cases}
+use Rattle.lists.proofs.Cases.{bool-cases, never}
 use Rattle.slices.specs.Same.{same}
+use Rattle.slices.proofs.Sames.{same-equal}
 use Rattle.tags.specs.Tail.{Attr, named, twice}
 use Rattle.repeats.specs.Order.{less, upTo}
-use Rattle.repeats.proofs.Order.{never, less-self, less-trans}
-
-pub same-equal : (x y : List ℕ) → same x y ≡ true → x ≡ y
-unfolding same
-same-equal [] [] p = refl
-same-equal [] (b ∷ y) p = never p
-same-equal (a ∷ x) [] p = never p
-same-equal (a ∷ x) (b ∷ y) p =
-    ⊎-elim
-    (λ e. let q = same-equal x y (rw (e .1) at p) in let f = e .0 in cc)
-    (λ e. never (rw (e .1) at p))
-    (eqb-cases a b)
+use Rattle.repeats.proofs.Order.{less-self, less-trans}
 
 -- what one attribute more comes to: its name is there again; it is past x; it is one more
 module _ (x : List ℕ) (a : Attr) (more : List Attr) where

@@ -7,7 +7,7 @@
 use mathlib.Core.Path.{_≡_, refl, ap, sym, _∙_}
 use mathlib.Core.List.{List, [], _∷_}
 use mathlib.Core.Logic.{⊎-elim}
-use Prim.Native.Nat.{ℕ, _+_, _-_, _*_, _≤_, _<_, min}
+use Prim.Native.Nat.{ℕ, _+_, _-_, _≤_, _<_, min}
 use native.Mathlib.Omega.{arith}
 use lib.ListN.{length, take, drop, length-append, length-take, length-replicate}
 use lib.Seq.{sets, sets-eq, take-at}
@@ -25,6 +25,7 @@ use Rattle.reader.specs.Items.{itemsAfter, itemsFrom}
 use Rattle.reader.specs.Reading.{blank, refusedAt, acceptedAt, endedAt, readItems, itemsRead, readAfter, readInto, orBlank, readSheet}
 use Rattle.reader.specs.Answer.{noteFor, answerOf, told, noted, readOf}
 use Rattle.lines.specs.Text.{glyphOf, hexText}
+use Rattle.lines.proofs.Hex.{hex-size}
 use Rattle.replies.specs.Reply.{lineFor, noteIn, replyTo}
 use Rattle.replies.proofs.Replies.{reply-long, reply-note}
 
@@ -36,13 +37,6 @@ empty-reply = refl
 -- "for longer input it prints `too long` and one newline"
 pub long-reply : (input : List ℕ) → 65536 < length input → replyTo input ≡ lineFor (text "too long")
 long-reply = reply-long
-
--- two digits a byte, and a space between two
-hex-size : (s : List ℕ) → length (hexText s) ≤ 3 * length s - 1
-unfolding hexText
-hex-size [] = omega arith
-hex-size (b ∷ []) = omega arith
-hex-size (b ∷ c ∷ s) = let h = hex-size (c ∷ s) in omega arith
 
 left-size : (w : List ℕ) → length (left w 16) ≡ 16
 unfolding left

@@ -3,11 +3,12 @@
 use mathlib.Core.Path.{_≡_, refl, sym, ap, _∙_}
 use mathlib.Core.List.{List, [], _∷_, _++_}
 use mathlib.Core.Logic.{⊎-elim}
-use Prim.Native.Nat.{ℕ, suc, _+_, _≤_, _<_, min}
+use Prim.Native.Nat.{ℕ, _+_, _≤_, _<_, min}
 use native.Mathlib.Omega.{arith}
 use lib.ListN.{length, take, set, length-set, length-append}
 use lib.Seq.{sets, length-sets, set-out, length-take-le}
 use borrow.Author.Tests.{lt-ltb, le-ltb}
+use Rattle.lists.proofs.Stores.{sets-more}
 use Rattle.lists.proofs.Cases.{leb-cases}
 use Rattle.io.specs.Counts.{Counts}
 use Rattle.slices.specs.Text.{text}
@@ -18,12 +19,6 @@ use Rattle.replies.specs.Reply.{lineFor, noteIn, replyTo}
 -- what the contract says of w: the count, the buffer, and that the count lies within it
 abbrev pub Shows : List ℕ → List ℕ → ℕ → List ℕ → Type 0
 Shows w out₀ m out = (m ≡ min (length w) (length out₀)) × ((out ≡ sets out₀ 0 w) × Counts m out)
-
-sets-more : (w out : List ℕ) (i : ℕ) (v : List ℕ) → sets out i (w ++ v) ≡ sets (sets out i w) (i + length w) v
-sets-more [] out i v = let e : i ≡ i + 0 = omega arith in ap (λ (k : ℕ). sets out k v) e
-sets-more (a ∷ w) out i v =
-    let e : suc i + length w ≡ i + suc (length w) = omega arith in
-    sets-more w (set out i a) (suc i) v ∙ ap (λ (k : ℕ). sets (sets (set out i a) (suc i) w) k v) e
 
 -- a byte after w, dropped where w fills the buffer
 byte-more : (w out : List ℕ) (n b : ℕ) → n ≡ min (length w) (length out) → set (sets out 0 w) n b ≡ sets out 0 (w ++ (b ∷ []))

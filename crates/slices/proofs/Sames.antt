@@ -1,15 +1,34 @@
--- A loop that compares two slices of one length: its invariant, `Sames`, and how it starts, goes on and ends. Assumes nothing.
+-- Two lists that are the same are equal; and a loop that compares two slices of one length: its invariant, `Sames`, and how it starts, goes on
+-- and ends. Assumes nothing.
 use Prim.Native.Nat.{ℕ, suc, _+_, _≤_, _<_}
 use mathlib.Core.Path.{_≡_, refl, sym, ap, _∙_}
 use mathlib.Core.List.{List, [], _∷_}
 use mathlib.Core.Bool.{Bool, true, false, cond}
+use mathlib.Core.Logic.{⊎-elim}
 use native.Mathlib.Omega.{arith}
 use native.Mathlib.Numerals.{add-one}
 use lib.ListN.{length, getD, drop, drop-of-length-le}
 use lib.Seq.{drop-cons}
 use lib.Dec.{eqb}
 use borrow.Author.Tests.{eq-eqb, ne-eqb}
+use Rattle.lists.proofs.Cases.{eqb-cases, never}
 use Rattle.slices.specs.Same.{same}
+
+pub same-self : (s : List ℕ) → same s s ≡ true
+unfolding same
+same-self [] = refl
+same-self (a ∷ s) = rw (eq-eqb a a refl) (same-self s)
+
+pub same-equal : (x y : List ℕ) → same x y ≡ true → x ≡ y
+unfolding same
+same-equal [] [] p = refl
+same-equal [] (b ∷ y) p = never p
+same-equal (a ∷ x) [] p = never p
+same-equal (a ∷ x) (b ∷ y) p =
+    ⊎-elim
+    (λ e. let q = same-equal x y (rw (e .1) at p) in let f = e .0 in cc)
+    (λ e. never (rw (e .1) at p))
+    (eqb-cases a b)
 
 pub record Sames (a b : List ℕ) (i : ℕ) : Type 0 where
   pub inside : i ≤ length a

@@ -1,13 +1,16 @@
--- The contracts of `begin` and `step` leave one possible answer. Assumes nothing.
+-- The contracts of `count_of`, `begin` and `step` leave one possible answer. Assumes nothing.
 use mathlib.Core.Path.{_≡_}
 use mathlib.Core.List.{List}
-use Prim.Native.Nat.{ℕ}
+use Prim.Native.Nat.{ℕ, _-_}
 use Rattle.items.specs.declared.Item.{Item}
 use Rattle.lists.proofs.Unique.{one as only}
 use Rattle.states.specs.Moves.{begun, step}
 use Rattle.states.specs.declared.State.{State}
 use Rattle.states.specs.declared.Room.{Room}
 use Rattle.states.specs.declared.Step.{Step}
+
+pub count-of-one : (intervals first : ℕ) {r r′ : ℕ} → r ≡ intervals - first → r′ ≡ intervals - first → r ≡ r′
+count-of-one intervals first = only
 
 pub begin-one : {r r′ : State} → r ≡ begun → r′ ≡ begun → r ≡ r′
 begin-one = only

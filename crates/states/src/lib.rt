@@ -252,7 +252,8 @@ fn entry_of(role: usize, p: u32) -> Entry
 }
 
 // How many intervals of a series were started; its first is after `first` others.
-fn count_of(intervals: u32, first: u32) -> u32
+// Ruled out: one less or one more; another number than 0 where `first` is the greater one.
+pub fn count_of(intervals: u32, first: u32) -> u32
     ensures { λ r. ⌜ r ≡ intervals - first ⌝ }
 {
     if first <= intervals {

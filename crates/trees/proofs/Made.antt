@@ -7,7 +7,7 @@ use Prim.Native.Nat.{ℕ, zero, suc, _+_, _≤_, _<_}
 use native.Mathlib.Omega.{arith}
 use lib.Dec.{eqb, leb, ltb}
 use lib.ListN.{length, getD}
-use borrow.Author.Tests.{eq-eqb, leb-true, ltb-true, eqb-true}
+use borrow.Author.Tests.{eq-eqb, leb-true, ltb-true, eqb-true, not-true}
 use Rattle.lists.proofs.Cases.{zero-not-one}
 use Rattle.slices.specs.Same.{same}
 use Rattle.elements.specs.Names.{names, numberIn, elementNo}
@@ -42,17 +42,13 @@ both true false e = absurd (zero-not-one (cc))
 both false true e = absurd (zero-not-one (cc))
 both false false e = absurd (zero-not-one (cc))
 
-neither : (a : Bool) → not a ≡ true → a ≡ false
-neither true e = absurd (zero-not-one (cc))
-neither false e = refl
-
 unlike-tells : (w v : ℕ) (ws : List ℕ) → unlike w (v ∷ ws) ≡ true
     → (eqb (parentOf v) (parentOf w) && eqb (nameOf v) (nameOf w) ≡ false) × (unlike w ws ≡ true)
 unfolding unlike
 unlike-tells w v ws e =
     let same = eqb (parentOf v) (parentOf w) && eqb (nameOf v) (nameOf w) in
     let a = both (not same) (unlike w ws) e in
-    (neither same (a .0), a .1)
+    (not-true same (a .0), a .1)
 
 later-tells : (i w : ℕ) (ws : List ℕ) → laterWellMade i (w ∷ ws) ≡ true
     → (parentOf w < i) × (unlike w ws ≡ true) × (laterWellMade (i + 1) ws ≡ true)
@@ -106,7 +102,7 @@ made (w ∷ ws) e =
     record {
       some-row = omega arith;
       outermost = leb-true (length (w ∷ ws)) (parentOf w) (c .0);
-      once = neither (repeated w) (c .1);
+      once = not-true (repeated w) (c .1);
       named = eqb-true (nameOf w) 255 (b .1);
       before = before-in w ws (a .1);
       apart = apart-in w ws (a .1);

@@ -1,27 +1,26 @@
 -- A space in what a value says: byte 20 says it, and no other byte does. Assumes nothing.
-use Prim.Native.Nat.{ℕ, suc, _+_, _*_, _%_, _≤_, _<_}
+use Prim.Native.Nat.{ℕ, _+_, _*_, _%_, _≤_, _<_}
 use mathlib.Core.Path.{_≡_, refl, sym, ap, _∙_}
 use mathlib.Core.List.{List, _∷_}
 use mathlib.Core.Bool.{Bool, true, false, cond}
 use mathlib.Core.Logic.{_⊎_, inl, inr}
 use native.Mathlib.Omega.{arith}
 use lib.Dec.{leb, eqb, lit≤}
-use lib.ListN.{length, getD}
-use borrow.Author.Tests.{leb-true, leb-false, lt-leb, ne-eqb, eqb-true, eqb-false}
+use lib.ListN.{getD}
+use borrow.Author.Tests.{leb-true, leb-false, lt-leb, eqb-true, eqb-false}
+use Rattle.lists.proofs.Cases.{both-true}
 use Rattle.slices.specs.Bytes.{byte}
 use Rattle.characters.specs.Utf8.{seqLen, low, high, second, tail, control, nonchar, single, double, triple, fourfold, charAt}
 use Rattle.characters.specs.Says.{saidBy, saidAt}
 use Rattle.characters.specs.declared.Char.{Char}
 use Rattle.characters.specs.declared.Char.the-variants.{Is, NoChar}
 use Rattle.characters.specs.declared.Said.the-variants.{Says}
+use Rattle.characters.proofs.Ascii.{low-ascii}
+use Rattle.characters.proofs.Saying.{said-some}
 
 by-cond : {A : Type 0} (P : A → Type 0) (t : Bool) {a b : A} → (t ≡ true → P a) → (t ≡ false → P b) → P (cond t a b)
 by-cond P true f g = f refl
 by-cond P false f g = g refl
-
-both-true : (a b : Bool) → cond a b false ≡ true → (a ≡ true) × (b ≡ true)
-both-true true b e = (refl, e)
-both-true false b e = (e, cc)
 
 -- the ranges of the lead byte
 abbrev Lead : ℕ → ℕ → Type 0
@@ -37,10 +36,6 @@ lead-range a =
     (λ n₄. by-cond (Lead a) (leb a 0xF4) (λ e. (λ k. absurd (omega arith), λ k. absurd (omega arith), λ k. (let x = leb-false a 0xEF n₄ in omega arith, leb-true _ _ e)))
     (λ n₅. (λ k. absurd (omega arith), λ k. absurd (omega arith), λ k. absurd (omega arith)))))))
 
-low-le : (a : ℕ) → 0x80 ≤ low a
-unfolding low
-low-le a = by-cond (λ (n : ℕ). 0x80 ≤ n) (eqb a 0xE0) (λ e. lit≤ tt) (λ e. by-cond (λ (n : ℕ). 0x80 ≤ n) (eqb a 0xF0) (λ e. lit≤ tt) (λ e. lit≤ tt))
-
 high-le : (a : ℕ) → high a ≤ 0xBF
 unfolding high
 high-le a = by-cond (λ (n : ℕ). n ≤ 0xBF) (eqb a 0xED) (λ e. lit≤ tt) (λ e. by-cond (λ (n : ℕ). n ≤ 0xBF) (eqb a 0xF4) (λ e. lit≤ tt) (λ e. lit≤ tt))
@@ -48,7 +43,7 @@ high-le a = by-cond (λ (n : ℕ). n ≤ 0xBF) (eqb a 0xED) (λ e. lit≤ tt) (�
 second-range : (a b : ℕ) → second a b ≡ true → (low a ≤ b) × (b ≤ 0xBF)
 unfolding second
 second-range a b e =
-    let p = both-true (leb (low a) b) (leb b (high a)) e in
+    let p = both-true (leb (low a) b) e in
     let h = high-le a in
     let y = leb-true b (high a) (p .1) in
     (leb-true (low a) b (p .0), omega arith)
@@ -105,27 +100,23 @@ unfolding saidBy
 said-no (Is a m) h c n e q = h (cc)
 said-no NoChar h c n e q = let z : _≡_ {A = ℕ} 0 0x20 = cc in omega arith
 
-at-some : (b : ℕ) (t : List ℕ) → saidAt (b ∷ t) ≡ saidBy (charAt (b ∷ t))
-unfolding saidAt
-at-some b t = simp (ne-eqb (suc (length t)) 0 (λ z. omega arith))
-
 -- the first byte says a space only if it is one
 pub space-said : (b : ℕ) (t : List ℕ) (c n : ℕ) → saidAt (b ∷ t) ≡ Says c n → (b ≡ 0x20 → ⊥) → c ≡ 0x20 → ⊥
 unfolding byte
-space-said b t c n e h = said-no (charAt (b ∷ t)) (char-no (b ∷ t) h) c n (sym (at-some b t) ∙ e)
+space-said b t c n e h = said-no (charAt (b ∷ t)) (char-no (b ∷ t) h) c n (sym (said-some b t) ∙ e)
 
 pub space-says : (t : List ℕ) → saidAt (0x20 ∷ t) ≡ Says 0x20 1
 unfolding saidBy charAt seqLen single control byte
-space-says t = at-some 0x20 t
+space-says t = said-some 0x20 t
 
-said-some : (x : Char) → (c : ℕ) × (n : ℕ) × (saidBy x ≡ Says c n)
+said-is : (x : Char) → (c : ℕ) × (n : ℕ) × (saidBy x ≡ Says c n)
 unfolding saidBy
-said-some (Is c n) = (c, n, refl)
-said-some NoChar = (0, 1, refl)
+said-is (Is c n) = (c, n, refl)
+said-is NoChar = (0, 1, refl)
 
 -- what is not over says something
 pub some-said : (b : ℕ) (t : List ℕ) → (c : ℕ) × (n : ℕ) × (saidAt (b ∷ t) ≡ Says c n)
-some-said b t = let s = said-some (charAt (b ∷ t)) in (s .0, s .1, at-some b t ∙ s .2)
+some-said b t = let s = said-is (charAt (b ∷ t)) in (s .0, s .1, said-some b t ∙ s .2)
 
 -- Two bytes that no test of a later byte tells apart.
 abbrev pub Alike : ℕ → ℕ → Type 0
@@ -133,7 +124,7 @@ Alike x y = (x ≡ y) ⊎ ((x < 0x80) × (y < 0x80))
 
 second-low : (a b : ℕ) → b < 0x80 → second a b ≡ false
 unfolding second
-second-low a b h = let l = low-le a in rw (lt-leb (low a) b (omega arith))
+second-low a b h = let l = low-ascii a in rw (lt-leb (low a) b (omega arith))
 
 tail-low : (b : ℕ) → b < 0x80 → tail b ≡ false
 unfolding tail
@@ -163,4 +154,4 @@ char-alike b t t′ h =
     rw (double-alike b (h 0), triple-alike b (h 0) (h 1), fourfold-alike b (h 0) (h 1) (h 2))
 
 pub said-alike : (b : ℕ) (t t′ : List ℕ) → ((k : ℕ) → Alike (getD t k 0) (getD t′ k 0)) → saidAt (b ∷ t) ≡ saidAt (b ∷ t′)
-said-alike b t t′ h = at-some b t ∙ ap saidBy (char-alike b t t′ h) ∙ sym (at-some b t′)
+said-alike b t t′ h = said-some b t ∙ ap saidBy (char-alike b t t′ h) ∙ sym (said-some b t′)

@@ -1,6 +1,8 @@
 use native.Mathlib.Omega.{arith}
 use borrow.Author.Tests.{eq-eqb, ne-eqb}
+use Rattle.slices.specs.Bytes.{byte}
 use Rattle.characters.specs.Says.{saidBy, saidAt}
+use Rattle.characters.proofs.Ascii.{char-printed}
 use borrow.Author.Needs.{needs}
 use Rattle.characters.proofs.said_at.Statement.{statement}
 use Rattle.characters.proofs.said_at.Tie as tie
@@ -12,6 +14,16 @@ returns : tie.Need-returns
 unfolding saidAt saidBy
 returns c = (simp (eq-eqb _ _ (c .if1 .taken)), search needs)
 
+shared-slice-read-b : tie.Need-shared-slice-read-b
+shared-slice-read-b c = search needs
+
+cast-t10 : tie.Need-cast-t10
+cast-t10 c = search needs
+
+returns-2 : tie.Need-returns-2
+unfolding saidAt saidBy byte
+returns-2 c = (simp (ne-eqb _ _ (c .before .before .before .if1 .left), char-printed (c .before .before .before .before .before .args .v .now) (c .before .if2 .taken) (c .if3 .taken)), search needs)
+
 char-at-requires : tie.Need-char-at-requires
 char-at-requires c κs = search needs
 
@@ -21,14 +33,14 @@ enum-known-c c = search needs
 enum-told : tie.Need-enum-told
 enum-told c = search needs
 
-returns-2 : tie.Need-returns-2
-unfolding saidAt saidBy
-returns-2 c = (simp (c .before .c .given .1, ← c .before .before .before .char-at .ensures .0, ne-eqb _ _ (c .before .before .before .before .if1 .left)), omega (arith, rw (c .before .c .given .1) at (c .before .before .before .char-at .ensures .1)))
-
 returns-3 : tie.Need-returns-3
 unfolding saidAt saidBy
-returns-3 c = (simp (c .enum-told .given .1, ← c .before .before .char-at .ensures .0, ne-eqb _ _ (c .before .before .before .if1 .left)), omega (arith, rw (c .enum-told .given .1) at (c .before .before .char-at .ensures .1)))
+returns-3 c = (simp (c .before .c .given .1, ← c .before .before .before .char-at .ensures .0, ne-eqb _ _ (c .before .before .before .before .before .before .if1 .left)), omega (arith, rw (c .before .c .given .1) at (c .before .before .before .char-at .ensures .1)))
+
+returns-4 : tie.Need-returns-4
+unfolding saidAt saidBy
+returns-4 c = (simp (c .enum-told .given .1, ← c .before .before .char-at .ensures .0, ne-eqb _ _ (c .before .before .before .before .before .if1 .left)), omega (arith, rw (c .enum-told .given .1) at (c .before .before .char-at .ensures .1)))
 
 pub said-at-spec : {M : Type 1} → statement M
 said-at-spec =
-    tie.close (tie.spec returns char-at-requires enum-known-c enum-told returns-2 returns-3)
+    tie.close (tie.spec returns shared-slice-read-b cast-t10 returns-2 char-at-requires enum-known-c enum-told returns-3 returns-4)

@@ -11,7 +11,7 @@ use Rattle.codes.proofs.is_among.Statement.{statement}
 use Rattle.codes.proofs.is_among.Tie as tie
 use Rattle.codes.proofs.is_among.Reads as reads
 use Rattle.codes.proofs.is_among.Lts as lts
-use Rattle.codes.proofs.is_said.Reads as is-said-reads
+use Rattle.pictures.proofs.is_said.Reads as is-said-reads
 use Rattle.codes.proofs.word_len.Reads as word-len-reads
 use Rattle.slices.proofs.front.Reads as front-reads
 

@@ -1,7 +1,8 @@
 use native.Mathlib.Omega.{arith}
+use Rattle.lists.proofs.Cases.{up}
 use Rattle.codes.specs.Lists.{lists, codesOf, listed}
 use Rattle.codes.specs.Words.{wordByte, onto, words}
-use Rattle.codes.proofs.Rows.{up, none-listed}
+use Rattle.codes.proofs.Rows.{none-listed}
 use borrow.Author.Needs.{needs}
 use Rattle.codes.proofs.is_listed.Statement.{statement}
 use Rattle.codes.proofs.is_listed.Tie as tie

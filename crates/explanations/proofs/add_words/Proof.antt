@@ -3,8 +3,9 @@
 use mathlib.Core.Path.{sym, ap}
 use native.Mathlib.Omega.{arith}
 use borrow.Author.Tests.{lt-ltb}
+use Rattle.lists.proofs.Cases.{up}
 use Rattle.explanations.specs.Explanation.{wordsPart}
-use Rattle.explanations.proofs.Adding.{adds-same, up, past}
+use Rattle.explanations.proofs.Adding.{adds-same, past}
 use borrow.Author.Needs.{needs}
 use Rattle.explanations.proofs.add_words.Statement.{statement}
 use Rattle.explanations.proofs.add_words.Tie as tie

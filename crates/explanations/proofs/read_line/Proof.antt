@@ -5,8 +5,9 @@ use native.Mathlib.Omega.{arith}
 use lib.ListN.{length}
 use Rattle.lists.specs.Zeros.{zeros}
 use Rattle.lines.specs.Text.{hexBytes, hexText}
+use Rattle.lines.proofs.Hex.{hex-size}
 use Rattle.notes.specs.Reader.{noteIn}
-use Rattle.explanations.proofs.OnLine.{whole, bytes-size, text-size, on-long, on-same, on-other}
+use Rattle.explanations.proofs.OnLine.{whole, bytes-size, on-long, on-same, on-other}
 use borrow.Author.Needs.{needs}
 use Rattle.explanations.proofs.read_line.Statement.{statement}
 use Rattle.explanations.proofs.read_line.Tie as tie
@@ -61,7 +62,7 @@ returns-2 c =
     let ph = c .before .before .before .before .before .before .before .before .put-hex .ensures in
     let eb = whole (hexBytes 16 line) (zeros 44) _ _ _ (omega (arith, bytes-size 16 line)) (pb .0) (pb .1 .0) (c .before .before .before .before .before .before .before .before .before .before .front .ensures .0) in
     let b = c .before .before .before .before .before .before .before .before .before .before .front .result .now in
-    let et = whole (hexText b) (zeros 132) _ _ _ (omega (arith, text-size b, ap length eb, bytes-size 16 line)) (ph .0) (ph .1 .0) (c .before .before .before .before .before .front2 .ensures .0) in
+    let et = whole (hexText b) (zeros 132) _ _ _ (omega (arith, hex-size b, ap length eb, bytes-size 16 line)) (ph .0) (ph .1 .0) (c .before .before .before .before .before .front2 .ensures .0) in
     let ec = whole (hexBytes 16 line) (zeros 44) _ _ _ (omega (arith, bytes-size 16 line)) (pb .0) (pb .1 .0) (c .before .front3 .ensures .0) in
     c .read-note .ensures ∙ ap noteIn ec ∙ on-same line h _ (et ∙ ap hexText eb) _ (c .before .before .before .before .is-same .ensures) (c .before .before .before .if2 .taken)
 
@@ -76,7 +77,7 @@ returns-3 c =
     let ph = c .before .before .before .before .before .put-hex .ensures in
     let eb = whole (hexBytes 16 line) (zeros 44) _ _ _ (omega (arith, bytes-size 16 line)) (pb .0) (pb .1 .0) (c .before .before .before .before .before .before .before .front .ensures .0) in
     let b = c .before .before .before .before .before .before .before .front .result .now in
-    let et = whole (hexText b) (zeros 132) _ _ _ (omega (arith, text-size b, ap length eb, bytes-size 16 line)) (ph .0) (ph .1 .0) (c .before .before .front2 .ensures .0) in
+    let et = whole (hexText b) (zeros 132) _ _ _ (omega (arith, hex-size b, ap length eb, bytes-size 16 line)) (ph .0) (ph .1 .0) (c .before .before .front2 .ensures .0) in
     on-other line h _ (et ∙ ap hexText eb) _ (c .before .is-same .ensures) (c .if2 .left)
 
 pub read-line-spec : {M : Type 1} → statement M

@@ -1,6 +1,4 @@
-use mathlib.Core.Path.{_∙_}
-use Rattle.pictures.specs.Picture.{takes}
-use Rattle.forms.proofs.Drawn.{drawn}
+use Rattle.pictures.specs.Picture.{takes, fitsOf}
 use Rattle.forms.specs.Forms.{marketPartner}
 use borrow.Author.Needs.{needs}
 use Rattle.forms.proofs.is_market_partner.Statement.{statement}
@@ -16,8 +14,8 @@ fits-requires : tie.Need-fits-requires
 fits-requires c κs = search needs
 
 returns : tie.Need-returns
-unfolding marketPartner takes
-returns c = c .fits2 .ensures ∙ drawn _ _
+unfolding marketPartner takes fitsOf
+returns c = c .fits2 .ensures
 
 pub is-market-partner-spec : {M : Type 1} → statement M
 is-market-partner-spec = tie.close (tie.spec slice-aggregate-fits fits-requires returns)

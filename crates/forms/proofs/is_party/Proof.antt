@@ -1,6 +1,4 @@
-use mathlib.Core.Path.{_∙_}
-use Rattle.pictures.specs.Picture.{takes}
-use Rattle.forms.proofs.Drawn.{drawn}
+use Rattle.pictures.specs.Picture.{takes, fitsOf}
 use Rattle.forms.specs.Forms.{party}
 use borrow.Author.Needs.{needs}
 use Rattle.forms.proofs.is_party.Statement.{statement}
@@ -16,8 +14,8 @@ fits-requires : tie.Need-fits-requires
 fits-requires c κs = search needs
 
 returns : tie.Need-returns
-unfolding party takes
-returns c = c .fits2 .ensures ∙ drawn _ _
+unfolding party takes fitsOf
+returns c = c .fits2 .ensures
 
 pub is-party-spec : {M : Type 1} → statement M
 is-party-spec = tie.close (tie.spec slice-aggregate-fits fits-requires returns)

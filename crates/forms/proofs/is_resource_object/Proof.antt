@@ -1,6 +1,4 @@
-use mathlib.Core.Path.{_∙_}
-use Rattle.pictures.specs.Picture.{takes}
-use Rattle.forms.proofs.Drawn.{drawn}
+use Rattle.pictures.specs.Picture.{takes, fitsOf}
 use Rattle.forms.specs.Forms.{resourceObject}
 use borrow.Author.Needs.{needs}
 use Rattle.forms.proofs.is_resource_object.Statement.{statement}
@@ -16,8 +14,8 @@ fits-requires : tie.Need-fits-requires
 fits-requires c κs = search needs
 
 returns : tie.Need-returns
-unfolding resourceObject takes
-returns c = c .fits2 .ensures ∙ drawn _ _
+unfolding resourceObject takes fitsOf
+returns c = c .fits2 .ensures
 
 pub is-resource-object-spec : {M : Type 1} → statement M
 is-resource-object-spec = tie.close (tie.spec slice-aggregate-fits fits-requires returns)

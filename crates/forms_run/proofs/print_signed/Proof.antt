@@ -1,7 +1,7 @@
 use native.Mathlib.Omega.{arith}
 use borrow.Author.Needs.{sfits-of}
 use mir.Facts.{toZ-ofZ}
-use Rattle.lines.proofs.Signs.{from-zero, below-zero, back}
+use Rattle.lists.proofs.Signs.{from-zero, below-zero, back}
 use borrow.Author.Needs.{needs}
 use Rattle.forms_run.proofs.print_signed.Statement.{statement}
 use Rattle.forms_run.proofs.print_signed.Tie as tie

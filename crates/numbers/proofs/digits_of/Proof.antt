@@ -11,7 +11,7 @@ use Rattle.numbers.proofs.digits_of.Tie as tie
 use Rattle.numbers.proofs.digits_of.Reads as reads
 use Rattle.numbers.proofs.digits_of.Lts as lts
 use Rattle.characters.proofs.said_at.Reads as said-at-reads
-use Rattle.numbers.proofs.is_digit.Reads as is-digit-reads
+use Rattle.pictures.proofs.is_digit.Reads as is-digit-reads
 
 abbrev Inv-loop : tie.InvT-loop
 Inv-loop v most before count₀ value₀ end₀ count value end = Read most before (says v) (says (drop end v)) count value

@@ -3,7 +3,7 @@ use mathlib.Core.Path.{sym, _∙_}
 use native.Mathlib.Omega.{arith}
 use lib.ListN.{length-set}
 use borrow.Author.Tests.{not-false}
-use Rattle.repeats.proofs.Order.{never}
+use Rattle.lists.proofs.Cases.{never}
 use Rattle.repeats.proofs.Falling.{Falling, falling-start, falling-more, falling-end}
 use Rattle.repeats.proofs.falls.Statement.{statement}
 use Rattle.repeats.proofs.falls.Tie as tie

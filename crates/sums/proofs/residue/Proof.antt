@@ -4,7 +4,7 @@ use mathlib.Core.Path.{sym, ap}
 use borrow.Author.Needs.{needs, sfits-of}
 use native.Mathlib.Omega.{arith}
 use mir.Facts.{toZ-ofZ}
-use Rattle.lines.proofs.Signs.{from-zero, below-zero, back}
+use Rattle.lists.proofs.Signs.{from-zero, below-zero, back}
 use Rattle.sums.specs.Sums.{residueOf}
 use Rattle.sums.proofs.Residues.{residue-from}
 use Rattle.sums.proofs.residue.Statement.{statement}

@@ -9,7 +9,7 @@ use Rattle.reader.proofs.rows.enter_series.Tie as tie
 use Rattle.reader.proofs.rows.enter_series.Reads as reads
 use Rattle.reader.proofs.rows.enter_series.Lts as lts
 use Rattle.reader.proofs.rows.cell_of.Reads as cell-of-reads
-use Rattle.reader.proofs.rows.count_of.Reads as count-of-reads
+use Rattle.states.proofs.count_of.Reads as count-of-reads
 use Rattle.reader.proofs.rows.quoted_of.Reads as quoted-of-reads
 use Rattle.reader.proofs.rows.set_trimmed.Reads as set-trimmed-reads
 use Rattle.reader.proofs.rows.set_view.Reads as set-view-reads

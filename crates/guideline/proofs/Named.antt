@@ -1,0 +1,24 @@
+-- Each row of both tables bears the number of an element's name: one computed test. That the tables are structure tables is in crate trees.
+-- Assumes nothing.
+use Prim.Native.Nat.{ℕ}
+use mathlib.Core.List.{List, [], _∷_}
+use mathlib.Core.Bool.{Bool, true, false, _&&_}
+use lib.Dec.{T, leb}
+use lib.ListN.{length}
+use Rattle.slices.specs.Same.{same}
+use Rattle.elements.specs.Names.{names, numberIn, elementNo}
+use Rattle.structure.specs.Rows.{nameOf}
+use Rattle.guideline.specs.Rows.{beschaffungsanforderung, kostenblatt, rowsOf}
+
+abbrev eachNamed : List ℕ → Bool
+eachNamed [] = true
+eachNamed (w ∷ ws) = leb 1 (nameOf w) && leb (nameOf w) (length names) && eachNamed ws
+
+-- row 0 is the document, which has no name of an element
+abbrev pub rowsNamed : List ℕ → Bool
+rowsNamed [] = false
+rowsNamed (w ∷ ws) = eachNamed ws
+
+pub tables-named : T (rowsNamed (rowsOf 1) && rowsNamed (rowsOf 2))
+unfolding rowsOf beschaffungsanforderung kostenblatt elementNo numberIn names same nameOf
+tables-named = tt
