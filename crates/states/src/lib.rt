@@ -580,6 +580,7 @@ impl State {
             return self.started(kind, rows, name, t, s, empty, room);
         }
         match item {
+            // both are openings, which are done with
             Item::Start(_) => Step::Refused(2),
             Item::Empty(_) => Step::Refused(2),
             Item::End(_, _) => self.ended(rows, name),
