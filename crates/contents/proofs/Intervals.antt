@@ -1,15 +1,14 @@
 -- What the elements of a conforming content put into the positions and the amounts: those of their intervals, one after the other.
 -- Assumes nothing.
-use Prim.Native.Nat.{ℕ, suc, _+_, _-_, _≤_, _<_}
+use Prim.Native.Nat.{ℕ, _+_, _-_, _<_}
 use mathlib.Core.Path.{_≡_, refl, sym, ap, _∙_}
-use mathlib.Core.List.{List, [], _∷_, _++_, map, append-assoc}
-use mathlib.Core.Bool.{Bool, true, false, cond}
+use mathlib.Core.List.{List, [], _++_, map, append-assoc}
+use mathlib.Core.Bool.{Bool, true, false}
 use mathlib.Core.Logic.{⊎-elim}
 use native.Mathlib.Omega.{arith}
-use native.Mathlib.Nat.{add-zero}
 use lib.Dec.{eqb}
 use lib.IntN.{ℤ}
-use lib.ListN.{length, getD, set, length-append, length-map}
+use lib.ListN.{length, getD, set, length-append}
 use lib.Seq.{sets}
 use borrow.Author.Tests.{ne-eqb}
 use Rattle.lists.proofs.Cases.{eqb-cases, zero-not-one}
@@ -26,7 +25,8 @@ use Rattle.reader.specs.Items.{Placed}
 use Rattle.reader.specs.Rows.{spanOf, quoted, thousandthsOf, positionsAfter, amountsAfter}
 use Rattle.reader.specs.Reading.{Tables, tablesAfter}
 use Rattle.trees.specs.Trees.{Trees, none, element, rowsTaken, Stand, Fits, EachConforms}
-use Rattle.contents.specs.Said.{Said, bytes}
+use Rattle.lists.proofs.Stores.{sets-more}
+use Rattle.contents.specs.Said.{Said}
 use Rattle.contents.specs.Legal.{hasRole, those, positionOf}
 use Rattle.contents.specs.Shown.{amountIn}
 use Rattle.contents.proofs.Laid.{Layout}
@@ -35,12 +35,6 @@ use Rattle.contents.proofs.Fill.{saidOf, saying, stateOf, entered, fill
 use Rattle.contents.proofs.Shapes.{Place, in-document, in-root, in-series, in-period, in-interval, place, holds-two}
 use Rattle.contents.proofs.Views.{said-bytes}
 use Rattle.contents.proofs.Roles.{Role, is-series, is-interval, is-object, is-business, is-id, is-pos, is-qty, is-other, role-cases, own, those-parts, mapped-parts, Given, Valued}
-
-pub sets-append : {A : Type 0} (a b l : List A) (i : ℕ) → sets l i (a ++ b) ≡ sets (sets l i a) (i + length a) b
-sets-append [] b l i = ap (λ (n : ℕ). sets l n b) (sym (add-zero i))
-sets-append (x ∷ a) b l i =
-    let e : suc i + length a ≡ i + suc (length a) = omega arith in
-    sets-append a b (set l i x) (suc i) ∙ ap (λ (n : ℕ). sets (sets (set l i x) (suc i) a) n b) e
 
 -- between two places of the walk these intervals start, and these positions and amounts are put, from the next interval's row on
 pub record Puts (y : Tally) (t : Tables) (y′ : Tally) (t′ : Tables) (starts : List Said) (ps : List ℕ) (ams : List ℤ) : Type 0 where
@@ -68,11 +62,11 @@ puts-on {y} {y₁} {y₂} {t} {t₁} {t₂} {starts} {starts₁} {ps} {ps₁} {a
       positions =
           g .positions ∙ ap (λ (l : List ℕ). sets l (y₁ .intervals) ps₁) (f .positions)
           ∙ ap (λ (n : ℕ). sets (sets (t .positions) (y .intervals) ps) n ps₁) k
-          ∙ sym (sets-append ps ps₁ (t .positions) (y .intervals));
+          ∙ sym (sets-more ps (t .positions) (y .intervals) ps₁);
       amounts =
           g .amounts ∙ ap (λ (l : List ℤ). sets l (y₁ .intervals) ams₁) (f .amounts)
           ∙ ap (λ (n : ℕ). sets (sets (t .amounts) (y .intervals) ams) n ams₁) m
-          ∙ sym (sets-append ams ams₁ (t .amounts) (y .intervals));
+          ∙ sym (sets-more ams (t .amounts) (y .intervals) ams₁);
     }
 
 puts-none : {y y′ : Tally} {t t′ : Tables} → y′ .intervals ≡ y .intervals → t′ .positions ≡ t .positions → t′ .amounts ≡ t .amounts → Puts y t y′ t′ [] [] []

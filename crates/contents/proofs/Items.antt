@@ -38,8 +38,7 @@ use Rattle.contents.proofs.Fill.{entered as tablesWith}
 use Rattle.contents.proofs.Lifted.{Known}
 use Rattle.contents.proofs.Signs.{on-row, row-on, Goal, after, bringing, Runs, Opening, Closing, respelled}
 use Rattle.contents.proofs.Rooted.{laid, kind-cases, first-row, no-end, not-over, row-within, row-named, short-ends, ends-row, row-ends}
-use Rattle.contents.proofs.Moved.{Low, low-opened, low-less, tables-inside, tables-still, still, dark-text, unread, step-told, step-in}
-use Rattle.contents.proofs.Moved.{over-known, Went, Goes, Closed, started-goes, went-starts, ended-goes, went-ends}
+use Rattle.contents.proofs.Moved.{Low, low-opened, low-less, tables-inside, tables-still, still, dark-text, unread, step-told, step-in, over-known, Went, Goes, Closed, started-goes, went-starts, ended-goes, went-ends}
 
 -- ---- the kinds of items
 

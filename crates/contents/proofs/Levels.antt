@@ -7,23 +7,24 @@ use mathlib.Core.Logic.{_⊎_, inl, inr, ⊎-elim}
 use mathlib.Core.Bool.{Bool, true, false, cond, _&&_}
 use native.Mathlib.Omega.{arith}
 use lib.Dec.{eqb, leb}
-use lib.ListN.{length, getD, length-append}
-use borrow.Author.Tests.{eq-eqb, ne-eqb, eqb-true, le-leb, leb-true}
-use Rattle.lists.proofs.Cases.{bool-cases, eqb-cases, leb-cases, zero-not-one}
-use Rattle.rules.specs.Rules.{judge, refused}
+use lib.ListN.{length, getD}
+use borrow.Author.Tests.{eq-eqb, ne-eqb, le-leb, leb-true}
+use Rattle.lists.proofs.Cases.{bool-cases, eqb-cases, leb-cases}
+use Rattle.rules.specs.Rules.{judge}
 use Rattle.rules.specs.declared.Held.{Held}
 use Rattle.guideline.specs.Columns.{formOf, roleOf}
 use Rattle.guideline.specs.Kinds.{hasEnough}
 use Rattle.states.specs.Moves.{countRefusal}
 use Rattle.states.specs.declared.Room.{Room}
-use Rattle.trees.specs.Trees.{Trees, none, element, Conforms}
+use Rattle.trees.specs.Trees.{Trees, none, element}
 use Rattle.contents.specs.Said.{Said}
-use Rattle.contents.specs.Legal.{hasRole, hasForm, those, inEach, Period, periodIn, periodOf, quartersOf, positionOf, valueFits, elementFits, Each, inTurn, countFits, SeriesFits, All}
+use Rattle.contents.specs.Legal.{hasRole, those, inEach, Period, quartersOf, positionOf, valueFits, elementFits, Each, inTurn, countFits, SeriesFits}
+use Rattle.contents.proofs.Tests.{chosen, other, and-parts}
 use Rattle.contents.proofs.Laid.{Layout}
-use Rattle.contents.proofs.Walk.{Tally, nothing, opened, walked, quartersIn, Taken, Ended, Passes}
-use Rattle.contents.proofs.Tallies.{chosen, other, Within, within-more, beside, none-there, no-role, those-beside, each-beside, each-parts, walked-beside, unchanged, intervals-walked, series-walked, originals-walked, first-walked, period-walked}
-use Rattle.contents.proofs.Segments.{Holds, Plain, Segment, unit, length-element, passes-fit, fit-passes}
-use Rattle.contents.proofs.Splits.{SeriesShape, AllSeries, RootShape, DocumentShape, document-shape}
+use Rattle.contents.proofs.Walk.{Tally, opened, walked, quartersIn, Passes}
+use Rattle.contents.proofs.Tallies.{Within, within-more, beside, no-role, those-beside, each-beside, each-parts, unchanged, intervals-walked, originals-walked, first-walked}
+use Rattle.contents.proofs.Segments.{Holds, Plain, Segment, passes-fit, fit-passes}
+use Rattle.contents.proofs.Splits.{SeriesShape}
 
 -- ---- the rule of one element, and the period
 
@@ -115,20 +116,15 @@ counts kind n quarters e f =
     (bool-cases (leb 1 n))))
     (eqb-cases kind 1)
 
-three-true : (a b c : Bool) → a && b && c ≡ true → (a ≡ true) × (b ≡ true) × (c ≡ true)
-three-true true true true e = (refl, refl, refl)
-three-true true true false e = absurd (zero-not-one (cc))
-three-true true false c e = absurd (zero-not-one (cc))
-three-true false b c e = absurd (zero-not-one (cc))
-
 counted-back : (kind n quarters : ℕ) → countFits kind quarters n ≡ true → (countRefusal kind quarters n ≡ 0) × (kind ≡ 1 → n ≤ 100)
 unfolding countRefusal countFits hasEnough
 counted-back kind n quarters e =
     ⊎-elim
     (λ (y : (kind ≡ 1) × (eqb kind 1 ≡ true)).
     let h : leb 92 n && leb n 100 && eqb n quarters ≡ true = rw (y .1) at e in
-    let t = three-true (leb 92 n) (leb n 100) (eqb n quarters) h in
-    (rw (y .1, t .0, t .2) refl, λ _. leb-true n 100 (t .1)))
+    let t = and-parts (leb 92 n && leb n 100) (eqb n quarters) h in
+    let u = and-parts (leb 92 n) (leb n 100) (t .0) in
+    (rw (y .1, u .0, t .1) refl, λ _. leb-true n 100 (u .1)))
     (λ (y : (kind ≡ 1 → ⊥) × (eqb kind 1 ≡ false)).
     let h : leb 1 n ≡ true = rw (y .1) at e in
     (rw (y .1, h) refl, λ k. absurd (y .0 k)))

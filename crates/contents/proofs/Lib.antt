@@ -1,3 +1,5 @@
+pub mod Tests
+pub mod Lists
 pub mod Laid
 pub mod Walk
 pub mod Fill

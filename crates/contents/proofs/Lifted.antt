@@ -1,11 +1,10 @@
 -- The order of tags does not look at what else they say: a content over what the tags say is a content over the items that say it. Assumes nothing.
 use Prim.Native.Nat.{ℕ, zero, suc, pred}
 use mathlib.Core.Path.{_≡_, refl, sym, ap, _∙_}
-use mathlib.Core.List.{List, [], _∷_, _++_, map}
+use mathlib.Core.List.{List, [], _∷_, _++_, map, map-append}
 use mathlib.Core.Bool.{Bool, true, false}
 use mathlib.Core.Logic.{_⊎_, ⊎-elim}
 use lib.ListN.{getD, drop}
-use Rattle.lists.proofs.Cases.{zero-not-one}
 use Rattle.structure.specs.Rows.{nameOf, startOf, endOf}
 use Rattle.structure.specs.declared.Due.{Due}
 use Rattle.structure.specs.declared.Due.the-variants.{Row, NotDue}
@@ -20,6 +19,7 @@ use Rattle.trees.proofs.Made.{one-well-made, two-well-made}
 use Rattle.trees.proofs.Theorems.{complete, sound, one-tree}
 use Rattle.contents.specs.Said.{Said}
 use Rattle.contents.specs.Spelled.{signsBy, signsOf}
+use Rattle.contents.proofs.Lists.{drop-next}
 use Rattle.contents.proofs.Fill.{saidByItem, saidOf, placedBy, placedSigns, saying, isTag, Stands}
 
 -- ---- what the rows are
@@ -35,10 +35,6 @@ known-made kind k = ⊎-elim (λ e. rw e one-well-made) (λ e. rw e two-well-mad
 unfoldable pub relabelled : Sign Placed → Sign Said
 relabelled (Opens x name) = Opens (saidOf x) name
 relabelled (Closes name) = Closes name
-
-map-append : (a b : List (Sign Placed)) → map relabelled (a ++ b) ≡ map relabelled a ++ map relabelled b
-map-append [] b = refl
-map-append (x ∷ a) b = ap (λ (l : List (Sign Said)). relabelled x ∷ l) (map-append a b)
 
 on-same : (d : Due) (f g : ℕ → Bool) → ((q : ℕ) → f q ≡ g q) → onRow d f ≡ onRow d g
 unfolding onRow
@@ -68,7 +64,7 @@ signs-said [] = refl
 signs-said (x ∷ xs) =
     ap (λ (l : List (Sign Said)). l ++ signsOf xs) (by-said x (x .item) refl)
     ∙ ap (λ (l : List (Sign Said)). map relabelled (placedBy x (x .item)) ++ l) (signs-said xs)
-    ∙ sym (map-append (placedBy x (x .item)) (placedSigns xs))
+    ∙ sym (map-append relabelled (placedBy x (x .item)) (placedSigns xs))
 
 pub spell-said : (rows : List ℕ) (kids : Trees Placed) → spell rows (saying kids) ≡ map relabelled (spell rows kids)
 unfolding spell saying relabelled
@@ -78,7 +74,7 @@ spell-said rows (element q x inner after) =
     ap (λ (l : List (Sign Said)). Opens (saidOf x) name ∷ l)
     (ap (λ (l : List (Sign Said)). l ++ (Closes name ∷ spell rows (saying after))) (spell-said rows inner)
     ∙ ap (λ (l : List (Sign Said)). map relabelled (spell rows inner) ++ (Closes name ∷ l)) (spell-said rows after)
-    ∙ sym (map-append (spell rows inner) (Closes name ∷ spell rows after)))
+    ∙ sym (map-append relabelled (spell rows inner) (Closes name ∷ spell rows after)))
 
 -- ---- to conform
 
@@ -109,12 +105,6 @@ conforms-placed rows p kids c = record { fits = rw (taken-said kids) at (c .fits
 abbrev pub Standing : List ℕ → List Placed → Type 0
 Standing doc [] = Unit {0}
 Standing doc (x ∷ xs) = (x .rest ≡ drop (x .at) doc) × Standing doc xs
-
-drop-next : (doc : List ℕ) (at b : ℕ) (l : List ℕ) → b ∷ l ≡ drop at doc → l ≡ drop (suc at) doc
-drop-next [] zero b l e = absurd (zero-not-one (cc))
-drop-next (c ∷ doc) zero b l e = cc
-drop-next [] (suc at) b l e = absurd (zero-not-one (cc))
-drop-next (c ∷ doc) (suc at) b l e = drop-next doc at b l e
 
 after-standing : (doc : List ℕ) (k at : ℕ) (l : List ℕ) → l ≡ drop at doc → Standing doc (itemsAfter k at l)
 unfolding itemsAfter

@@ -2,35 +2,36 @@
 -- Assumes nothing.
 use Prim.Native.Nat.{ℕ, zero, suc, _+_, _-_, _*_, _≤_, _<_}
 use mathlib.Core.Path.{_≡_, refl, sym, ap, _∙_}
-use mathlib.Core.List.{List, [], _∷_, _++_, map, map-append}
-use mathlib.Core.Bool.{Bool, true, false, cond}
+use mathlib.Core.List.{List, [], _∷_, map}
+use mathlib.Core.Bool.{true, false}
 use mathlib.Core.Logic.{inl, inr, ⊎-elim}
 use native.Mathlib.Omega.{arith}
 use lib.Dec.{eqb}
 use lib.ListN.{length, getD, take, set, length-set}
 use lib.Seq.{getD-set-same, getD-set-other}
 use borrow.Author.Tests.{ne-eqb}
-use Rattle.lists.proofs.Cases.{eqb-cases, zero-not-one}
+use Rattle.lists.proofs.Cases.{eqb-cases}
 use Rattle.tags.specs.declared.Span.{Span}
 use Rattle.structure.specs.Rows.{parentOf, required}
 use Rattle.guideline.specs.Columns.{roleOf}
 use Rattle.states.specs.Moves.{entryOf}
 use Rattle.states.specs.declared.State.{State}
 use Rattle.reader.specs.Items.{Placed}
-use Rattle.reader.specs.Rows.{spanOf, cell, seriesAfter}
+use Rattle.reader.specs.Rows.{spanOf, seriesAfter}
 use Rattle.reader.specs.Reading.{Tables, tablesAfter}
-use Rattle.trees.specs.Trees.{Trees, none, element, rowsTaken, Stand, InOrder, Fits, EachConforms}
+use Rattle.trees.specs.Trees.{Trees, none, element, rowsTaken, Stand, Fits, EachConforms}
 use Rattle.contents.specs.Said.{Said}
 use Rattle.contents.specs.Legal.{hasRole, those, inEach, positionOf, identifications}
 use Rattle.contents.specs.Shown.{sum, view, objects, businessTypes, intervalCounts}
+use Rattle.contents.proofs.Lists.{lastOf}
 use Rattle.contents.proofs.Laid.{Layout}
 use Rattle.contents.proofs.Walk.{Tally, opened, walked}
 use Rattle.contents.proofs.Fill.{saidOf, saying, stateOf, entered, filled, Stands}
 use Rattle.contents.proofs.Shapes.{in-series-row, series-in, in-root-row, leaf, absent, absent-each, comes-once}
 use Rattle.contents.proofs.Views.{same-view}
 use Rattle.contents.proofs.Roles.{Role, is-series, is-interval, is-object, is-business, is-id, is-pos, is-qty, is-other, role-cases, Given, Valued}
-use Rattle.contents.proofs.Intervals.{Puts, puts}
-use Rattle.contents.proofs.Series.{valueBytes, trimmedBytes, lastOf, Effect, cell-at, inside}
+use Rattle.contents.proofs.Intervals.{puts}
+use Rattle.contents.proofs.Series.{valueBytes, trimmedBytes, Effect, cell-at, inside}
 
 -- row n of the series table shows a series
 pub record RowOf (doc cells : List ℕ) (n : ℕ) (id object business : List ℕ) (first count : ℕ) : Type 0 where

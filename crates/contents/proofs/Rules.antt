@@ -1,9 +1,8 @@
 -- The whole: a walk over a content that conforms passes exactly where the content meets the rules, and what it comes to. Assumes nothing.
 use Prim.Native.Nat.{ℕ, _+_, _≤_, _<_}
-use mathlib.Core.Path.{_≡_, refl, sym, ap, subst, _∙_}
+use mathlib.Core.Path.{_≡_, sym, ap, subst, _∙_}
 use mathlib.Core.List.{List, [], _∷_, _++_, map, append-nil}
-use mathlib.Core.Logic.{⊎-elim}
-use mathlib.Core.Bool.{Bool, true, false, cond}
+use mathlib.Core.Bool.{false, cond}
 use native.Mathlib.Omega.{arith}
 use lib.Dec.{eqb}
 use lib.ListN.{length, getD}
@@ -13,13 +12,15 @@ use Rattle.states.specs.declared.Room.{Room}
 use Rattle.trees.specs.Trees.{Trees, none, element, Conforms}
 use Rattle.contents.specs.Said.{Said}
 use Rattle.contents.specs.Legal.{hasRole, hasForm, those, inEach, Period, periodIn, periodOf, quartersOf, positionOf, elementFits, Each, inTurn, SeriesFits, All}
+use Rattle.contents.proofs.Tests.{chosen, other}
 use Rattle.contents.proofs.Laid.{Layout}
-use Rattle.contents.proofs.Walk.{Tally, nothing, opened, walked, Taken, Passes}
-use Rattle.contents.proofs.Tallies.{chosen, other, Within, within-more, beside, none-there, no-role, those-beside, each-beside, each-parts, walked-beside, unchanged, intervals-walked, series-walked, first-walked, period-walked}
+use Rattle.contents.proofs.Walk.{Tally, nothing, opened, walked, Passes}
+use Rattle.contents.proofs.Tallies.{Within, within-more, beside, none-there, no-role, those-beside, each-beside, each-parts, unchanged, intervals-walked, series-walked, period-walked}
 use Rattle.contents.proofs.Segments.{Holds, Segment, length-element}
 use Rattle.contents.proofs.Splits.{SeriesShape, AllSeries, RootShape, DocumentShape, document-shape}
-use Rattle.contents.proofs.Levels.{fits-any, passes-parts, passes-beside, within-beside, each-none, in-beside, last-those, short, Now, now-kept, now-fits, InRoot, root-fit, root-passes, SeriesRules, Fresh}
-use Rattle.contents.proofs.Levels.{passes-rules as series-rules, rules-passes as series-passes}
+use Rattle.contents.proofs.Levels.{fits-any, passes-parts, passes-beside, within-beside, each-none, in-beside, last-those, short, Now, now-kept, now-fits, root-fit, root-passes, SeriesRules, Fresh}
+use Rattle.contents.proofs.Levels.{passes-rules as series-rules}
+use Rattle.contents.proofs.Levels.{rules-passes as series-passes}
 
 module _ (kind : ℕ) (room : Room) (rows : List ℕ) (p : ℕ) (L : Layout rows p) (p₀ : Period) where
   -- series side by side

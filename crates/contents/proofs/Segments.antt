@@ -2,14 +2,14 @@
 -- Assumes nothing.
 use Prim.Native.Nat.{ℕ, _+_, _-_, _≤_, _<_}
 use mathlib.Core.Path.{_≡_, refl, sym, ap, _∙_}
-use mathlib.Core.List.{List, [], _∷_, _++_, map}
-use mathlib.Core.Bool.{Bool, true, false, cond, _&&_}
+use mathlib.Core.List.{List, _∷_, _++_, map, map-append}
+use mathlib.Core.Bool.{true, false, cond, _&&_}
 use mathlib.Core.Logic.{⊎-elim}
 use native.Mathlib.Omega.{arith}
 use lib.Dec.{eqb, ltb}
 use lib.ListN.{length, getD, length-append}
 use borrow.Author.Tests.{eq-eqb, ne-eqb, lt-ltb, ltb-true}
-use Rattle.lists.proofs.Cases.{bool-cases, eqb-cases, zero-not-one}
+use Rattle.lists.proofs.Cases.{bool-cases, eqb-cases}
 use Rattle.rules.specs.Rules.{positionFits}
 use Rattle.guideline.specs.Columns.{formOf, roleOf}
 use Rattle.guideline.specs.Kinds.{takesAnother}
@@ -17,15 +17,9 @@ use Rattle.states.specs.declared.Room.{Room}
 use Rattle.trees.specs.Trees.{Trees, none, element}
 use Rattle.contents.specs.Said.{Said}
 use Rattle.contents.specs.Legal.{hasRole, those, Period, quartersOf, positionOf, elementFits, inTurn, Each}
-use Rattle.contents.proofs.Walk.{Tally, opened, walked, quartersIn, Taken, Ended, Passes}
-use Rattle.contents.proofs.Tallies.{chosen, other, lastOf, last-append, map-append, turn-append, Within, within-more, invariant, intervals-walked, first-walked, last-walked}
-
-pub and-true : (a b : Bool) → a && b ≡ true → (a ≡ true) × (b ≡ true)
-and-true true b e = (refl, e)
-and-true false b e = absurd (zero-not-one (cc))
-
-pub true-and : (a b : Bool) → a ≡ true → b ≡ true → a && b ≡ true
-true-and a b e f = rw (e, f) refl
+use Rattle.contents.proofs.Tests.{chosen, other, parts-and, and-parts}
+use Rattle.contents.proofs.Walk.{Tally, opened, walked, Taken, Passes}
+use Rattle.contents.proofs.Tallies.{turn-append, Within, within-more, invariant, intervals-walked, first-walked, last-walked}
 
 pub takes-few : (kind n : ℕ) → takesAnother kind n ≡ true → kind ≡ 1 → n < 100
 unfolding takesAnother
@@ -107,15 +101,15 @@ module _ (rows : List ℕ) (kind n : ℕ) (q : ℕ) (s : Said) (inner after : Tr
       ⊎-elim
       (λ (z : (roleOf w ≡ 9) × (eqb (roleOf w) 9 ≡ true)).
       let f = ap (λ l. inTurn kind n (y .last) (map positionOf l)) (sym (chosen (s ∷ (is ++ js)) (is ++ js) (z .1))) ∙ e in
-      let g = and-true (positionFits kind n (y .last) (positionOf s)) (inTurn kind n (positionOf s) (map positionOf (is ++ js))) f in
+      let g = and-parts (positionFits kind n (y .last) (positionOf s)) (inTurn kind n (positionOf s) (map positionOf (is ++ js))) f in
       let u : y₁ .last ≡ positionOf s = last-opened ∙ chosen (positionOf s) (y .last) (z .1) in
-      let h = and-true (inTurn kind n (y₁ .last) (map positionOf is)) (inTurn kind n (walked rows inner y₁ .last) (map positionOf js))
+      let h = and-parts (inTurn kind n (y₁ .last) (map positionOf is)) (inTurn kind n (walked rows inner y₁ .last) (map positionOf js))
       (sym after-own ∙ ap (λ l. inTurn kind n l (map positionOf (is ++ js))) u ∙ g .1) in
       ((λ _. g .0), h .0, h .1))
       (λ (z : (roleOf w ≡ 9 → ⊥) × (eqb (roleOf w) 9 ≡ false)).
       let f = ap (λ l. inTurn kind n (y .last) (map positionOf l)) (sym (other (s ∷ (is ++ js)) (is ++ js) (z .1))) ∙ e in
       let u : y₁ .last ≡ y .last = last-opened ∙ other (positionOf s) (y .last) (z .1) in
-      let h = and-true (inTurn kind n (y₁ .last) (map positionOf is)) (inTurn kind n (walked rows inner y₁ .last) (map positionOf js))
+      let h = and-parts (inTurn kind n (y₁ .last) (map positionOf is)) (inTurn kind n (walked rows inner y₁ .last) (map positionOf js))
       (sym after-own ∙ ap (λ l. inTurn kind n l (map positionOf (is ++ js))) u ∙ f) in
       ((λ r. absurd (z .0 r)), h .0, h .1))
       (eqb-cases (roleOf w) 9)
@@ -126,12 +120,12 @@ module _ (rows : List ℕ) (kind n : ℕ) (q : ℕ) (s : Said) (inner after : Tr
       → inTurn kind n (y .last) (map positionOf (those (hasRole 9) rows (element q s inner after))) ≡ true
   unfolding those inTurn
   turn-whole a b c =
-      let h = after-own ∙ true-and _ _ b c in
+      let h = after-own ∙ parts-and _ _ b c in
       ⊎-elim
       (λ (z : (roleOf w ≡ 9) × (eqb (roleOf w) 9 ≡ true)).
       let u : y₁ .last ≡ positionOf s = last-opened ∙ chosen (positionOf s) (y .last) (z .1) in
       ap (λ l. inTurn kind n (y .last) (map positionOf l)) (chosen (s ∷ (is ++ js)) (is ++ js) (z .1))
-      ∙ true-and (positionFits kind n (y .last) (positionOf s)) (inTurn kind n (positionOf s) (map positionOf (is ++ js))) (a (z .0))
+      ∙ parts-and (positionFits kind n (y .last) (positionOf s)) (inTurn kind n (positionOf s) (map positionOf (is ++ js))) (a (z .0))
       (ap (λ l. inTurn kind n l (map positionOf (is ++ js))) (sym u) ∙ h))
       (λ (z : (roleOf w ≡ 9 → ⊥) × (eqb (roleOf w) 9 ≡ false)).
       let u : y₁ .last ≡ y .last = last-opened ∙ other (positionOf s) (y .last) (z .1) in

@@ -2,8 +2,8 @@
 -- Assumes nothing.
 use Prim.Native.Nat.{ℕ, suc, _+_, _-_, _*_, _≤_, _<_}
 use mathlib.Core.Path.{_≡_, refl, sym, ap, _∙_}
-use mathlib.Core.List.{List, [], _∷_, _++_, map, append-assoc}
-use mathlib.Core.Bool.{Bool, true, false, cond}
+use mathlib.Core.List.{List, [], _∷_, _++_, map}
+use mathlib.Core.Bool.{true}
 use mathlib.Core.Logic.{_⊎_, ⊎-elim}
 use native.Mathlib.Omega.{arith}
 use lib.ListN.{length, getD, set, drop, length-set}
@@ -20,21 +20,13 @@ use Rattle.trees.specs.Trees.{Trees, none, element, rowsTaken, Stand, EachConfo
 use Rattle.contents.specs.Said.{Said, bytes}
 use Rattle.contents.specs.Legal.{hasRole, those, positionOf, identifications}
 use Rattle.contents.specs.Shown.{view, objects, businessTypes}
+use Rattle.contents.proofs.Lists.{last-append, lastOf}
 use Rattle.contents.proofs.Laid.{Layout}
 use Rattle.contents.proofs.Walk.{Tally, opened, walked}
 use Rattle.contents.proofs.Fill.{saidOf, saying, stateOf, entered, filled, Stands}
 use Rattle.contents.proofs.Shapes.{later}
 use Rattle.contents.proofs.Views.{same-view, whole-view, trimmed-view}
 use Rattle.contents.proofs.Roles.{Role, is-series, is-interval, is-object, is-business, is-id, is-pos, is-qty, is-other, role-cases, own, mapped-parts, Given, Valued}
-
--- the last of a list, or d
-abbrev pub lastOf : {A : Type 0} → A → List A → A
-lastOf d [] = d
-lastOf d (a ∷ l) = lastOf a l
-
-last-append : {A : Type 0} (d : A) (a b : List A) → lastOf d (a ++ b) ≡ lastOf (lastOf d a) b
-last-append d [] b = refl
-last-append d (x ∷ a) b = last-append x a b
 
 abbrev pub valueBytes : Said → List ℕ
 valueBytes s = bytes (s .v)

@@ -2,15 +2,15 @@
 -- Assumes nothing.
 use Prim.Native.Nat.{ℕ, _+_, _≤_, _<_}
 use mathlib.Core.Path.{_≡_, refl, sym, ap, subst, _∙_}
-use mathlib.Core.List.{List, [], _∷_, _++_}
-use mathlib.Core.Bool.{Bool, true, false, cond}
+use mathlib.Core.List.{List, [], _∷_}
+use mathlib.Core.Bool.{true, false}
 use mathlib.Core.Logic.{⊎-elim}
 use native.Mathlib.Omega.{arith}
 use lib.Dec.{eqb}
 use lib.ListN.{length, getD}
 use borrow.Author.Tests.{eq-eqb, ne-eqb}
-use Rattle.lists.proofs.Cases.{bool-cases, eqb-cases, leb-cases, zero-not-one}
-use Rattle.structure.specs.Rows.{parentOf, required, repeated}
+use Rattle.lists.proofs.Cases.{eqb-cases, leb-cases, zero-not-one}
+use Rattle.structure.specs.Rows.{parentOf}
 use Rattle.guideline.specs.Columns.{roleOf}
 use Rattle.reader.specs.Items.{Placed}
 use Rattle.trees.specs.Trees.{Trees, none, element, rowsTaken, Stand, ComesAfter, InOrder, Among, Fits, EachConforms, Conforms}

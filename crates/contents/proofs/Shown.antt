@@ -1,59 +1,30 @@
 -- The tables that a conforming content fills show it: a row for each series, and a position and an amount for each interval.
 -- Assumes nothing.
-use Prim.Native.Nat.{ℕ, _+_, _-_, _*_, _≤_, _<_}
+use Prim.Native.Nat.{ℕ, _+_, _*_, _≤_}
 use mathlib.Core.Path.{_≡_, refl, sym, ap, _∙_}
-use mathlib.Core.List.{List, [], _∷_, _++_, map, append-nil}
-use mathlib.Core.Bool.{Bool, true, false, cond}
-use mathlib.Core.Logic.{⊎-elim}
+use mathlib.Core.List.{List, map, append-nil}
+use mathlib.Core.Bool.{true, false}
 use native.Mathlib.Omega.{arith}
 use lib.Dec.{eqb}
 use lib.IntN.{ℤ, pos}
-use lib.ListN.{length, getD, take, drop, replicate, length-replicate, getD-replicate, List·getD-eq-default, List·getD-append, length-append}
-use lib.Seq.{sets, sets-eq, getD-append-add, getD-drop}
-use Rattle.lists.proofs.Cases.{ltb-cases}
+use lib.ListN.{length, getD, take, length-replicate}
 use Rattle.lists.specs.Zeros.{zeros}
-use Rattle.tables.specs.Cells.{noAmounts}
 use Rattle.guideline.specs.Columns.{roleOf}
 use Rattle.reader.specs.Items.{Placed}
-use Rattle.reader.specs.Reading.{Tables, blank, tablesAfter}
-use Rattle.trees.specs.Trees.{Trees, none, element, rowsTaken, EachConforms, Conforms}
+use Rattle.reader.specs.Reading.{blank, tablesAfter}
+use Rattle.trees.specs.Trees.{Trees, none, element, EachConforms, Conforms}
 use Rattle.contents.specs.Said.{Said}
 use Rattle.contents.specs.Legal.{hasRole, those, inEach, positionOf, identifications}
-use Rattle.contents.specs.Shown.{amountIn, sum, objects, businessTypes, intervalCounts, RowShows, Shows}
+use Rattle.contents.specs.Shown.{amountIn, sum, objects, businessTypes, intervalCounts, Shows}
+use Rattle.contents.proofs.Lists.{sets-shown, zero-all}
 use Rattle.contents.proofs.Laid.{Layout}
-use Rattle.contents.proofs.Walk.{Tally, nothing, opened, walked}
+use Rattle.contents.proofs.Walk.{nothing, opened, walked}
 use Rattle.contents.proofs.Fill.{saidOf, saying, stateOf, entered, filled, Stands}
 use Rattle.contents.proofs.Shapes.{holds-root}
 use Rattle.contents.proofs.Roles.{role-cases, Given, Valued}
 use Rattle.contents.proofs.Intervals.{Puts, puts}
 use Rattle.contents.proofs.Series.{valueBytes, trimmedBytes}
-use Rattle.contents.proofs.Rows.{RowOf, RowsFrom, Filled, filled-as, row-moved, series-kept, tallyIn, tablesIn, seriesIn, FilledBy, series-filled}
-
-pub zero-all : {A : Type 0} (z : A) (n j : ℕ) → getD (replicate n z) j z ≡ z
-zero-all z n j =
-    ⊎-elim
-    (λ y. getD-replicate n j z z (y .0))
-    (λ y. List·getD-eq-default (replicate n z) z (rw length-replicate (y .0)))
-    (ltb-cases j n)
-
--- stores from cell 0 on into cells that are z
-sets-shown : {A : Type 0} (z : A) (n : ℕ) (vs : List A) → length vs ≤ n → (j : ℕ) → getD (sets (replicate n z) 0 vs) j z ≡ getD vs j z
-sets-shown {A} z n vs h j =
-    let c = replicate n z in
-    let k = drop (0 + length vs) c in
-    let e : sets c 0 vs ≡ vs ++ k = sets-eq vs c 0 (rw (length-replicate n z) (omega (arith, h))) in
-    ap (λ (l : List A). getD l j z) e
-    ∙ ⊎-elim
-    (λ y. List·getD-append vs k z j (y .0))
-    (λ y.
-    let b = y .0 in
-    let d : j ≡ length vs + (j - length vs) = omega (arith, b) in
-    ap (λ (m : ℕ). getD (vs ++ k) m z) d
-    ∙ getD-append-add vs k (j - length vs) z
-    ∙ getD-drop (0 + length vs) c (j - length vs) z
-    ∙ zero-all z n (0 + length vs + (j - length vs))
-    ∙ sym (List·getD-eq-default vs z b))
-    (ltb-cases j (length vs))
+use Rattle.contents.proofs.Rows.{Filled, filled-as, row-moved, series-kept, seriesIn, series-filled}
 
 module _ (kind : ℕ) (rows : List ℕ) (p : ℕ) (L : Layout rows p) (W : Valued rows) (doc : List ℕ) (ns np na : ℕ) where
   -- ---- the root

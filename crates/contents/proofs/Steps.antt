@@ -36,15 +36,12 @@ use Rattle.states.specs.declared.Room.{Room}
 use Rattle.contents.specs.Said.{Absent, Given, Said, given, bytes}
 use Rattle.contents.specs.Spelled.{valueIn, saidBy}
 use Rattle.contents.specs.Legal.{periodBy, quartersOf, positionBy, positionOf, sayings, attributesFit, schemeFits, valueFits, elementFits}
+use Rattle.contents.proofs.Tests.{and-parts}
 use Rattle.contents.proofs.Laid.{Layout}
 use Rattle.contents.proofs.Walk.{Tally, quartersIn, opened, Taken, Ended}
 use Rattle.contents.proofs.Fill.{stateOf}
 
 -- ---- tests
-
-both : (a b : Bool) → a && b ≡ true → (a ≡ true) × (b ≡ true)
-both true b h = (refl, h)
-both false b h = absurd (zero-not-one (cc))
 
 chained : (a b c d : Bool) → cond a (cond b (cond c d false) false) false ≡ (a && b && c && d)
 chained true true true d = refl
@@ -324,7 +321,7 @@ module _ (kind k₀ r : ℕ) (o : Bool) (y : Tally) (w : ℕ) (u : Said) where
         (λ (e : (formOf w ≡ 9) × (eqb (formOf w) 9 ≡ true)).
         let g = pos-row (e .0) in
         let f : formOf w ≡ 0 → ⊥ = λ z. omega (arith, z, e .0) in
-        let a = both (schemeFits w u) (eqb (valueJudged .number) 0) (sym (value-alone (eqb (valueJudged .number) 0) (g .1) f) ∙ h) in
+        let a = and-parts (schemeFits w u) (eqb (valueJudged .number) 0) (sym (value-alone (eqb (valueJudged .number) 0) (g .1) f) ∙ h) in
         (value-alone (valueFits kind (y .period) w u) (g .1) f ∙ rw (a .0, pos-fits (e .0)), λ z. sym (pos-turn (e .0) (g .0)) ∙ a .1))
         (λ (e : (formOf w ≡ 9 → ⊥) × (eqb (formOf w) 9 ≡ false)). (rw (other-fits (e .0)) h, λ z. absurd (e .0 z)))
         (eqb-cases (formOf w) 9)
@@ -337,7 +334,7 @@ module _ (kind k₀ r : ℕ) (o : Bool) (y : Tally) (w : ℕ) (u : Said) where
         (λ (e : (formOf w ≡ 9) × (eqb (formOf w) 9 ≡ true)).
         let g = pos-row (e .0) in
         let f : formOf w ≡ 0 → ⊥ = λ z. omega (arith, z, e .0) in
-        let a = both (schemeFits w u) (valueFits kind (y .period) w u) (sym (value-alone (valueFits kind (y .period) w u) (g .1) f) ∙ h) in
+        let a = and-parts (schemeFits w u) (valueFits kind (y .period) w u) (sym (value-alone (valueFits kind (y .period) w u) (g .1) f) ∙ h) in
         value-alone (eqb (valueJudged .number) 0) (g .1) f ∙ rw (a .0, pos-turn (e .0) (g .0)) (turn (e .0)))
         (λ (e : (formOf w ≡ 9 → ⊥) × (eqb (formOf w) 9 ≡ false)). rw (← other-fits (e .0)) h)
         (eqb-cases (formOf w) 9)
@@ -497,7 +494,7 @@ module _ (kind : ℕ) (rows : List ℕ) (p : ℕ) (L : Layout rows p) (room : Ro
     module _ (t : Taken kind room row said y) (whole : cutShort empty rows q ≡ false) where
       taken-fits : (attributesFit row said ≡ true) × (valuesFit row said (valueFits kind (y .period) row said) ≡ true)
       unfolding elementFits
-      taken-fits = both (attributesFit row said) (valuesFit row said (valueFits kind (y .period) row said)) (t .fits)
+      taken-fits = and-parts (attributesFit row said) (valuesFit row said (valueFits kind (y .period) row said)) (t .fits)
 
       taken-values : verdict ≡ values
       unfolding stateOf
@@ -530,7 +527,7 @@ module _ (kind : ℕ) (rows : List ℕ) (p : ℕ) (L : Layout rows p) (room : Ro
           let f : formOf row ≡ 0 → ⊥ = λ z. omega (arith, z, e) in
           let v = valueJudged kind k₀ r o y row said in
           let d = period-judged kind k₀ r o y row said e (g .0) in
-          let a = both (schemeFits row said) (eqb (v .number) 0) (sym (value-alone kind k₀ r o y row said (eqb (v .number) 0) (g .1 .root) f) ∙ taken-value) in
+          let a = and-parts (schemeFits row said) (eqb (v .number) 0) (sym (value-alone kind k₀ r o y row said (eqb (v .number) 0) (g .1 .root) f) ∙ taken-value) in
           let k = value-kept kind k₀ r o y row said (g .1 .root) f in
           let l = period-kept kind (interval (says (bytes (said .v)))) (ap (λ (j : Judged). j .number) (sym d) ∙ eqb-true (v .number) 0 (a .1)) in (
             ap (λ (j : Judged). j .first) taken-values ∙ k .0 ∙ ap (λ (j : Judged). j .first) d ∙ l .0,

@@ -1,8 +1,8 @@
 -- What a walk over a content comes to: counts, the last Pos and the period, by what stands in the content. Assumes nothing.
-use Prim.Native.Nat.{ℕ, _+_, _≤_, _<_}
+use Prim.Native.Nat.{ℕ, _+_}
 use mathlib.Core.Path.{_≡_, refl, sym, ap, _∙_}
-use mathlib.Core.List.{List, [], _∷_, _++_, map, append-assoc}
-use mathlib.Core.Bool.{Bool, true, false, cond, _&&_}
+use mathlib.Core.List.{List, [], _∷_, _++_, map, append-assoc, map-append}
+use mathlib.Core.Bool.{Bool, true, false, cond, _&&_, and-assoc}
 use mathlib.Core.Logic.{⊎-elim}
 use native.Mathlib.Omega.{arith}
 use native.Mathlib.Nat.{add-zero}
@@ -17,39 +17,18 @@ use Rattle.guideline.specs.Columns.{formOf, roleOf}
 use Rattle.trees.specs.Trees.{Trees, none, element}
 use Rattle.contents.specs.Said.{Said, bytes}
 use Rattle.contents.specs.Legal.{hasRole, hasForm, those, Period, periodBy, periodIn, positionOf, inTurn, Each}
+use Rattle.contents.proofs.Tests.{other, chosen}
+use Rattle.contents.proofs.Lists.{lastOf, last-append}
 use Rattle.contents.proofs.Walk.{Tally, opened, walked}
 
-pub chosen : {A : Type 0} (a b : A) {t : Bool} → t ≡ true → cond t a b ≡ a
-chosen a b e = ap (λ u. cond u a b) e
-
-pub other : {A : Type 0} (a b : A) {t : Bool} → t ≡ false → cond t a b ≡ b
-other a b e = ap (λ u. cond u a b) e
-
 -- ---- lists
-
--- the last of them; where there is none, l
-abbrev pub lastOf : ℕ → List ℕ → ℕ
-lastOf l [] = l
-lastOf l (p ∷ ps) = lastOf p ps
-
-pub last-append : (l : ℕ) (xs ys : List ℕ) → lastOf l (xs ++ ys) ≡ lastOf (lastOf l xs) ys
-last-append l [] ys = refl
-last-append l (x ∷ xs) ys = last-append x xs ys
-
-pub map-append : {A B : Type 0} (f : A → B) (xs ys : List A) → map f (xs ++ ys) ≡ map f xs ++ map f ys
-map-append f [] ys = refl
-map-append f (x ∷ xs) ys = ap (λ l. f x ∷ l) (map-append f xs ys)
-
-and-assoc : (a b c : Bool) → a && (b && c) ≡ (a && b) && c
-and-assoc true b c = refl
-and-assoc false b c = refl
 
 pub turn-append : (kind n l : ℕ) (xs ys : List ℕ) → inTurn kind n l (xs ++ ys) ≡ inTurn kind n l xs && inTurn kind n (lastOf l xs) ys
 unfolding inTurn
 turn-append kind n l [] ys = refl
 turn-append kind n l (x ∷ xs) ys =
     ap (λ (b : Bool). positionFits kind n l x && b) (turn-append kind n x xs ys)
-    ∙ and-assoc (positionFits kind n l x) (inTurn kind n x xs) (inTurn kind n (lastOf x xs) ys)
+    ∙ sym (and-assoc (positionFits kind n l x) (inTurn kind n x xs) (inTurn kind n (lastOf x xs) ys))
 
 period-append : (p : Period) (xs ys : List Said) → periodIn p (xs ++ ys) ≡ periodIn (periodIn p xs) ys
 unfolding periodIn

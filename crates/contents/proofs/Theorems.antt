@@ -2,30 +2,27 @@
 -- Assumes nothing.
 use Prim.Native.Nat.{ℕ, _+_, _*_, _/_, _≤_, _<_}
 use mathlib.Core.Path.{_≡_, refl, sym, ap, subst, _∙_}
-use mathlib.Core.List.{List, [], _∷_, map, head-eq-of-cons-eq}
+use mathlib.Core.List.{List, _∷_, map}
 use mathlib.Core.Logic.{_⊎_, inl, inr, ⊎-elim}
-use mathlib.Core.Bool.{Bool, true, false, cond, _&&_}
+use mathlib.Core.Bool.{Bool, true, false, _&&_}
 use native.Mathlib.Omega.{arith}
 use native.Mathlib.Nat.{zero-add}
-use lib.Dec.{leb, ltb}
+use lib.Dec.{leb}
 use lib.ListN.{length, getD, length-replicate}
 use lib.IntN.{pos}
 use borrow.Author.Tests.{le-ltb}
-use Rattle.lists.specs.Zeros.{zeros}
-use Rattle.lists.proofs.Cases.{leb-cases, eqb-cases, zero-not-one}
+use Rattle.lists.proofs.Cases.{leb-cases, zero-not-one}
 use Rattle.slices.specs.Same.{same}
 use Rattle.elements.specs.Names.{names, numberIn, elementNo}
 use Rattle.structure.specs.Rows.{nameOf}
-use Rattle.tables.specs.Cells.{noAmounts}
 use Rattle.items.specs.declared.Item.{Item}
 use Rattle.items.specs.declared.Item.the-variants.{Start, Empty, End, Text, Comment, Refused}
 use Rattle.prolog.specs.Prolog.{begin}
 use Rattle.prolog.specs.declared.Begin.{Begin}
 use Rattle.prolog.specs.declared.Begin.the-variants.{From, Unreadable}
 use Rattle.guideline.specs.Rows.{beschaffungsanforderung, kostenblatt, rowsOf}
-use Rattle.states.specs.Attributes.{agree, asksV, there}
+use Rattle.states.specs.Attributes.{agree, asksV, there, noOthers, asksScheme}
 use Rattle.states.specs.Moves.{begun}
-use Rattle.states.specs.declared.State.{State}
 use Rattle.states.specs.declared.Room.{Room}
 use Rattle.reader.specs.Items.{Placed, itemsFrom}
 use Rattle.reader.specs.Rows.{spanOf}
@@ -35,19 +32,20 @@ use Rattle.reader.proofs.Sheets.{into-items, sheet-taken, read-noted}
 use Rattle.trees.specs.Trees.{Sign, Opens, Trees, none, element, spell, Conforms}
 use Rattle.trees.specs.Cursor.{rowAfter, openAfter}
 use Rattle.trees.proofs.Theorems.{one-tree}
+use Rattle.guideline.specs.Columns.{isRoot}
 use Rattle.contents.specs.Said.{Said, given}
-use Rattle.contents.specs.Spelled.{valueIn, saidBy, signsOf, AllAllowed, Spells, Alike}
-use Rattle.contents.specs.Legal.{hasRole, those, Period, periodOf, quartersOf, attributesFit, elementFits, Each, identifications, Legal, HasRoom}
+use Rattle.contents.specs.Spelled.{valueIn, saidBy, signsOf, Spells, Alike}
+use Rattle.contents.specs.Legal.{hasRole, Period, periodOf, quartersOf, attributesFit, elementFits, Each, Legal, HasRoom}
 use Rattle.contents.specs.Shown.{Shows, RowShows, Tells, SameButPlaces, view}
+use Rattle.contents.proofs.Tests.{and-parts}
 use Rattle.contents.proofs.Laid.{Layout, layout-one, layout-two}
 use Rattle.contents.proofs.Walk.{nothing, walked}
 use Rattle.contents.proofs.Fill.{saidByItem, saidOf, saying, stateOf, filled}
-use Rattle.contents.proofs.Tallies.{series-walked, intervals-walked, period-walked}
-use Rattle.contents.proofs.Segments.{and-true}
-use Rattle.contents.proofs.Splits.{document-shape}
-use Rattle.contents.proofs.Rules.{Rules, passes-rules, rules-passes}
 use Rattle.contents.proofs.Lifted.{Known, known-made, relabelled, signs-said, spell-said, conforms-said, lift}
 use Rattle.contents.proofs.Bridge.{Read, forth, back}
+use Rattle.contents.proofs.Tallies.{series-walked, intervals-walked, period-walked}
+use Rattle.contents.proofs.Splits.{document-shape}
+use Rattle.contents.proofs.Rules.{Rules, passes-rules, rules-passes}
 use Rattle.contents.proofs.Roles.{Given, Valued, valued-one, valued-two}
 use Rattle.contents.proofs.Shown.{shows}
 use Rattle.contents.proofs.Unused.{unused-apart, apart-unused}
@@ -60,17 +58,18 @@ laid kind (inr e) = (28, subst (λ (k : ℕ). Layout (rowsOf k) 28) (sym e) layo
 
 -- ---- where a value is asked for, it is there
 
-four-first : (a b c d : Bool) → a && b && c && d ≡ true → a ≡ true
-four-first true b c d e = refl
-four-first false b c d e = absurd (zero-not-one (cc))
-
 agreed : (g : Bool) → agree true g ≡ true → g ≡ true
 unfolding agree
 agreed g e = e
 
 asked-given : (w : ℕ) (s : Said) → attributesFit w s ≡ true → asksV w ≡ true → given (s .v) ≡ true
 unfolding attributesFit
-asked-given w s e a = agreed (given (s .v)) (ap (λ (b : Bool). agree b (given (s .v))) (sym a) ∙ four-first (agree (asksV w) (given (s .v))) _ _ _ e)
+asked-given w s e a =
+    let v = agree (asksV w) (given (s .v)) in
+    let scheme = agree (asksScheme w) (given (s .scheme)) in
+    let version = agree (hasRole isRoot w) (given (s .version)) in
+    let k = and-parts v scheme (and-parts (v && scheme) version (and-parts (v && scheme && version) (noOthers w (s .others) (s .passable)) e .0) .0) .0 in
+    agreed (given (s .v)) (ap (λ (b : Bool). agree b (given (s .v))) (sym a) ∙ k)
 
 given-there : (x : Item) (s : List ℕ) → given (saidByItem x s .v) ≡ true → there (spanOf x) ≡ true
 unfolding saidByItem saidBy valueIn given spanOf
@@ -93,7 +92,7 @@ each-given : (kind : ℕ) (q : Period) (rows : List ℕ) (kids : Trees Placed) �
 unfolding Each Given saying elementFits
 each-given kind q rows none e = tt
 each-given kind q rows (element r x inner after) e = (
-  (λ a. given-there (x .item) (x .rest) (asked-given (getD rows r 0) (saidOf x) (and-true (attributesFit (getD rows r 0) (saidOf x)) _ (e .0) .0) a)),
+  (λ a. given-there (x .item) (x .rest) (asked-given (getD rows r 0) (saidOf x) (and-parts (attributesFit (getD rows r 0) (saidOf x)) _ (e .0) .0) a)),
   each-given kind q rows inner (e .1),
   each-given kind q rows after (e .2),
 )

@@ -3,16 +3,14 @@
 use Prim.Native.Nat.{ℕ, zero, suc, _+_, _-_, _*_, _≤_, _<_}
 use mathlib.Core.Path.{_≡_, refl, sym, ap, subst, _∙_}
 use mathlib.Core.List.{List, [], _∷_, _++_, map}
-use mathlib.Core.Bool.{Bool, true, false, cond}
-use mathlib.Core.Logic.{_↔_, inl, inr, ⊎-elim}
+use mathlib.Core.Bool.{true, false, true≢false}
+use mathlib.Core.Logic.{_↔_, inl, ⊎-elim}
 use native.Mathlib.Omega.{arith}
 use lib.Dec.{eqb}
 use lib.ListN.{length, getD, length-replicate}
 use borrow.Author.Tests.{eq-eqb, ne-eqb}
-use Rattle.lists.proofs.Cases.{eqb-cases, past-cond, zero-not-one}
-use Rattle.lists.specs.Zeros.{zeros}
+use Rattle.lists.proofs.Cases.{eqb-cases, past-cond}
 use Rattle.slices.specs.Same.{same}
-use Rattle.attributes.specs.Attribute.{partOf}
 use Rattle.tags.specs.declared.Span.{Span}
 use Rattle.guideline.specs.Columns.{roleOf}
 use Rattle.states.specs.Attributes.{there}
@@ -24,6 +22,7 @@ use Rattle.trees.specs.Trees.{Trees, none, element, rowsTaken, Stand, Fits, Eac
 use Rattle.contents.specs.Said.{Said}
 use Rattle.contents.specs.Legal.{hasRole, those, positionOf, All, isAmong, Apart, identifications}
 use Rattle.contents.specs.Shown.{view}
+use Rattle.contents.proofs.Lists.{zero-all, all-both, joined, all-change}
 use Rattle.contents.proofs.Laid.{Layout}
 use Rattle.contents.proofs.Walk.{Tally, nothing, opened, walked}
 use Rattle.contents.proofs.Fill.{saidOf, saying, entered, filled, Unused, Stands}
@@ -31,41 +30,8 @@ use Rattle.contents.proofs.Shapes.{later, holds-root}
 use Rattle.contents.proofs.Views.{said-bytes}
 use Rattle.contents.proofs.Roles.{Role, is-series, is-interval, is-object, is-business, is-id, is-pos, is-qty, is-other, role-cases, own, mapped-parts, Given, Valued}
 use Rattle.contents.proofs.Series.{valueBytes, step-effect, no-series, inside}
-use Rattle.contents.proofs.Rows.{tallyIn, tablesIn, tallyOut, tablesOut, opened-series, opened-before, opened-size, rowed, plain, once-in, seriesIn, more-series, those-plain, those-series}
-use Rattle.contents.proofs.Shown.{zero-all, those-root, root-role, root-tally, root-cells}
-
--- ---- lists of which each passes
-
-module _ {A : Type 0} where
-  all-join : (P : A → Type 0) (a b : List A) → All P a → All P b → All P (a ++ b)
-  unfolding All
-  all-join P [] b h k = k
-  all-join P (x ∷ a) b h k = (h .0, all-join P a b (h .1) k)
-
-  all-split : (P : A → Type 0) (a b : List A) → All P (a ++ b) → All P a × All P b
-  unfolding All
-  all-split P [] b h = (tt, h)
-  all-split P (x ∷ a) b h = let k = all-split P a b (h .1) in ((h .0, k .0), k .1)
-
-  all-both : (P Q R : A → Type 0) (l : List A) → ((a : A) → P a → Q a → R a) → All P l → All Q l → All R l
-  unfolding All
-  all-both P Q R [] f h k = tt
-  all-both P Q R (x ∷ l) f h k = (f x (h .0) (k .0), all-both P Q R l f (h .1) (k .1))
-
-  all-change : (P Q : A → Type 0) (l : List A) → ((a : A) → P a → Q a) → All P l → All Q l
-  all-change P Q l f h = all-both P P Q l (λ a u v. f a u) h h
-
--- two parts and what comes before them, each by a test of its own
-joined : {A S U Z : Type 0} (P Q R : A → Type 0) (a b c l : List A) → l ≡ a ++ (b ++ c) → S ↔ All P a → U ↔ All Q b → Z ↔ All R c
-    → ((z : A) → Q z ↔ P z) → ((z : A) → R z ↔ P z) → (S × U × Z) ↔ All P l
-joined P Q R a b c l e s u z f g = (
-  (λ h. subst (All P) (sym e)
-  (all-join P a (b ++ c) (s .0 (h .0)) (all-join P b c (all-change Q P b (λ i k. f i .0 k) (u .0 (h .1))) (all-change R P c (λ i k. g i .0 k) (z .0 (h .2)))))),
-  (λ h.
-  let k = all-split P a (b ++ c) (subst (All P) e h) in
-  let m = all-split P b c (k .1) in
-  (s .1 (k .0), u .1 (all-change P Q b (λ i k. f i .1 k) (m .0)), z .1 (all-change P R c (λ i k. g i .1 k) (m .1)))),
-)
+use Rattle.contents.proofs.Rows.{tallyIn, tablesIn, tallyOut, tablesOut, opened-series, opened-before, opened-size, rowed, plain, once-in, more-series, those-plain, those-series}
+use Rattle.contents.proofs.Shown.{those-root, root-role, root-tally, root-cells}
 
 -- ---- no two are the same
 
@@ -80,12 +46,9 @@ same-both [] (b ∷ y) = refl
 same-both (a ∷ x) [] = refl
 same-both (a ∷ x) (b ∷ y) = rw (eqb-both a b, same-both x y)
 
-true-not-false : true ≡ false → ⊥
-true-not-false e = zero-not-one (cc)
-
 among-none : (z x : List ℕ) (l : List (List ℕ)) → isAmong z (x ∷ l) ≡ false → (same z x ≡ false) × (isAmong z l ≡ false)
 unfolding isAmong
-among-none z x l h = past-cond (same z x) true-not-false h
+among-none z x l h = past-cond (same z x) true≢false h
 
 among-made : (z x : List ℕ) (l : List (List ℕ)) → same z x ≡ false → isAmong z l ≡ false → isAmong z (x ∷ l) ≡ false
 unfolding isAmong
@@ -155,7 +118,7 @@ module _ (doc : List ℕ) where
   not-used r n t v s m (is-interval e) k = rw e
   not-used r n t v s m (is-object e) k = rw e
   not-used r n t v s m (is-business e) k = rw e
-  not-used r n t v s m (is-id e) k = let z : true ≡ false = rw e at k in absurd (true-not-false z)
+  not-used r n t v s m (is-id e) k = let z : true ≡ false = rw e at k in absurd (true≢false z)
   not-used r n t v s m (is-pos e) k = rw e
   not-used r n t v s m (is-qty e) k = rw e
   not-used r n t v s m (is-other a b c d e f g) k = simp (a, b, c, d, e, f, g)

@@ -4,11 +4,10 @@ use Prim.Native.Nat.{ℕ, zero, suc, _+_, _≤_, _<_}
 use mathlib.Core.Path.{_≡_, refl, sym, ap, _∙_}
 use mathlib.Core.List.{List, [], _∷_}
 use mathlib.Core.Bool.{Bool, true, false, cond}
-use mathlib.Core.Logic.{⊎-elim}
 use native.Mathlib.Omega.{arith}
-use lib.ListN.{length, getD, take, drop, set, length-set, length-take}
+use lib.ListN.{length, getD, take, drop, set, length-set}
 use lib.Seq.{getD-set-same, getD-set-other, take-take, drop-drop}
-use Rattle.lists.proofs.Cases.{bool-cases, zero-not-one}
+use Rattle.lists.proofs.Cases.{zero-not-one}
 use Rattle.slices.specs.Run.{run}
 use Rattle.attributes.specs.Attribute.{partOf}
 use Rattle.trims.specs.Trim.{space, dropped}
