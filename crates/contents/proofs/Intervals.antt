@@ -32,9 +32,10 @@ use Rattle.contents.specs.Shown.{amountIn}
 use Rattle.contents.proofs.Laid.{Layout}
 use Rattle.contents.proofs.Walk.{Tally, opened, walked}
 use Rattle.contents.proofs.Fill.{saidOf, saying, stateOf, entered, filled}
+use Rattle.contents.proofs.Elements.{own, those-parts, mapped-parts}
 use Rattle.contents.proofs.Shapes.{Place, in-document, in-root, in-series, in-period, in-interval, place, holds-two}
 use Rattle.contents.proofs.Views.{said-bytes}
-use Rattle.contents.proofs.Roles.{Role, is-series, is-interval, is-object, is-business, is-id, is-pos, is-qty, is-other, role-cases, own, those-parts, mapped-parts, Given, Valued}
+use Rattle.contents.proofs.Roles.{Role, is-series, is-interval, is-object, is-business, is-id, is-pos, is-qty, is-other, role-cases, Given, Valued}
 
 -- between two places of the walk these intervals start, and these positions and amounts are put, from the next interval's row on
 pub record Puts (y : Tally) (t : Tables) (y′ : Tally) (t′ : Tables) (starts : List Said) (ps : List ℕ) (ams : List ℤ) : Type 0 where
@@ -198,11 +199,11 @@ module _ (kind : ℕ) (rows : List ℕ) (p : ℕ) (L : Layout rows p) (W : Value
       let a = saying inner in
       let b = saying after in
       puts-lists
-      (append-assoc (own (hasRole 4 w) (saidOf x)) (those (hasRole 4) rows a) (those (hasRole 4) rows b) ∙ sym (those-parts (hasRole 4) rows q (saidOf x) a b))
+      (append-assoc (own (hasRole 4 w) (saidOf x)) (those (hasRole 4) rows a) (those (hasRole 4) rows b) ∙ sym (those-parts rows (hasRole 4) q (saidOf x) a b))
       (append-assoc (map positionOf (own (hasRole 9 w) (saidOf x))) (map positionOf (those (hasRole 9) rows a)) (map positionOf (those (hasRole 9) rows b))
-      ∙ sym (mapped-parts positionOf (hasRole 9) rows q (saidOf x) a b))
+      ∙ sym (mapped-parts rows positionOf (hasRole 9) q (saidOf x) a b))
       (append-assoc (map amountIn (own (hasRole 10 w) (saidOf x))) (map amountIn (those (hasRole 10) rows a)) (map amountIn (those (hasRole 10) rows b))
-      ∙ sym (mapped-parts amountIn (hasRole 10) rows q (saidOf x) a b))
+      ∙ sym (mapped-parts rows amountIn (hasRole 10) q (saidOf x) a b))
       (puts-on
       (⊎-elim
       (λ d. interval-puts q x inner y t (d .0) (c .0) (c .1) (g .1))

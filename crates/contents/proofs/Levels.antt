@@ -2,9 +2,9 @@
 -- Assumes nothing.
 use Prim.Native.Nat.{ℕ, _+_, _-_, _≤_, _<_}
 use mathlib.Core.Path.{_≡_, refl, sym, ap, subst, _∙_}
-use mathlib.Core.List.{List, [], _∷_, _++_, map, append-nil, append-assoc}
+use mathlib.Core.List.{List, [], _++_, map, append-nil}
 use mathlib.Core.Logic.{_⊎_, inl, inr, ⊎-elim}
-use mathlib.Core.Bool.{Bool, true, false, cond, _&&_}
+use mathlib.Core.Bool.{true, false, cond, _&&_}
 use native.Mathlib.Omega.{arith}
 use lib.Dec.{eqb, leb}
 use lib.ListN.{length, getD}
@@ -18,11 +18,12 @@ use Rattle.states.specs.Moves.{countRefusal}
 use Rattle.states.specs.declared.Room.{Room}
 use Rattle.trees.specs.Trees.{Trees, none, element}
 use Rattle.contents.specs.Said.{Said}
-use Rattle.contents.specs.Legal.{hasRole, those, inEach, Period, quartersOf, positionOf, valueFits, elementFits, Each, inTurn, countFits, SeriesFits}
+use Rattle.contents.specs.Legal.{hasRole, those, Period, quartersOf, positionOf, valueFits, elementFits, Each, inTurn, countFits, SeriesFits}
 use Rattle.contents.proofs.Tests.{chosen, other, and-parts}
 use Rattle.contents.proofs.Laid.{Layout}
 use Rattle.contents.proofs.Walk.{Tally, opened, walked, quartersIn, Passes}
-use Rattle.contents.proofs.Tallies.{Within, within-more, beside, no-role, those-beside, each-beside, each-parts, unchanged, intervals-walked, originals-walked, first-walked}
+use Rattle.contents.proofs.Elements.{Within, within-more, beside, no-role, those-beside, each-beside, each-parts, last-those}
+use Rattle.contents.proofs.Tallies.{unchanged, intervals-walked, originals-walked, first-walked}
 use Rattle.contents.proofs.Segments.{Holds, Plain, Segment, passes-fit, fit-passes}
 use Rattle.contents.proofs.Splits.{SeriesShape}
 
@@ -60,34 +61,6 @@ module _ (kind : ℕ) (room : Room) (rows : List ℕ) where
   passes-beside none d y a b = b
   passes-beside (element q s inner after) d y a b =
       (a .0, a .1, a .2, passes-beside after d (walked rows inner (opened (getD rows q 0) s y)) (a .3) b)
-
-pub within-beside : {A : Type 0} (R : ℕ → Type 0) (c d : Trees A) → Within R c → Within R d → Within R (beside c d)
-unfolding Within beside
-within-beside R none d a b = b
-within-beside R (element q s inner after) d a b = (a .0, a .1, within-beside R after d (a .2) b)
-
-module _ (rows : List ℕ) where
-  pub each-none : {A : Type 0} (test : ℕ → Bool) (c : Trees A) → Within (λ q. test (getD rows q 0) ≡ false) c → inEach test rows c ≡ []
-  unfolding inEach Within
-  each-none test none h = refl
-  each-none test (element q s inner after) h = rw (h .0, each-none test inner (h .1), each-none test after (h .2)) refl
-
-  pub in-beside : {A : Type 0} (test : ℕ → Bool) (c d : Trees A) → inEach test rows (beside c d) ≡ inEach test rows c ++ inEach test rows d
-  unfolding inEach beside
-  in-beside test none d = refl
-  in-beside test (element q s inner after) d =
-      let e = ap (λ l. inEach test rows inner ++ l) (in-beside test after d)
-      ∙ sym (append-assoc (inEach test rows inner) (inEach test rows after) (inEach test rows d)) in
-      ⊎-elim
-      (λ (y : test (getD rows q 0) ≡ true). rw y (ap (λ l. inner ∷ l) e))
-      (λ (y : test (getD rows q 0) ≡ false). rw y e)
-      (bool-cases (test (getD rows q 0)))
-
-  -- an element that does not pass the test itself, with nothing after it
-  pub last-those : {A : Type 0} (test : ℕ → Bool) (q : ℕ) (s : A) (inner : Trees A) → test (getD rows q 0) ≡ false
-      → those test rows (element q s inner none) ≡ those test rows inner
-  unfolding those
-  last-those test q s inner e = rw e (append-nil (those test rows inner))
 
 -- ---- how many Intervals
 

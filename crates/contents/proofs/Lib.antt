@@ -10,6 +10,7 @@ pub mod Rooted
 pub mod Moved
 pub mod Items
 pub mod Bridge
+pub mod Elements
 pub mod Tallies
 pub mod Segments
 pub mod Splits

@@ -1,9 +1,9 @@
--- What a row is to the reader, case by case; what the content's lists have of one element; and that an element that has to bring a value brings it.
+-- What a row is to the reader, case by case; and that an element that has to bring a value brings it.
 -- Assumes nothing.
 use Prim.Native.Nat.{ℕ, _≤_, _<_}
 use mathlib.Core.Path.{_≡_, refl}
-use mathlib.Core.List.{List, [], _∷_, _++_, map, map-append}
-use mathlib.Core.Bool.{Bool, true, false, cond}
+use mathlib.Core.List.{List}
+use mathlib.Core.Bool.{true, false, cond}
 use mathlib.Core.Logic.{⊎-elim}
 use lib.Dec.{eqb, leb}
 use lib.ListN.{length, getD}
@@ -18,7 +18,6 @@ use Rattle.states.specs.Attributes.{there, asksV}
 use Rattle.reader.specs.Items.{Placed}
 use Rattle.reader.specs.Rows.{spanOf}
 use Rattle.trees.specs.Trees.{Trees, none, element}
-use Rattle.contents.specs.Legal.{those}
 
 -- the roles that bring something into the tables
 pub data Role (r : ℕ) : Type 0 where
@@ -41,30 +40,6 @@ role-cases r =
     ⊎-elim (λ f. is-pos (f .0)) (λ f.
     ⊎-elim (λ g. is-qty (g .0)) (λ g. is-other (a .1) (b .1) (c .1) (d .1) (e .1) (f .1) (g .1))
     (eqb-cases r 10)) (eqb-cases r 9)) (eqb-cases r 8)) (eqb-cases r 7)) (eqb-cases r 6)) (eqb-cases r 4)) (eqb-cases r 2)
-
--- ---- the lists of a content
-
--- an element's own part of them
-abbrev pub own : {A : Type 0} → Bool → A → List A
-own t a = cond t (a ∷ []) []
-
-own-first : {A : Type 0} (t : Bool) (a : A) (l : List A) → cond t (a ∷ l) l ≡ own t a ++ l
-own-first true a l = refl
-own-first false a l = refl
-
-pub those-parts : {A : Type 0} (test : ℕ → Bool) (rows : List ℕ) (q : ℕ) (s : A) (inner after : Trees A)
-    → those test rows (element q s inner after) ≡ own (test (getD rows q 0)) s ++ (those test rows inner ++ those test rows after)
-unfolding those
-those-parts test rows q s inner after = own-first (test (getD rows q 0)) s (those test rows inner ++ those test rows after)
-
-pub mapped-parts : {A B : Type 0} (f : A → B) (test : ℕ → Bool) (rows : List ℕ) (q : ℕ) (s : A) (inner after : Trees A)
-    → map f (those test rows (element q s inner after))
-    ≡ map f (own (test (getD rows q 0)) s) ++ (map f (those test rows inner) ++ map f (those test rows after))
-mapped-parts f test rows q s inner after =
-    let a = own (test (getD rows q 0)) s in
-    let b = those test rows inner in
-    let c = those test rows after in
-    rw (those-parts test rows q s inner after, map-append f a (b ++ c), map-append f b c)
 
 -- ---- values that have to be there
 

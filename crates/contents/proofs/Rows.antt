@@ -2,8 +2,8 @@
 -- Assumes nothing.
 use Prim.Native.Nat.{ℕ, zero, suc, _+_, _-_, _*_, _≤_, _<_}
 use mathlib.Core.Path.{_≡_, refl, sym, ap, _∙_}
-use mathlib.Core.List.{List, [], _∷_, map}
-use mathlib.Core.Bool.{true, false}
+use mathlib.Core.List.{List, [], _∷_, map, _++_}
+use mathlib.Core.Bool.{true, false, Bool}
 use mathlib.Core.Logic.{inl, inr, ⊎-elim}
 use native.Mathlib.Omega.{arith}
 use lib.Dec.{eqb}
@@ -27,6 +27,7 @@ use Rattle.contents.proofs.Lists.{lastOf}
 use Rattle.contents.proofs.Laid.{Layout}
 use Rattle.contents.proofs.Walk.{Tally, opened, walked}
 use Rattle.contents.proofs.Fill.{saidOf, saying, stateOf, entered, filled, Stands}
+use Rattle.contents.proofs.Elements.{in-of, own, those-of}
 use Rattle.contents.proofs.Shapes.{in-series-row, series-in, in-root-row, leaf, absent, absent-each, comes-once}
 use Rattle.contents.proofs.Views.{same-view}
 use Rattle.contents.proofs.Roles.{Role, is-series, is-interval, is-object, is-business, is-id, is-pos, is-qty, is-other, role-cases, Given, Valued}
@@ -79,6 +80,29 @@ pub filled-as : {doc : List ℕ} {n n₁ f f₁ : ℕ} {t t₁ u : List ℕ} {m 
     → n ≡ n₁ → f ≡ f₁ → t ≡ t₁ → m ≡ m₁ → ids ≡ ids₁ → objs ≡ objs₁ → kinds ≡ kinds₁ → counts ≡ counts₁
     → Filled doc n f t u m ids objs kinds counts → Filled doc n₁ f₁ t₁ u m₁ ids₁ objs₁ kinds₁ counts₁
 filled-as a b c d e g h i k = rw (a, b, c, d, e, g, h, i) at k
+
+-- ---- the lists of a content with one element more
+
+module _ (rows : List ℕ) (role q : ℕ) (x : Placed) (inner after : Trees Placed) where
+  pub those-after : {t : Bool} {l : List Said} → eqb (roleOf (getD rows q 0)) role ≡ t → those (hasRole role) rows (saying inner) ≡ l
+      → own t (saidOf x) ++ (l ++ those (hasRole role) rows (saying after)) ≡ those (hasRole role) rows (saying (element q x inner after))
+  unfolding saying
+  those-after e f = sym (those-of rows (hasRole role) q (saidOf x) (saying inner) (saying after) e f)
+
+  each-after : {t : Bool} {l : List (Trees Said)} → eqb (roleOf (getD rows q 0)) role ≡ t → inEach (hasRole role) rows (saying inner) ≡ l
+      → own t (saying inner) ++ (l ++ inEach (hasRole role) rows (saying after)) ≡ inEach (hasRole role) rows (saying (element q x inner after))
+  unfolding saying
+  each-after e f = sym (in-of rows (hasRole role) q (saidOf x) (saying inner) (saying after) e f)
+
+  -- an element that adds nothing to them
+  module _ (bare : inner ≡ none) (n : eqb (roleOf (getD rows q 0)) role ≡ false) where
+    pub those-plain : those (hasRole role) rows (saying after) ≡ those (hasRole role) rows (saying (element q x inner after))
+    unfolding those saying
+    those-plain = those-after {l = []} n (rw bare refl)
+
+    each-plain : inEach (hasRole role) rows (saying after) ≡ inEach (hasRole role) rows (saying (element q x inner after))
+    unfolding inEach saying
+    each-plain = each-after {l = []} n (rw bare refl)
 
 -- ---- what stands beside the series changes nothing
 
@@ -247,34 +271,6 @@ module _ (kind : ℕ) (rows : List ℕ) (p : ℕ) (L : Layout rows p) (W : Value
         not-eight = ne-eqb r 8 n₈;
       }
 
-  -- the lists of a content after an element that adds nothing to them
-  pub those-plain : (role q : ℕ) (x : Placed) (inner after : Trees Placed) → inner ≡ none → eqb (roleOf (getD rows q 0)) role ≡ false
-      → those (hasRole role) rows (saying after) ≡ those (hasRole role) rows (saying (element q x inner after))
-  unfolding those saying
-  those-plain role q x inner after e n = rw (n, e)
-
-  each-plain : (role q : ℕ) (x : Placed) (inner after : Trees Placed) → inner ≡ none → eqb (roleOf (getD rows q 0)) role ≡ false
-      → inEach (hasRole role) rows (saying after) ≡ inEach (hasRole role) rows (saying (element q x inner after))
-  unfolding inEach saying
-  each-plain role q x inner after e n = rw (n, e)
-
-  -- and after a series
-  pub those-series : (role q : ℕ) (x : Placed) (inner after : Trees Placed) (s : Said) → eqb (roleOf (getD rows q 0)) role ≡ false
-      → those (hasRole role) rows (saying inner) ≡ s ∷ []
-      → s ∷ those (hasRole role) rows (saying after) ≡ those (hasRole role) rows (saying (element q x inner after))
-  unfolding those saying
-  those-series role q x inner after s n e = rw (n, e)
-
-  those-of-series : (q : ℕ) (x : Placed) (inner after : Trees Placed) → eqb (roleOf (getD rows q 0)) 2 ≡ true → those (hasRole 2) rows (saying inner) ≡ []
-      → saidOf x ∷ those (hasRole 2) rows (saying after) ≡ those (hasRole 2) rows (saying (element q x inner after))
-  unfolding those saying
-  those-of-series q x inner after n e = rw (n, e)
-
-  each-series : (q : ℕ) (x : Placed) (inner after : Trees Placed) → eqb (roleOf (getD rows q 0)) 2 ≡ true → inEach (hasRole 2) rows (saying inner) ≡ []
-      → saying inner ∷ inEach (hasRole 2) rows (saying after) ≡ inEach (hasRole 2) rows (saying (element q x inner after))
-  unfolding inEach saying
-  each-series q x inner after n e = rw (n, e)
-
   -- what is said once in a series
   pub record Once (inner : Trees Placed) : Type 0 where
     pub id : Said
@@ -317,11 +313,11 @@ module _ (kind : ℕ) (rows : List ℕ) (p : ℕ) (L : Layout rows p) (W : Value
       → FilledBy after (tallyIn q x y) (tablesIn q x y t) → FilledBy (element q x inner after) y t
   unfolding filled walked saying identifications objects businessTypes intervalCounts
   filled-plain q x inner after y t e h =
-      let k = filled-as (e .series) (e .intervals) (e .cells) (ap length (those-plain 2 q x inner after (e .bare) (e .not-two)))
-      (ap (map valueBytes) (those-plain 8 q x inner after (e .bare) (e .not-eight)))
-      (ap (map valueBytes) (those-plain 6 q x inner after (e .bare) (e .not-six)))
-      (ap (map trimmedBytes) (those-plain 7 q x inner after (e .bare) (e .not-seven)))
-      (ap (map (λ (s : Trees Said). length (those (hasRole 4) rows s))) (each-plain 2 q x inner after (e .bare) (e .not-two))) h in
+      let k = filled-as (e .series) (e .intervals) (e .cells) (ap length (those-plain rows 2 q x inner after (e .bare) (e .not-two)))
+      (ap (map valueBytes) (those-plain rows 8 q x inner after (e .bare) (e .not-eight)))
+      (ap (map valueBytes) (those-plain rows 6 q x inner after (e .bare) (e .not-six)))
+      (ap (map trimmedBytes) (those-plain rows 7 q x inner after (e .bare) (e .not-seven)))
+      (ap (map (λ (s : Trees Said). length (those (hasRole 4) rows s))) (each-plain rows 2 q x inner after (e .bare) (e .not-two))) h in
       rw (e .bare) (rw (e .bare) at k)
 
   filled-series : (q : ℕ) (x : Placed) (inner after : Trees Placed) (y : Tally) (t : Tables) → q ≡ 12 → (o : Once inner)
@@ -340,11 +336,11 @@ module _ (kind : ℕ) (rows : List ℕ) (p : ℕ) (L : Layout rows p) (W : Value
       let seven : eqb (roleOf (getD rows q 0)) 7 ≡ false = rw role in
       let eight : eqb (roleOf (getD rows q 0)) 8 ≡ false = rw role in
       let k = filled-as (r .series) (r .intervals) refl refl refl refl refl refl h in
-      filled-as refl refl refl (ap length (those-of-series q x inner after two (o .no-series)))
-      (ap (map valueBytes) (those-series 8 q x inner after (o .id) eight (o .id-once)))
-      (ap (map valueBytes) (those-series 6 q x inner after (o .object) six (o .object-once)))
-      (ap (map trimmedBytes) (those-series 7 q x inner after (o .business) seven (o .business-once)))
-      (ap (map (λ (s : Trees Said). length (those (hasRole 4) rows s))) (each-series q x inner after two (o .no-series-each)))
+      filled-as refl refl refl (ap length (those-after rows 2 q x inner after two (o .no-series)))
+      (ap (map valueBytes) (those-after rows 8 q x inner after eight (o .id-once)))
+      (ap (map valueBytes) (those-after rows 6 q x inner after six (o .object-once)))
+      (ap (map trimmedBytes) (those-after rows 7 q x inner after seven (o .business-once)))
+      (ap (map (λ (s : Trees Said). length (those (hasRole 4) rows s))) (each-after rows 2 q x inner after two (o .no-series-each)))
       (record {
         size = k .size ∙ r .size;
         before = λ j l. k .before j (omega (arith, l)) ∙ r .before j l;
@@ -358,7 +354,7 @@ module _ (kind : ℕ) (rows : List ℕ) (p : ℕ) (L : Layout rows p) (W : Value
   more-series q x inner after e o =
       let role = ap (λ (i : ℕ). roleOf (getD rows i 0)) e ∙ L .series in
       let two : eqb (roleOf (getD rows q 0)) 2 ≡ true = rw role in
-      sym (ap length (those-of-series q x inner after two (o .no-series)))
+      sym (ap length (those-after rows 2 q x inner after two (o .no-series)))
 
   pub series-filled : (kids : Trees Placed) (y : Tally) (t : Tables) → Stand rows 1 (rowsTaken kids) → EachConforms rows kids → Stands doc kids → Given rows kids
       → 8 * (y .series + seriesIn kids) ≤ length (t .series) → ((j : ℕ) → 8 * y .series ≤ j → getD (t .series) j 0 ≡ 0) → FilledBy kids y t
@@ -378,7 +374,7 @@ module _ (kind : ℕ) (rows : List ℕ) (p : ℕ) (L : Layout rows p) (W : Value
       (λ j l. r .beyond j (omega (arith, l, u)) ∙ blank j (omega (arith, l, u)))))
       (λ e.
       let k = plain q x inner y t (e .0) (s .0) (s .1) (c .0 .stand) in
-      let m : seriesIn (element q x inner after) ≡ seriesIn after = sym (ap length (those-plain 2 q x inner after (k .bare) (k .not-two))) in
+      let m : seriesIn (element q x inner after) ≡ seriesIn after = sym (ap length (those-plain rows 2 q x inner after (k .bare) (k .not-two))) in
       let u = k .series in
       let v = ap length (k .cells) in
       filled-plain q x inner after y t k

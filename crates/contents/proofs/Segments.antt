@@ -7,7 +7,7 @@ use mathlib.Core.Bool.{true, false, cond, _&&_}
 use mathlib.Core.Logic.{⊎-elim}
 use native.Mathlib.Omega.{arith}
 use lib.Dec.{eqb, ltb}
-use lib.ListN.{length, getD, length-append}
+use lib.ListN.{length, getD}
 use borrow.Author.Tests.{eq-eqb, ne-eqb, lt-ltb, ltb-true}
 use Rattle.lists.proofs.Cases.{bool-cases, eqb-cases}
 use Rattle.rules.specs.Rules.{positionFits}
@@ -19,7 +19,8 @@ use Rattle.contents.specs.Said.{Said}
 use Rattle.contents.specs.Legal.{hasRole, those, Period, quartersOf, positionOf, elementFits, inTurn, Each}
 use Rattle.contents.proofs.Tests.{chosen, other, parts-and, and-parts}
 use Rattle.contents.proofs.Walk.{Tally, opened, walked, Taken, Passes}
-use Rattle.contents.proofs.Tallies.{turn-append, Within, within-more, invariant, intervals-walked, first-walked, last-walked}
+use Rattle.contents.proofs.Elements.{Within, within-more, length-element, unit}
+use Rattle.contents.proofs.Tallies.{turn-append, invariant, intervals-walked, first-walked, last-walked}
 
 pub takes-few : (kind n : ℕ) → takesAnother kind n ≡ true → kind ≡ 1 → n < 100
 unfolding takesAnother
@@ -47,21 +48,6 @@ pub record Segment (kind : ℕ) (room : Room) (rows : List ℕ) (p₀ : Period) 
   pub turns : inTurn kind (quartersOf p₀) (y .last) (map positionOf (those (hasRole 9) rows c)) ≡ true
   pub few : kind ≡ 1 → y .intervals - y .first + length (those (hasRole 4) rows c) ≤ 100
   pub fit : y .intervals + length (those (hasRole 4) rows c) ≤ room .intervals
-
--- one for a row of this role
-abbrev pub unit : ℕ → ℕ → ℕ
-unit n w = cond (eqb (roleOf w) n) 1 0
-
-pub length-element : {A : Type 0} (rows : List ℕ) (n q : ℕ) (s : A) (inner after : Trees A)
-    → length (those (hasRole n) rows (element q s inner after))
-    ≡ unit n (getD rows q 0) + length (those (hasRole n) rows inner) + length (those (hasRole n) rows after)
-unfolding those
-length-element rows n q s inner after =
-    let l = length-append (those (hasRole n) rows inner) (those (hasRole n) rows after) in
-    ⊎-elim
-    (λ (z : eqb (roleOf (getD rows q 0)) n ≡ true). rw z (omega (arith, l)))
-    (λ (z : eqb (roleOf (getD rows q 0)) n ≡ false). rw z (omega (arith, l)))
-    (bool-cases (eqb (roleOf (getD rows q 0)) n))
 
 one-interval : (w : ℕ) (s : Said) (y : Tally) → opened w s y .intervals ≡ y .intervals + unit 4 w
 one-interval w s y =

@@ -24,9 +24,10 @@ use Rattle.contents.proofs.Lists.{last-append, lastOf}
 use Rattle.contents.proofs.Laid.{Layout}
 use Rattle.contents.proofs.Walk.{Tally, opened, walked}
 use Rattle.contents.proofs.Fill.{saidOf, saying, stateOf, entered, filled, Stands}
+use Rattle.contents.proofs.Elements.{own, mapped-parts}
 use Rattle.contents.proofs.Shapes.{later}
 use Rattle.contents.proofs.Views.{same-view, whole-view, trimmed-view}
-use Rattle.contents.proofs.Roles.{Role, is-series, is-interval, is-object, is-business, is-id, is-pos, is-qty, is-other, role-cases, own, mapped-parts, Given, Valued}
+use Rattle.contents.proofs.Roles.{Role, is-series, is-interval, is-object, is-business, is-id, is-pos, is-qty, is-other, role-cases, Given, Valued}
 
 abbrev pub valueBytes : Said → List ℕ
 valueBytes s = bytes (s .v)
@@ -225,7 +226,7 @@ module _ (kind : ℕ) (rows : List ℕ) (p : ℕ) (L : Layout rows p) (W : Value
       let z₂ = two .size in
       let three = inside after h i (walked rows (saying inner) y₁) (filled kind rows inner y₁ t₁) a l (s .2) (c .2) (d .3) (g .2) e₂ (omega (arith, z₂, z₁, m)) in
       effect-lists
-      (sym (mapped-parts valueBytes (hasRole 8) rows q (saidOf x) (saying inner) (saying after)))
-      (sym (mapped-parts valueBytes (hasRole 6) rows q (saidOf x) (saying inner) (saying after)))
-      (sym (mapped-parts trimmedBytes (hasRole 7) rows q (saidOf x) (saying inner) (saying after)))
+      (sym (mapped-parts rows valueBytes (hasRole 8) q (saidOf x) (saying inner) (saying after)))
+      (sym (mapped-parts rows valueBytes (hasRole 6) q (saidOf x) (saying inner) (saying after)))
+      (sym (mapped-parts rows trimmedBytes (hasRole 7) q (saidOf x) (saying inner) (saying after)))
       (effect-on one (effect-on two three))

@@ -2,7 +2,7 @@
 -- Assumes nothing.
 use Prim.Native.Nat.{ℕ, _+_, _*_, _≤_}
 use mathlib.Core.Path.{_≡_, refl, sym, ap, _∙_}
-use mathlib.Core.List.{List, map, append-nil}
+use mathlib.Core.List.{List, map}
 use mathlib.Core.Bool.{true, false}
 use native.Mathlib.Omega.{arith}
 use lib.Dec.{eqb}
@@ -20,6 +20,7 @@ use Rattle.contents.proofs.Lists.{sets-shown, zero-all}
 use Rattle.contents.proofs.Laid.{Layout}
 use Rattle.contents.proofs.Walk.{nothing, opened, walked}
 use Rattle.contents.proofs.Fill.{saidOf, saying, stateOf, entered, filled, Stands}
+use Rattle.contents.proofs.Elements.{last-in, last-those}
 use Rattle.contents.proofs.Shapes.{holds-root}
 use Rattle.contents.proofs.Roles.{role-cases, Given, Valued}
 use Rattle.contents.proofs.Intervals.{Puts, puts}
@@ -29,18 +30,18 @@ use Rattle.contents.proofs.Rows.{Filled, filled-as, row-moved, series-k
 module _ (kind : ℕ) (rows : List ℕ) (p : ℕ) (L : Layout rows p) (W : Valued rows) (doc : List ℕ) (ns np na : ℕ) where
   -- ---- the root
 
-  pub those-root : (role : ℕ) (x : Placed) (inner : Trees Placed) → eqb (roleOf (getD rows 1 0)) role ≡ false
-      → those (hasRole role) rows (saying inner) ≡ those (hasRole role) rows (saying (element 1 x inner none))
-  unfolding those saying
-  those-root role x inner n = rw n (sym (append-nil (those (hasRole role) rows (saying inner))))
-
-  each-root : (role : ℕ) (x : Placed) (inner : Trees Placed) → eqb (roleOf (getD rows 1 0)) role ≡ false
-      → inEach (hasRole role) rows (saying inner) ≡ inEach (hasRole role) rows (saying (element 1 x inner none))
-  unfolding inEach saying
-  each-root role x inner n = rw n (sym (append-nil (inEach (hasRole role) rows (saying inner))))
-
   pub root-role : (role : ℕ) → eqb 1 role ≡ false → eqb (roleOf (getD rows 1 0)) role ≡ false
   root-role role e = rw (L .root) e
+
+  pub root-those : (role : ℕ) (x : Placed) (inner : Trees Placed) → eqb 1 role ≡ false
+      → those (hasRole role) rows (saying inner) ≡ those (hasRole role) rows (saying (element 1 x inner none))
+  unfolding saying
+  root-those role x inner e = sym (last-those rows (hasRole role) 1 (saidOf x) (saying inner) (root-role role e))
+
+  root-in-each : (role : ℕ) (x : Placed) (inner : Trees Placed) → eqb 1 role ≡ false
+      → inEach (hasRole role) rows (saying inner) ≡ inEach (hasRole role) rows (saying (element 1 x inner none))
+  unfolding saying
+  root-in-each role x inner e = sym (last-in rows (hasRole role) 1 (saidOf x) (saying inner) (root-role role e))
 
   pub root-tally : (x : Placed) → (opened (getD rows 1 0) (saidOf x) nothing .series ≡ 0) × (opened (getD rows 1 0) (saidOf x) nothing .intervals ≡ 0)
   unfolding nothing
@@ -90,13 +91,13 @@ module _ (kind : ℕ) (rows : List ℕ) (p : ℕ) (L : Layout rows p) (W : Value
       let a = root-tally x in
       let a₀ = a .0 in
       let z = root-cells x in
-      let m = ap length (those-root 2 x inner (root-role 2 refl)) in
+      let m = ap length (root-those 2 x inner refl) in
       let len : length (t .series) ≡ ns = ap length z ∙ length-replicate ns 0 in
       filled-as (a .0) (a .1) z m
-      (ap (map valueBytes) (those-root 8 x inner (root-role 8 refl)))
-      (ap (map valueBytes) (those-root 6 x inner (root-role 6 refl)))
-      (ap (map trimmedBytes) (those-root 7 x inner (root-role 7 refl)))
-      (ap (map (λ (s : Trees Said). length (those (hasRole 4) rows s))) (each-root 2 x inner (root-role 2 refl)))
+      (ap (map valueBytes) (root-those 8 x inner refl))
+      (ap (map valueBytes) (root-those 6 x inner refl))
+      (ap (map trimmedBytes) (root-those 7 x inner refl))
+      (ap (map (λ (s : Trees Said). length (those (hasRole 4) rows s))) (root-in-each 2 x inner refl))
       (series-filled kind rows p L W doc inner y t (c .each .0 .stand) (c .each .1) (d .2) (g .1) (omega (arith, m, room, len, a₀))
       (λ j l. ap (λ (k : List ℕ). getD k j 0) z ∙ zero-all 0 ns j))
 

@@ -11,7 +11,7 @@ use Rattle.structure.specs.Rows.{parentOf, repeated}
 use Rattle.trees.specs.Trees.{Trees, none, element, rowsTaken, Stand, ComesAfter, InOrder, Among, Fits, EachConforms, Conforms}
 use Rattle.trees.proofs.Made.{Made, made, child-after}
 use Rattle.contents.proofs.Laid.{Layout, home}
-use Rattle.contents.proofs.Tallies.{Within, beside}
+use Rattle.contents.proofs.Elements.{Within, beside}
 
 -- which row h row q stands in
 data Where (p q h : ℕ) : Type 0 where

@@ -1,7 +1,7 @@
 -- What a walk over a content comes to: counts, the last Pos and the period, by what stands in the content. Assumes nothing.
 use Prim.Native.Nat.{ℕ, _+_}
 use mathlib.Core.Path.{_≡_, refl, sym, ap, _∙_}
-use mathlib.Core.List.{List, [], _∷_, _++_, map, append-assoc, map-append}
+use mathlib.Core.List.{List, [], _∷_, _++_, map, map-append}
 use mathlib.Core.Bool.{Bool, true, false, cond, _&&_, and-assoc}
 use mathlib.Core.Logic.{⊎-elim}
 use native.Mathlib.Omega.{arith}
@@ -16,10 +16,11 @@ use Rattle.times.specs.Times.{interval}
 use Rattle.guideline.specs.Columns.{formOf, roleOf}
 use Rattle.trees.specs.Trees.{Trees, none, element}
 use Rattle.contents.specs.Said.{Said, bytes}
-use Rattle.contents.specs.Legal.{hasRole, hasForm, those, Period, periodBy, periodIn, positionOf, inTurn, Each}
+use Rattle.contents.specs.Legal.{hasRole, hasForm, those, Period, periodBy, periodIn, positionOf, inTurn}
 use Rattle.contents.proofs.Tests.{other, chosen}
 use Rattle.contents.proofs.Lists.{lastOf, last-append}
 use Rattle.contents.proofs.Walk.{Tally, opened, walked}
+use Rattle.contents.proofs.Elements.{always, Within, beside}
 
 -- ---- lists
 
@@ -35,63 +36,9 @@ unfolding periodIn
 period-append p [] ys = refl
 period-append p (x ∷ xs) ys = period-append _ xs ys
 
--- ---- elements
-
--- all their rows have this, at any depth
-unfoldable pub Within : {A : Type 0} → (ℕ → Type 0) → Trees A → Type 0
-Within R none = Unit {0}
-Within R (element q s inner after) = R q × Within R inner × Within R after
-
-pub within-more : {A : Type 0} {R S : ℕ → Type 0} → ((q : ℕ) → R q → S q) → (c : Trees A) → Within R c → Within S c
-unfolding Within
-within-more f none h = tt
-within-more f (element q s inner after) h = (f q (h .0), within-more f inner (h .1), within-more f after (h .2))
-
--- elements side by side, and then others
-unfoldable pub beside : {A : Type 0} → Trees A → Trees A → Trees A
-beside none d = d
-beside (element q s inner after) d = element q s inner (beside after d)
-
-always : {A : Type 0} (c : Trees A) → Within (λ q. Unit {0}) c
-unfolding Within
-always none = tt
-always (element q s inner after) = (tt, always inner, always after)
-
 module _ (rows : List ℕ) where
   abbrev at : ℕ → ℕ
   at q = getD rows q 0
-
-  -- none of them passes the test
-  pub none-there : {A : Type 0} (test : ℕ → Bool) (c : Trees A) → Within (λ q. test (at q) ≡ false) c → those test rows c ≡ []
-  unfolding those Within
-  none-there test none h = refl
-  none-there test (element q s inner after) h = rw (h .0, none-there test inner (h .1), none-there test after (h .2)) refl
-
-  pub no-role : {A : Type 0} (n : ℕ) (c : Trees A) → Within (λ q. roleOf (at q) ≡ n → ⊥) c → those (hasRole n) rows c ≡ []
-  no-role n c h = none-there (hasRole n) c (within-more (λ q f. ne-eqb (roleOf (at q)) n f) c h)
-
-  pub those-beside : {A : Type 0} (test : ℕ → Bool) (c d : Trees A) → those test rows (beside c d) ≡ those test rows c ++ those test rows d
-  unfolding those beside
-  those-beside test none d = refl
-  those-beside test (element q s inner after) d =
-      let e = ap (λ l. those test rows inner ++ l) (those-beside test after d)
-      ∙ sym (append-assoc (those test rows inner) (those test rows after) (those test rows d)) in
-      ⊎-elim
-      (λ (y : test (at q) ≡ true). rw y (ap (λ l. s ∷ l) e))
-      (λ (y : test (at q) ≡ false). rw y e)
-      (bool-cases (test (at q)))
-
-  pub each-beside : {A : Type 0} (test : ℕ → A → Bool) (c d : Trees A) → Each test rows c → Each test rows d → Each test rows (beside c d)
-  unfolding Each beside
-  each-beside test none d a b = b
-  each-beside test (element q s inner after) d a b = (a .0, a .1, each-beside test after d (a .2) b)
-
-  pub each-parts : {A : Type 0} (test : ℕ → A → Bool) (c d : Trees A) → Each test rows (beside c d) → Each test rows c × Each test rows d
-  unfolding Each beside
-  each-parts test none d a = (tt, a)
-  each-parts test (element q s inner after) d a =
-      let h = each-parts test after d (a .2) in
-      ((a .0, a .1, h .0), h .1)
 
   -- ---- the walk
 

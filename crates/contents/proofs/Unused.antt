@@ -26,12 +26,13 @@ use Rattle.contents.proofs.Lists.{zero-all, all-both, joined, all-chang
 use Rattle.contents.proofs.Laid.{Layout}
 use Rattle.contents.proofs.Walk.{Tally, nothing, opened, walked}
 use Rattle.contents.proofs.Fill.{saidOf, saying, entered, filled, Unused, Stands}
+use Rattle.contents.proofs.Elements.{own, mapped-parts}
 use Rattle.contents.proofs.Shapes.{later, holds-root}
 use Rattle.contents.proofs.Views.{said-bytes}
-use Rattle.contents.proofs.Roles.{Role, is-series, is-interval, is-object, is-business, is-id, is-pos, is-qty, is-other, role-cases, own, mapped-parts, Given, Valued}
+use Rattle.contents.proofs.Roles.{Role, is-series, is-interval, is-object, is-business, is-id, is-pos, is-qty, is-other, role-cases, Given, Valued}
 use Rattle.contents.proofs.Series.{valueBytes, step-effect, no-series, inside}
-use Rattle.contents.proofs.Rows.{tallyIn, tablesIn, tallyOut, tablesOut, opened-series, opened-before, opened-size, rowed, plain, once-in, more-series, those-plain, those-series}
-use Rattle.contents.proofs.Shown.{those-root, root-role, root-tally, root-cells}
+use Rattle.contents.proofs.Rows.{tallyIn, tablesIn, tallyOut, tablesOut, opened-series, opened-before, opened-size, rowed, plain, once-in, more-series, those-plain, those-after}
+use Rattle.contents.proofs.Shown.{root-those, root-role, root-tally, root-cells}
 
 -- ---- no two are the same
 
@@ -145,7 +146,7 @@ ids-parts : (rows : List ℕ) (q : ℕ) (x : Placed) (inner after : Trees Placed
     → identifications rows (saying (element q x inner after))
     ≡ map valueBytes (own (hasRole 8 (getD rows q 0)) (saidOf x)) ++ (identifications rows (saying inner) ++ identifications rows (saying after))
 unfolding identifications saying
-ids-parts rows q x inner after = mapped-parts valueBytes (hasRole 8) rows q (saidOf x) (saying inner) (saying after)
+ids-parts rows q x inner after = mapped-parts rows valueBytes (hasRole 8) q (saidOf x) (saying inner) (saying after)
 
 module _ (kind : ℕ) (rows : List ℕ) (p : ℕ) (L : Layout rows p) (W : Valued rows) (doc : List ℕ) where
   -- ---- in a series
@@ -215,7 +216,7 @@ module _ (kind : ℕ) (rows : List ℕ) (p : ℕ) (L : Layout rows p) (W : Value
       → Unused doc kind rows (element q x inner after) y t ↔ Fresh past (identifications rows (saying (element q x inner after)))
   unfolding Unused walked filled saying identifications
   plain-unused q x inner after y t past e n h =
-      let l = ap (map valueBytes) (those-plain kind rows p L W doc 8 q x inner after e n) in
+      let l = ap (map valueBytes) (those-plain rows 8 q x inner after e n) in
       let none-used = step-none q x y (t .series) n in (
         (λ u. subst (Fresh past) l (h .0 (rw e at (u .2)))),
         (λ u. (none-used, rw e tt, rw e (h .1 (subst (Fresh past) (sym l) u)))),
@@ -230,7 +231,7 @@ module _ (kind : ℕ) (rows : List ℕ) (p : ℕ) (L : Layout rows p) (W : Value
       → Unused doc kind rows (element q x inner after) y t ↔ Fresh past (identifications rows (saying (element q x inner after)))
   unfolding Unused saying identifications
   series-unused q x inner after y t past id n e h k =
-      let l = ap (map valueBytes) (those-series kind rows p L W doc 8 q x inner after id n e) in
+      let l = ap (map valueBytes) (those-after rows 8 q x inner after n e) in
       let none-used = step-none q x y (t .series) n in (
         (λ u. subst (Fresh past) l (h .0 (u .1), k .0 (u .2))),
         (λ u. let v : Fresh past (valueBytes id ∷ identifications rows (saying after)) = subst (Fresh past) (sym l) u in (none-used, h .1 (v .0), k .1 (v .1))),
@@ -269,7 +270,7 @@ module _ (kind : ℕ) (rows : List ℕ) (p : ℕ) (L : Layout rows p) (W : Value
       let y₁ = tallyIn kind rows p L W doc q x y in
       let t₁ = tablesIn kind rows p L W doc q x y t in
       let b = plain kind rows p L W doc q x inner y t (e .0) (s .0) (s .1) (c .0 .stand) in
-      let more = ap length (those-plain kind rows p L W doc 2 q x inner after (b .bare) (b .not-two)) in
+      let more = ap length (those-plain rows 2 q x inner after (b .bare) (b .not-two)) in
       let u = b .series in
       let v = ap length (b .cells) in
       plain-unused q x inner after y t past (b .bare) (b .not-eight)
@@ -288,9 +289,9 @@ module _ (kind : ℕ) (rows : List ℕ) (p : ℕ) (L : Layout rows p) (W : Value
       let t = entered kind rows 1 x y (blank ns np na) in
       let a₀ = root-tally kind rows p L W doc ns np na x .0 in
       let z = root-cells kind rows p L W doc ns np na x in
-      let m = ap length (those-root kind rows p L W doc ns np na 2 x inner (root-role kind rows p L W doc ns np na 2 refl)) in
+      let m = ap length (root-those kind rows p L W doc ns np na 2 x inner refl) in
       let len : length (t .series) ≡ ns = ap length z ∙ length-replicate ns 0 in
-      let l = ap (map valueBytes) (those-root kind rows p L W doc ns np na 8 x inner (root-role kind rows p L W doc ns np na 8 refl)) in
+      let l = ap (map valueBytes) (root-those kind rows p L W doc ns np na 8 x inner refl) in
       let none-used = step-none kind rows p L W doc 1 x nothing (blank ns np na .series) (root-role kind rows p L W doc ns np na 8 refl) in
       let h = beside-unused kind rows p L W doc inner y t [] (c .each .0 .stand) (c .each .1) (d .2) (g .1) (omega (arith, m, room, len, a₀))
       (λ j b. ap (λ (k : List ℕ). getD k j 0) z ∙ zero-all 0 ns j)
