@@ -30,10 +30,10 @@ use Rattle.contents.specs.Said.{Said}
 use Rattle.contents.specs.Legal.{hasRole, those, positionOf}
 use Rattle.contents.specs.Shown.{amountIn}
 use Rattle.contents.proofs.Laid.{Layout}
+use Rattle.contents.proofs.Elements.{own, those-parts, mapped-parts}
+use Rattle.contents.proofs.Shape.{in-interval-row, holds-two}
 use Rattle.contents.proofs.Walk.{Tally, opened, walked}
 use Rattle.contents.proofs.Fill.{saidOf, saying, stateOf, entered, filled}
-use Rattle.contents.proofs.Elements.{own, those-parts, mapped-parts}
-use Rattle.contents.proofs.Shapes.{Place, in-document, in-root, in-series, in-period, in-interval, place, holds-two}
 use Rattle.contents.proofs.Views.{said-bytes}
 use Rattle.contents.proofs.Roles.{Role, is-series, is-interval, is-object, is-business, is-id, is-pos, is-qty, is-other, role-cases, Given, Valued}
 
@@ -158,13 +158,6 @@ module _ (kind : ℕ) (rows : List ℕ) (p : ℕ) (L : Layout rows p) (W : Value
 
   -- ---- any other element
 
-  not-inside : (h q : ℕ) → (h ≡ p + 3 → ⊥) → p + 3 < q → Place p h q → ⊥
-  not-inside h q n g (in-document e f) = omega (arith, f, g)
-  not-inside h q n g (in-root e f k) = let w = L .wide in omega (arith, k, g, w)
-  not-inside h q n g (in-series e f k) = omega (arith, k, g)
-  not-inside h q n g (in-period e f k) = omega (arith, k, g)
-  not-inside h q n g (in-interval e f) = n e
-
   other-puts : (h q : ℕ) (x : Placed) (inner : Trees Placed) (y : Tally) (t : Tables) → h < length rows → (h ≡ p + 3 → ⊥) → q < length rows
       → parentOf (getD rows q 0) ≡ h → (q ≡ p + 3 → ⊥)
       → Puts (opened (getD rows q 0) (saidOf x) y) (entered kind rows q x (opened (getD rows q 0) (saidOf x) y) t)
@@ -178,10 +171,10 @@ module _ (kind : ℕ) (rows : List ℕ) (p : ℕ) (L : Layout rows p) (W : Value
       (map amountIn (own (hasRole 10 (getD rows q 0)) (saidOf x)) ++ map amountIn (those (hasRole 10) rows (saying inner)))
   other-puts h q x inner y t l n m e d k =
       let w = getD rows q 0 in
-      let out = place rows p L h q l m e in
+      let within : p + 3 < q → ⊥ = λ g. n (sym e ∙ in-interval-row rows p L q g m) in
       let a : eqb (roleOf w) 4 ≡ false = ne-eqb (roleOf w) 4 (λ r. d (L .only-interval q m r)) in
-      let b : eqb (roleOf w) 9 ≡ false = ne-eqb (roleOf w) 9 (λ r. let f = L .only-pos q m r in not-inside h q n (omega (arith, f)) out) in
-      let c : eqb (roleOf w) 10 ≡ false = ne-eqb (roleOf w) 10 (λ r. let f = L .only-qty q m r in not-inside h q n (omega (arith, f)) out) in
+      let b : eqb (roleOf w) 9 ≡ false = ne-eqb (roleOf w) 9 (λ r. let f = L .only-pos q m r in within (omega (arith, f))) in
+      let c : eqb (roleOf w) 10 ≡ false = ne-eqb (roleOf w) 10 (λ r. let f = L .only-qty q m r in within (omega (arith, f))) in
       puts-lists
       (ap (λ (u : Bool). own u (saidOf x) ++ those (hasRole 4) rows (saying inner)) (sym a))
       (ap (λ (u : Bool). map positionOf (own u (saidOf x)) ++ map positionOf (those (hasRole 9) rows (saying inner))) (sym b))

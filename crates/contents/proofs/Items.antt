@@ -71,7 +71,8 @@ unfolding passed placedBy allowed
 passed-signs x (Start t) e = absurd (zero-not-one (cc))
 passed-signs x (Empty t) e = absurd (zero-not-one (cc))
 passed-signs x (End n m) e = absurd (zero-not-one (cc))
-passed-signs x (Text w m) e = (refl, e)
+passed-signs x (Text true m) e = (refl, refl)
+passed-signs x (Text false m) e = absurd (zero-not-one (cc))
 passed-signs x (Comment m) e = (refl, refl)
 passed-signs x (Unreadable p) e = absurd (zero-not-one (cc))
 

@@ -21,11 +21,11 @@ use Rattle.contents.specs.Said.{Said}
 use Rattle.contents.specs.Legal.{hasRole, those, Period, quartersOf, positionOf, valueFits, elementFits, Each, inTurn, countFits, SeriesFits}
 use Rattle.contents.proofs.Tests.{chosen, other, and-parts}
 use Rattle.contents.proofs.Laid.{Layout}
-use Rattle.contents.proofs.Walk.{Tally, opened, walked, quartersIn, Passes}
 use Rattle.contents.proofs.Elements.{Within, within-more, beside, no-role, those-beside, each-beside, each-parts, last-those}
+use Rattle.contents.proofs.Shape.{SeriesShape}
+use Rattle.contents.proofs.Walk.{Tally, opened, walked, quartersIn, Passes}
 use Rattle.contents.proofs.Tallies.{unchanged, intervals-walked, originals-walked, first-walked}
 use Rattle.contents.proofs.Segments.{Holds, Plain, Segment, passes-fit, fit-passes}
-use Rattle.contents.proofs.Splits.{SeriesShape}
 
 -- ---- the rule of one element, and the period
 

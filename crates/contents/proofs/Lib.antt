@@ -1,6 +1,8 @@
 pub mod Tests
 pub mod Lists
 pub mod Laid
+pub mod Elements
+pub mod Shape
 pub mod Walk
 pub mod Fill
 pub mod Lifted
@@ -10,13 +12,10 @@ pub mod Rooted
 pub mod Moved
 pub mod Items
 pub mod Bridge
-pub mod Elements
 pub mod Tallies
 pub mod Segments
-pub mod Splits
 pub mod Levels
 pub mod Rules
-pub mod Shapes
 pub mod Views
 pub mod Roles
 pub mod Intervals

@@ -83,7 +83,7 @@ unfolding rowsTaken saying
 taken-said none = refl
 taken-said (element q x inner after) = ap (λ (l : List ℕ). q ∷ l) (taken-said after)
 
-each-said : (rows : List ℕ) (kids : Trees Placed) → EachConforms rows kids → EachConforms rows (saying kids)
+pub each-said : (rows : List ℕ) (kids : Trees Placed) → EachConforms rows kids → EachConforms rows (saying kids)
 unfolding EachConforms saying
 each-said rows none c = tt
 each-said rows (element q x inner after) c = (rw (taken-said inner) (c .0), each-said rows inner (c .1), each-said rows after (c .2))

@@ -1,5 +1,5 @@
 -- Where a document begins: its first tag starts the root, which tells the kind, and nothing may end before it. Assumes nothing.
-use Prim.Native.Nat.{ℕ, _+_, _<_, _≤_}
+use Prim.Native.Nat.{ℕ, _<_}
 use mathlib.Core.Path.{_≡_, refl, sym, ap, _∙_}
 use mathlib.Core.List.{List}
 use mathlib.Core.Bool.{Bool, true, false}
@@ -7,7 +7,7 @@ use mathlib.Core.Logic.{_⊎_, inl, inr, ⊎-elim}
 use native.Mathlib.Omega.{arith}
 use lib.Dec.{eqb}
 use lib.ListN.{length, getD}
-use Rattle.lists.proofs.Cases.{bool-cases, leb-cases, zero-not-one}
+use Rattle.lists.proofs.Cases.{bool-cases, zero-not-one}
 use Rattle.slices.specs.Same.{same}
 use Rattle.slices.specs.Text.{text}
 use Rattle.elements.specs.Names.{names, numberIn, elementNo}
@@ -23,7 +23,8 @@ use Rattle.trees.specs.Cursor.{follows, rowAfter, openAfter}
 use Rattle.trees.proofs.Made.{made}
 use Rattle.trees.proofs.Along.{over-means, along-conforms, due-within, due-named}
 use Rattle.trees.proofs.Theorems.{may-close, empty-ends, empty-conforms}
-use Rattle.contents.proofs.Laid.{home, Layout, layout-one, layout-two}
+use Rattle.contents.proofs.Laid.{Layout, layout-one, layout-two}
+use Rattle.contents.proofs.Shape.{under-document}
 use Rattle.contents.proofs.Lifted.{Known}
 
 -- what is known of the rows of a kind; a Period has to have something in it
@@ -56,25 +57,6 @@ kind-cases name =
     (bool-cases (eqb name (elementNo (text "Kostenblatt")))))
     (bool-cases (eqb name (elementNo (text "Beschaffungsanforderung"))))
 
-home-zero : (p q : ℕ) → 20 < p → home p q ≡ 0 → q ≤ 1
-home-zero p q w e =
-    ⊎-elim
-    (λ a. a .0)
-    (λ a.
-    ⊎-elim
-    (λ b. let z : 1 ≡ 0 = rw (a .1, b .1) at e in absurd (omega (arith, z)))
-    (λ b.
-    ⊎-elim
-    (λ c. let z : 12 ≡ 0 = rw (a .1, b .1, c .1) at e in absurd (omega (arith, z)))
-    (λ c.
-    ⊎-elim
-    (λ d. let z : p ≡ 0 = rw (a .1, b .1, c .1, d .1) at e in absurd (omega (arith, z, w)))
-    (λ d. let z : p + 3 ≡ 0 = rw (a .1, b .1, c .1, d .1) at e in absurd (omega (arith, z)))
-    (leb-cases q (p + 3)))
-    (leb-cases q p))
-    (leb-cases q 12))
-    (leb-cases q 1)
-
 module _ (rows : List ℕ) (p : ℕ) (L : Layout rows p) where
   long : 1 < length rows
   long = let s = L .size in let w = L .wide in omega (arith, s, w)
@@ -86,10 +68,7 @@ module _ (rows : List ℕ) (p : ℕ) (L : Layout rows p) where
   pub first-row : (name q : ℕ) → startOf rows 0 true name ≡ Row q → nameOf (getD rows 1 0) ≡ name
   first-row name q e =
       let d = start-means rows 0 name q true e .1 in
-      let a = d .after in
-      let h = home-zero p q (L .wide) (sym (L .stands q a (d .within)) ∙ d .stands) in
-      let z : 1 ≡ q = omega (arith, a, h) in
-      ap (λ (i : ℕ). nameOf (getD rows i 0)) z ∙ d .named
+      ap (λ (i : ℕ). nameOf (getD rows i 0)) (sym (under-document rows p L q (d .within) (d .stands))) ∙ d .named
 
   none-due : (name q : ℕ) → EndDue rows 0 true name q → ⊥
   none-due name q d =

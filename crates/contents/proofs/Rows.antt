@@ -25,10 +25,11 @@ use Rattle.contents.specs.Legal.{hasRole, those, inEach, positionOf, ide
 use Rattle.contents.specs.Shown.{sum, view, objects, businessTypes, intervalCounts}
 use Rattle.contents.proofs.Lists.{lastOf}
 use Rattle.contents.proofs.Laid.{Layout}
+use Rattle.contents.proofs.Elements.{in-of, own, those-of, Within, none-in, none-there, within-more}
+use Rattle.contents.proofs.Shape.{in-series-row, series-in, under-root, leaf, elsewhere, comes-once}
 use Rattle.contents.proofs.Walk.{Tally, opened, walked}
 use Rattle.contents.proofs.Fill.{saidOf, saying, stateOf, entered, filled, Stands}
-use Rattle.contents.proofs.Elements.{in-of, own, those-of}
-use Rattle.contents.proofs.Shapes.{in-series-row, series-in, in-root-row, leaf, absent, absent-each, comes-once}
+use Rattle.contents.proofs.Lifted.{each-said, taken-said}
 use Rattle.contents.proofs.Views.{same-view}
 use Rattle.contents.proofs.Roles.{Role, is-series, is-interval, is-object, is-business, is-id, is-pos, is-qty, is-other, role-cases, Given, Valued}
 use Rattle.contents.proofs.Intervals.{puts}
@@ -141,8 +142,10 @@ module _ (kind : ℕ) (rows : List ℕ) (p : ℕ) (L : Layout rows p) (W : Value
   one-said role k only a b r m inner f c =
       let s = L .size in
       let e = in-series-row rows p L k a (omega (arith, b)) in
-      comes-once rows p L role k only inner (omega (arith, s, b)) (λ d. omega (arith, d, a)) (λ d. omega (arith, d, b)) r (rw e (omega (arith, s, a)))
-      (rw e (f .stand)) (f .ordered) c (f .complete k (omega (arith, s, b)) e m)
+      let once = L .once k (omega (arith, s, b)) (λ d. omega (arith, d, a)) (λ d. omega (arith, d, b)) in
+      let g = rw (← taken-said inner) at f in
+      comes-once rows p L k once (rw e (omega (arith, s, a))) role only r (saying inner) (rw e (g .stand)) (g .ordered) (each-said rows inner c)
+      (g .complete k (omega (arith, s, b)) e m)
 
   -- a series' element brings its row
   pub record Rowed (y y′ : Tally) (t t′ : List ℕ) (id object business : List ℕ) (count : ℕ) : Type 0 where
@@ -248,7 +251,7 @@ module _ (kind : ℕ) (rows : List ℕ) (p : ℕ) (L : Layout rows p) (W : Value
       → Stand rows q (rowsTaken inner) → Plain q x inner y t
   unfolding tablesAfter
   plain q x inner y t n l e s =
-      let b = in-root-row rows p L q l e in
+      let b = under-root rows p L q l e in
       let b₀ = b .0 in
       let b₁ = b .1 in
       let w = L .wide in
@@ -290,6 +293,10 @@ module _ (kind : ℕ) (rows : List ℕ) (p : ℕ) (L : Layout rows p) (W : Value
       let o = one-said 6 18 (L .only-object) (omega arith) (omega (arith, w)) (L .object) (L .must-object) inner f c in
       let b = one-said 7 14 (L .only-business) (omega arith) (omega (arith, w)) (L .business) (L .must-business) inner f c in
       let before : parentOf (getD rows 12 0) < 12 = rw (series-in rows p L) (omega arith) in
+      let g = rw (← taken-said inner) at f in
+      let others : Within (λ q. hasRole 2 (getD rows q 0) ≡ false) (saying inner) =
+      within-more (λ q d. ne-eqb (roleOf (getD rows q 0)) 2 (λ e. d .1 (L .only-series q (d .0) e))) (saying inner)
+      (elsewhere rows p L 12 (saying inner) 12 (omega (arith, s)) before (g .stand) (each-said rows inner c)) in
       record {
         id = i .0;
         object = o .0;
@@ -297,8 +304,8 @@ module _ (kind : ℕ) (rows : List ℕ) (p : ℕ) (L : Layout rows p) (W : Value
         id-once = i .1;
         object-once = o .1;
         business-once = b .1;
-        no-series = absent rows p L 2 12 (L .only-series) inner 12 (omega (arith, s)) before (f .stand) c;
-        no-series-each = absent-each rows p L 2 12 (L .only-series) inner 12 (omega (arith, s)) before (f .stand) c;
+        no-series = none-there rows (hasRole 2) (saying inner) others;
+        no-series-each = none-in rows (hasRole 2) (saying inner) others;
       }
 
   abbrev pub seriesIn : Trees Placed → ℕ

@@ -14,11 +14,11 @@ use Rattle.contents.specs.Said.{Said}
 use Rattle.contents.specs.Legal.{hasRole, hasForm, those, inEach, Period, periodIn, periodOf, quartersOf, positionOf, elementFits, Each, inTurn, SeriesFits, All}
 use Rattle.contents.proofs.Tests.{chosen, other}
 use Rattle.contents.proofs.Laid.{Layout}
-use Rattle.contents.proofs.Walk.{Tally, nothing, opened, walked, Passes}
 use Rattle.contents.proofs.Elements.{Within, within-more, beside, none-there, no-role, those-beside, each-beside, each-parts, length-element, within-beside, in-beside, last-those, in-of, last-in, none-in}
+use Rattle.contents.proofs.Shape.{SeriesShape, AllSeries, RootShape, DocumentShape, document-shape}
+use Rattle.contents.proofs.Walk.{Tally, nothing, opened, walked, Passes}
 use Rattle.contents.proofs.Tallies.{unchanged, intervals-walked, series-walked, period-walked}
 use Rattle.contents.proofs.Segments.{Holds, Segment}
-use Rattle.contents.proofs.Splits.{SeriesShape, AllSeries, RootShape, DocumentShape, document-shape}
 use Rattle.contents.proofs.Levels.{fits-any, passes-parts, passes-beside, short, Now, now-kept, now-fits, root-fit, root-passes, SeriesRules, Fresh}
 use Rattle.contents.proofs.Levels.{passes-rules as series-rules}
 use Rattle.contents.proofs.Levels.{rules-passes as series-passes}

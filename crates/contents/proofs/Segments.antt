@@ -18,8 +18,8 @@ use Rattle.trees.specs.Trees.{Trees, none, element}
 use Rattle.contents.specs.Said.{Said}
 use Rattle.contents.specs.Legal.{hasRole, those, Period, quartersOf, positionOf, elementFits, inTurn, Each}
 use Rattle.contents.proofs.Tests.{chosen, other, parts-and, and-parts}
-use Rattle.contents.proofs.Walk.{Tally, opened, walked, Taken, Passes}
 use Rattle.contents.proofs.Elements.{Within, within-more, length-element, unit}
+use Rattle.contents.proofs.Walk.{Tally, opened, walked, Taken, Passes}
 use Rattle.contents.proofs.Tallies.{turn-append, invariant, intervals-walked, first-walked, last-walked}
 
 pub takes-few : (kind n : ℕ) → takesAnother kind n ≡ true → kind ≡ 1 → n < 100

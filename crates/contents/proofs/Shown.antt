@@ -18,10 +18,10 @@ use Rattle.contents.specs.Legal.{hasRole, those, inEach, positionOf, ide
 use Rattle.contents.specs.Shown.{amountIn, sum, objects, businessTypes, intervalCounts, Shows}
 use Rattle.contents.proofs.Lists.{sets-shown, zero-all}
 use Rattle.contents.proofs.Laid.{Layout}
+use Rattle.contents.proofs.Elements.{last-in, last-those}
+use Rattle.contents.proofs.Shape.{document-shape}
 use Rattle.contents.proofs.Walk.{nothing, opened, walked}
 use Rattle.contents.proofs.Fill.{saidOf, saying, stateOf, entered, filled, Stands}
-use Rattle.contents.proofs.Elements.{last-in, last-those}
-use Rattle.contents.proofs.Shapes.{holds-root}
 use Rattle.contents.proofs.Roles.{role-cases, Given, Valued}
 use Rattle.contents.proofs.Intervals.{Puts, puts}
 use Rattle.contents.proofs.Series.{valueBytes, trimmedBytes}
@@ -105,8 +105,8 @@ module _ (kind : ℕ) (rows : List ℕ) (p : ℕ) (L : Layout rows p) (W : Value
       → Filled doc 0 0 (zeros ns) (filled kind rows kids nothing (blank ns np na) .series) (length (those (hasRole 2) rows (saying kids)))
       (identifications rows (saying kids)) (objects rows (saying kids)) (businessTypes rows (saying kids)) (intervalCounts rows (saying kids))
   shown-series kids c d g room =
-      let h = holds-root rows p L kids c in
-      rw (h .2) (root-filled (h .0) (h .1) (rw (h .2) at c) (rw (h .2) at d) (rw (h .2) at g) (rw (h .2) at room))
+      let h = document-shape rows p L kids c in
+      rw (h .is) (root-filled (h .tag) (h .inner) (rw (h .is) at c) (rw (h .is) at d) (rw (h .is) at g) (rw (h .is) at room))
 
   pub shows : (kids : Trees Placed) → Conforms rows 0 kids → Stands doc kids → Given rows kids → 8 * length (those (hasRole 2) rows (saying kids)) ≤ ns
       → length (those (hasRole 4) rows (saying kids)) ≤ np → length (those (hasRole 4) rows (saying kids)) ≤ na

@@ -19,8 +19,8 @@ use Rattle.contents.specs.Said.{Said, bytes}
 use Rattle.contents.specs.Legal.{hasRole, hasForm, those, Period, periodBy, periodIn, positionOf, inTurn}
 use Rattle.contents.proofs.Tests.{other, chosen}
 use Rattle.contents.proofs.Lists.{lastOf, last-append}
-use Rattle.contents.proofs.Walk.{Tally, opened, walked}
 use Rattle.contents.proofs.Elements.{always, Within, beside}
+use Rattle.contents.proofs.Walk.{Tally, opened, walked}
 
 -- ---- lists
 

@@ -39,12 +39,12 @@ use Rattle.contents.specs.Legal.{hasRole, Period, periodOf, quartersOf, 
 use Rattle.contents.specs.Shown.{Shows, RowShows, Tells, SameButPlaces, view}
 use Rattle.contents.proofs.Tests.{and-parts}
 use Rattle.contents.proofs.Laid.{Layout, layout-one, layout-two}
+use Rattle.contents.proofs.Shape.{document-shape}
 use Rattle.contents.proofs.Walk.{nothing, walked}
 use Rattle.contents.proofs.Fill.{saidByItem, saidOf, saying, stateOf, filled}
 use Rattle.contents.proofs.Lifted.{Known, known-made, relabelled, signs-said, spell-said, conforms-said, lift}
 use Rattle.contents.proofs.Bridge.{Read, forth, back}
 use Rattle.contents.proofs.Tallies.{series-walked, intervals-walked, period-walked}
-use Rattle.contents.proofs.Splits.{document-shape}
 use Rattle.contents.proofs.Rules.{Rules, passes-rules, rules-passes}
 use Rattle.contents.proofs.Roles.{Given, Valued, valued-one, valued-two}
 use Rattle.contents.proofs.Shown.{shows}

@@ -24,10 +24,10 @@ use Rattle.contents.specs.Legal.{hasRole, those, positionOf, All, isAmon
 use Rattle.contents.specs.Shown.{view}
 use Rattle.contents.proofs.Lists.{zero-all, all-both, joined, all-change}
 use Rattle.contents.proofs.Laid.{Layout}
+use Rattle.contents.proofs.Elements.{own, mapped-parts}
+use Rattle.contents.proofs.Shape.{later, document-shape}
 use Rattle.contents.proofs.Walk.{Tally, nothing, opened, walked}
 use Rattle.contents.proofs.Fill.{saidOf, saying, entered, filled, Unused, Stands}
-use Rattle.contents.proofs.Elements.{own, mapped-parts}
-use Rattle.contents.proofs.Shapes.{later, holds-root}
 use Rattle.contents.proofs.Views.{said-bytes}
 use Rattle.contents.proofs.Roles.{Role, is-series, is-interval, is-object, is-business, is-id, is-pos, is-qty, is-other, role-cases, Given, Valued}
 use Rattle.contents.proofs.Series.{valueBytes, step-effect, no-series, inside}
@@ -303,8 +303,8 @@ module _ (kind : ℕ) (rows : List ℕ) (p : ℕ) (L : Layout rows p) (W : Value
   all-unused : (kids : Trees Placed) → Conforms rows 0 kids → Stands doc kids → Given rows kids → 8 * length (those (hasRole 2) rows (saying kids)) ≤ ns
       → Unused doc kind rows kids nothing (blank ns np na) ↔ Fresh [] (identifications rows (saying kids))
   all-unused kids c d g room =
-      let h = holds-root rows p L kids c in
-      rw (h .2) (root-unused (h .0) (h .1) (rw (h .2) at c) (rw (h .2) at d) (rw (h .2) at g) (rw (h .2) at room))
+      let h = document-shape rows p L kids c in
+      rw (h .is) (root-unused (h .tag) (h .inner) (rw (h .is) at c) (rw (h .is) at d) (rw (h .is) at g) (rw (h .is) at room))
 
   pub unused-apart : (kids : Trees Placed) → Conforms rows 0 kids → Stands doc kids → Given rows kids → 8 * length (those (hasRole 2) rows (saying kids)) ≤ ns
       → Unused doc kind rows kids nothing (blank ns np na) → Apart (identifications rows (saying kids))
