@@ -29,13 +29,13 @@ use Rattle.lists.proofs.Stores.{sets-more}
 use Rattle.contents.specs.Said.{Said}
 use Rattle.contents.specs.Legal.{hasRole, those, positionOf}
 use Rattle.contents.specs.Shown.{amountIn}
-use Rattle.contents.proofs.Laid.{Layout}
+use Rattle.contents.proofs.Laid.{Layout, Valued}
 use Rattle.contents.proofs.Elements.{own, those-parts, mapped-parts}
 use Rattle.contents.proofs.Shape.{in-interval-row, holds-two}
 use Rattle.contents.proofs.Walk.{Tally, opened, walked}
 use Rattle.contents.proofs.Fill.{saidOf, saying, stateOf, entered, filled}
 use Rattle.contents.proofs.Views.{said-bytes}
-use Rattle.contents.proofs.Roles.{Role, is-series, is-interval, is-object, is-business, is-id, is-pos, is-qty, is-other, role-cases, Given, Valued}
+use Rattle.contents.proofs.Roles.{Role, is-series, is-interval, is-object, is-business, is-id, is-pos, is-qty, is-other, role-cases, Given}
 
 -- between two places of the walk these intervals start, and these positions and amounts are put, from the next interval's row on
 pub record Puts (y : Tally) (t : Tables) (y′ : Tally) (t′ : Tables) (starts : List Said) (ps : List ℕ) (ams : List ℤ) : Type 0 where

@@ -31,13 +31,12 @@ use Rattle.reader.specs.Reading.{endedAt as overAt}
 use Rattle.reader.proofs.Ran.{read-next, read-stop}
 use Rattle.trees.specs.Trees.{Sign, Opens, Closes}
 use Rattle.contents.specs.Spelled.{saidBy, nameIn, allowed, AllAllowed}
-use Rattle.contents.proofs.Laid.{Layout}
+use Rattle.contents.proofs.Laid.{Layout, Known, laid}
 use Rattle.contents.proofs.Walk.{Tally, nothing, Ended}
 use Rattle.contents.proofs.Fill.{saidByItem, saidOf, placedBy, placedSigns, stateOf}
 use Rattle.contents.proofs.Fill.{entered as tablesWith}
-use Rattle.contents.proofs.Lifted.{Known}
 use Rattle.contents.proofs.Signs.{on-row, row-on, Goal, after, bringing, Runs, Opening, Closing, respelled}
-use Rattle.contents.proofs.Rooted.{laid, kind-cases, first-row, no-end, not-over, row-within, row-named, short-ends, ends-row, row-ends}
+use Rattle.contents.proofs.Rooted.{kind-cases, first-row, no-end, not-over, row-within, row-named, short-ends, ends-row, row-ends}
 use Rattle.contents.proofs.Moved.{Low, low-opened, low-less, tables-inside, tables-still, still, dark-text, unread, step-told, step-in, over-known, Went, Goes, Closed, started-goes, went-starts, ended-goes, went-ends}
 
 -- ---- the kinds of items

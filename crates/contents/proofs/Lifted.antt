@@ -3,7 +3,6 @@ use Prim.Native.Nat.{ℕ, zero, suc, pred}
 use mathlib.Core.Path.{_≡_, refl, sym, ap, _∙_}
 use mathlib.Core.List.{List, [], _∷_, _++_, map, map-append}
 use mathlib.Core.Bool.{Bool, true, false}
-use mathlib.Core.Logic.{_⊎_, ⊎-elim}
 use lib.ListN.{getD, drop}
 use Rattle.structure.specs.Rows.{nameOf, startOf, endOf}
 use Rattle.structure.specs.declared.Due.{Due}
@@ -13,22 +12,14 @@ use Rattle.items.specs.Item.{item, itemEnd}
 use Rattle.items.specs.declared.Item.{Item}
 use Rattle.items.specs.declared.Item.the-variants.{Start, Empty, End, Text, Comment, Refused}
 use Rattle.reader.specs.Items.{Placed, itemsAfter, itemsFrom}
-use Rattle.trees.specs.Trees.{Sign, Opens, Closes, Trees, none, element, rowsTaken, spell, EachConforms, Conforms, wellMade}
+use Rattle.trees.specs.Trees.{Sign, Opens, Closes, Trees, none, element, rowsTaken, spell, EachConforms, Conforms}
 use Rattle.trees.specs.Cursor.{onRow, follows}
-use Rattle.trees.proofs.Made.{one-well-made, two-well-made}
 use Rattle.trees.proofs.Theorems.{complete, sound, one-tree}
 use Rattle.contents.specs.Said.{Said}
 use Rattle.contents.specs.Spelled.{signsBy, signsOf}
 use Rattle.contents.proofs.Lists.{drop-next}
+use Rattle.contents.proofs.Laid.{laid, Known}
 use Rattle.contents.proofs.Fill.{saidByItem, saidOf, placedBy, placedSigns, saying, isTag, Stands}
-
--- ---- what the rows are
-
-abbrev pub Known : ℕ → Type 0
-Known kind = (kind ≡ 1) ⊎ (kind ≡ 2)
-
-pub known-made : (kind : ℕ) → Known kind → wellMade (rowsOf kind) ≡ true
-known-made kind k = ⊎-elim (λ e. rw e one-well-made) (λ e. rw e two-well-made) k
 
 -- ---- signs with other labels
 
@@ -160,7 +151,7 @@ pub lift : (doc : List ℕ) (n kind : ℕ) (c : Trees Said) → Known kind → s
 lift doc n kind c known e conforms =
     let rows = rowsOf kind in
     let xs = itemsFrom doc n in
-    let w = known-made kind known in
+    let w = laid kind known .layout .well in
     let f : follows rows 0 true (placedSigns xs) ≡ true =
     sym (follows-said rows (placedSigns xs) 0 true)
     ∙ ap (λ (s : List (Sign Said)). follows rows 0 true s) (sym (signs-said xs) ∙ e)

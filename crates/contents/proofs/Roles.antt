@@ -1,19 +1,13 @@
 -- What a row is to the reader, case by case; and that an element that has to bring a value brings it.
 -- Assumes nothing.
-use Prim.Native.Nat.{ℕ, _≤_, _<_}
-use mathlib.Core.Path.{_≡_, refl}
+use Prim.Native.Nat.{ℕ}
+use mathlib.Core.Path.{_≡_}
 use mathlib.Core.List.{List}
-use mathlib.Core.Bool.{true, false, cond}
+use mathlib.Core.Bool.{true, false}
 use mathlib.Core.Logic.{⊎-elim}
-use lib.Dec.{eqb, leb}
-use lib.ListN.{length, getD}
-use borrow.Author.Tests.{le-leb}
+use lib.Dec.{eqb}
+use lib.ListN.{getD}
 use Rattle.lists.proofs.Cases.{eqb-cases}
-use Rattle.slices.specs.Same.{same}
-use Rattle.elements.specs.Names.{names, numberIn, elementNo}
-use Rattle.guideline.specs.Columns.{formOf, roleOf}
-use Rattle.guideline.specs.Rows.{beschaffungsanforderung, kostenblatt, rowsOf}
-use Rattle.blindness.proofs.Tables.{allBelow, below, where-true}
 use Rattle.states.specs.Attributes.{there, asksV}
 use Rattle.reader.specs.Items.{Placed}
 use Rattle.reader.specs.Rows.{spanOf}
@@ -48,20 +42,3 @@ unfoldable pub Given : List ℕ → Trees Placed → Type 0
 Given rows none = Unit {0}
 Given rows (element q x inner after) =
     (asksV (getD rows q 0) ≡ true → there (spanOf (x .item)) ≡ true) × Given rows inner × Given rows after
-
--- what the tables show has a value
-abbrev pub Valued : List ℕ → Type 0
-Valued rows = (q : ℕ) → q < length rows → 6 ≤ roleOf (getD rows q 0) → asksV (getD rows q 0) ≡ true
-
-valued : (rows : List ℕ) → allBelow (length rows) (λ q. cond (leb 6 (roleOf (getD rows q 0))) (asksV (getD rows q 0)) true) ≡ true → Valued rows
-valued rows t q l h =
-    where-true (leb 6 (roleOf (getD rows q 0))) (below (length rows) (λ q. cond (leb 6 (roleOf (getD rows q 0))) (asksV (getD rows q 0)) true) t q l)
-    (le-leb 6 (roleOf (getD rows q 0)) h)
-
-pub valued-one : Valued (rowsOf 1)
-unfolding rowsOf beschaffungsanforderung kostenblatt elementNo numberIn names same roleOf formOf asksV
-valued-one = valued (rowsOf 1) refl
-
-pub valued-two : Valued (rowsOf 2)
-unfolding rowsOf beschaffungsanforderung kostenblatt elementNo numberIn names same roleOf formOf asksV
-valued-two = valued (rowsOf 2) refl

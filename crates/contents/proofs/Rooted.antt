@@ -8,42 +8,21 @@ use native.Mathlib.Omega.{arith}
 use lib.Dec.{eqb}
 use lib.ListN.{length, getD}
 use Rattle.lists.proofs.Cases.{bool-cases, zero-not-one}
-use Rattle.slices.specs.Same.{same}
 use Rattle.slices.specs.Text.{text}
-use Rattle.elements.specs.Names.{names, numberIn, elementNo}
-use Rattle.structure.specs.Rows.{nameOf, parentOf, required, startOf, endOf, endsIn, endsAtOnce, overOf}
+use Rattle.elements.specs.Names.{elementNo}
+use Rattle.structure.specs.Rows.{nameOf, parentOf, startOf, endOf, endsAtOnce, overOf}
 use Rattle.structure.specs.Means.{EndDue}
 use Rattle.structure.specs.declared.Due.the-variants.{Row}
 use Rattle.structure.proofs.Means.{start-means, end-means}
 use Rattle.guideline.specs.Kinds.{kindOf}
-use Rattle.guideline.specs.Rows.{beschaffungsanforderung, kostenblatt, rowsOf}
 use Rattle.states.specs.Moves.{cutShort}
 use Rattle.trees.specs.Trees.{none}
 use Rattle.trees.specs.Cursor.{follows, rowAfter, openAfter}
 use Rattle.trees.proofs.Made.{made}
 use Rattle.trees.proofs.Along.{over-means, along-conforms, due-within, due-named}
 use Rattle.trees.proofs.Theorems.{may-close, empty-ends, empty-conforms}
-use Rattle.contents.proofs.Laid.{Layout, layout-one, layout-two}
+use Rattle.contents.proofs.Laid.{Layout, Known}
 use Rattle.contents.proofs.Shape.{under-document}
-use Rattle.contents.proofs.Lifted.{Known}
-
--- what is known of the rows of a kind; a Period has to have something in it
-pub record Laid (kind : ℕ) : Type 0 where
-  pub period : ℕ
-  pub layout : Layout (rowsOf kind) period
-  pub filled : endsAtOnce (rowsOf kind) period ≡ false
-  pub told : kindOf (nameOf (getD (rowsOf kind) 1 0)) ≡ kind
-
-laid-one : Laid 1
-unfolding rowsOf beschaffungsanforderung kostenblatt elementNo numberIn names same parentOf required nameOf kindOf endsAtOnce endsIn
-laid-one = record { period = 26; layout = layout-one; filled = refl; told = refl }
-
-laid-two : Laid 2
-unfolding rowsOf beschaffungsanforderung kostenblatt elementNo numberIn names same parentOf required nameOf kindOf endsAtOnce endsIn
-laid-two = record { period = 28; layout = layout-two; filled = refl; told = refl }
-
-pub laid : (kind : ℕ) → Known kind → Laid kind
-laid kind k = ⊎-elim (λ e. rw e laid-one) (λ e. rw e laid-two) k
 
 pub kind-cases : (name : ℕ) → (kindOf name ≡ 0) ⊎ Known (kindOf name)
 unfolding kindOf

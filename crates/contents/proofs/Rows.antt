@@ -24,14 +24,14 @@ use Rattle.contents.specs.Said.{Said}
 use Rattle.contents.specs.Legal.{hasRole, those, inEach, positionOf, identifications}
 use Rattle.contents.specs.Shown.{sum, view, objects, businessTypes, intervalCounts}
 use Rattle.contents.proofs.Lists.{lastOf}
-use Rattle.contents.proofs.Laid.{Layout}
+use Rattle.contents.proofs.Laid.{Layout, Valued}
 use Rattle.contents.proofs.Elements.{in-of, own, those-of, Within, none-in, none-there, within-more}
 use Rattle.contents.proofs.Shape.{in-series-row, series-in, under-root, leaf, elsewhere, comes-once}
 use Rattle.contents.proofs.Walk.{Tally, opened, walked}
 use Rattle.contents.proofs.Fill.{saidOf, saying, stateOf, entered, filled, Stands}
 use Rattle.contents.proofs.Lifted.{each-said, taken-said}
 use Rattle.contents.proofs.Views.{same-view}
-use Rattle.contents.proofs.Roles.{Role, is-series, is-interval, is-object, is-business, is-id, is-pos, is-qty, is-other, role-cases, Given, Valued}
+use Rattle.contents.proofs.Roles.{Role, is-series, is-interval, is-object, is-business, is-id, is-pos, is-qty, is-other, role-cases, Given}
 use Rattle.contents.proofs.Intervals.{puts}
 use Rattle.contents.proofs.Series.{valueBytes, trimmedBytes, Effect, cell-at, inside}
 

@@ -21,13 +21,13 @@ use Rattle.contents.specs.Said.{Said, bytes}
 use Rattle.contents.specs.Legal.{hasRole, those, positionOf, identifications}
 use Rattle.contents.specs.Shown.{view, objects, businessTypes}
 use Rattle.contents.proofs.Lists.{last-append, lastOf}
-use Rattle.contents.proofs.Laid.{Layout}
+use Rattle.contents.proofs.Laid.{Layout, Valued}
 use Rattle.contents.proofs.Elements.{own, mapped-parts}
 use Rattle.contents.proofs.Shape.{later}
 use Rattle.contents.proofs.Walk.{Tally, opened, walked}
 use Rattle.contents.proofs.Fill.{saidOf, saying, stateOf, entered, filled, Stands}
 use Rattle.contents.proofs.Views.{same-view, whole-view, trimmed-view}
-use Rattle.contents.proofs.Roles.{Role, is-series, is-interval, is-object, is-business, is-id, is-pos, is-qty, is-other, role-cases, Given, Valued}
+use Rattle.contents.proofs.Roles.{Role, is-series, is-interval, is-object, is-business, is-id, is-pos, is-qty, is-other, role-cases, Given}
 
 abbrev pub valueBytes : Said → List ℕ
 valueBytes s = bytes (s .v)

@@ -17,12 +17,12 @@ use Rattle.contents.specs.Said.{Said}
 use Rattle.contents.specs.Legal.{hasRole, those, inEach, positionOf, identifications}
 use Rattle.contents.specs.Shown.{amountIn, sum, objects, businessTypes, intervalCounts, Shows}
 use Rattle.contents.proofs.Lists.{sets-shown, zero-all}
-use Rattle.contents.proofs.Laid.{Layout}
+use Rattle.contents.proofs.Laid.{Layout, Valued}
 use Rattle.contents.proofs.Elements.{last-in, last-those}
 use Rattle.contents.proofs.Shape.{document-shape}
 use Rattle.contents.proofs.Walk.{nothing, opened, walked}
 use Rattle.contents.proofs.Fill.{saidOf, saying, stateOf, entered, filled, Stands}
-use Rattle.contents.proofs.Roles.{role-cases, Given, Valued}
+use Rattle.contents.proofs.Roles.{role-cases, Given}
 use Rattle.contents.proofs.Intervals.{Puts, puts}
 use Rattle.contents.proofs.Series.{valueBytes, trimmedBytes}
 use Rattle.contents.proofs.Rows.{Filled, filled-as, row-moved, series-kept, seriesIn, series-filled}

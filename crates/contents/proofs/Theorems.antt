@@ -38,23 +38,17 @@ use Rattle.contents.specs.Spelled.{valueIn, saidBy, signsOf, Spells, Ali
 use Rattle.contents.specs.Legal.{hasRole, Period, periodOf, quartersOf, attributesFit, elementFits, Each, Legal, HasRoom}
 use Rattle.contents.specs.Shown.{Shows, RowShows, Tells, SameButPlaces, view}
 use Rattle.contents.proofs.Tests.{and-parts}
-use Rattle.contents.proofs.Laid.{Layout, layout-one, layout-two}
+use Rattle.contents.proofs.Laid.{Known, laid}
 use Rattle.contents.proofs.Shape.{document-shape}
 use Rattle.contents.proofs.Walk.{nothing, walked}
 use Rattle.contents.proofs.Fill.{saidByItem, saidOf, saying, stateOf, filled}
-use Rattle.contents.proofs.Lifted.{Known, known-made, relabelled, signs-said, spell-said, conforms-said, lift}
+use Rattle.contents.proofs.Lifted.{relabelled, signs-said, spell-said, conforms-said, lift}
 use Rattle.contents.proofs.Bridge.{Read, forth, back}
 use Rattle.contents.proofs.Tallies.{series-walked, intervals-walked, period-walked}
 use Rattle.contents.proofs.Rules.{Rules, passes-rules, rules-passes}
-use Rattle.contents.proofs.Roles.{Given, Valued, valued-one, valued-two}
+use Rattle.contents.proofs.Roles.{Given}
 use Rattle.contents.proofs.Shown.{shows}
 use Rattle.contents.proofs.Unused.{unused-apart, apart-unused}
-
--- ---- the kinds
-
-laid : (kind : ℕ) → Known kind → (p : ℕ) × Layout (rowsOf kind) p × Valued (rowsOf kind)
-laid kind (inl e) = (26, subst (λ (k : ℕ). Layout (rowsOf k) 26) (sym e) layout-one, subst (λ (k : ℕ). Valued (rowsOf k)) (sym e) valued-one)
-laid kind (inr e) = (28, subst (λ (k : ℕ). Layout (rowsOf k) 28) (sym e) layout-two, subst (λ (k : ℕ). Valued (rowsOf k)) (sym e) valued-two)
 
 -- ---- where a value is asked for, it is there
 
@@ -160,7 +154,7 @@ module _ (doc : List ℕ) (ns np na nb : ℕ) (wide : 16 ≤ nb) (small : length
       let rows = rowsOf kind in
       let l = laid kind (r .known) in
       let conforms = conforms-said rows 0 kids (r .conforms) in
-      let k = passes-rules kind room rows (l .0) (l .1) (saying kids) conforms (r .passes) in
+      let k = passes-rules kind room rows (l .period) (l .layout) (saying kids) conforms (r .passes) in
       let m = room-cells ns np na _ _ (k .series-room) (k .intervals-room) in (
         kind,
         saying kids,
@@ -176,7 +170,7 @@ module _ (doc : List ℕ) (ns np na nb : ℕ) (wide : 16 ≤ nb) (small : length
           elements = k .elements;
           series = k .series;
           apart =
-              unused-apart kind rows (l .0) (l .1) (l .2) doc ns np na kids (r .conforms) (r .stands) (each-given kind _ rows kids (k .elements)) (m .0)
+              unused-apart kind rows (l .period) (l .layout) (l .valued) doc ns np na kids (r .conforms) (r .stands) (each-given kind _ rows kids (k .elements)) (m .0)
               (r .unused);
         },
         record { series = k .series-room; intervals = k .intervals-room },
@@ -216,7 +210,7 @@ module _ (doc : List ℕ) (ns np na nb : ℕ) (wide : 16 ≤ nb) (small : length
           quarters = ap (λ (o : Outcome). o .answer .quarters) e ∙ ap quartersOf (period-walked rows (saying kids) nothing);
           tables =
               subst (λ (t : Tables). Shows doc t rows (saying kids)) (sym (ap (λ (o : Outcome). o .tables) e))
-              (shows kind rows (l .0) (l .1) (l .2) doc ns np na kids (r .conforms) (r .stands) (each-given kind _ rows kids (rules .elements)) (m .0) (m .1) (m .2));
+              (shows kind rows (l .period) (l .layout) (l .valued) doc ns np na kids (r .conforms) (r .stands) (each-given kind _ rows kids (rules .elements)) (m .0) (m .1) (m .2));
         }
 
   pub legal-accepted : (kind : ℕ) (c : Trees Said) → Spells doc kind c → Legal kind c → HasRoom room kind c → Tells doc (readOf doc ns np na nb) kind c
@@ -239,9 +233,9 @@ module _ (doc : List ℕ) (ns np na nb : ℕ) (wide : 16 ≤ nb) (small : length
         tags = k .2;
         conforms = k .3;
         stands = k .4;
-        passes = rules-passes kind room rows (l .0) (l .1) (saying kids) conforms own;
+        passes = rules-passes kind room rows (l .period) (l .layout) (saying kids) conforms own;
         unused =
-            apart-unused kind rows (l .0) (l .1) (l .2) doc ns np na kids (k .3) (k .4) (each-given kind _ rows kids (own .elements)) (m .0)
+            apart-unused kind rows (l .period) (l .layout) (l .valued) doc ns np na kids (k .3) (k .4) (each-given kind _ rows kids (own .elements)) (m .0)
             (subst (λ d. Legal kind d) (sym e) g .apart);
       } in
       subst (Tells doc (readOf doc ns np na nb) kind) e (tells kind kids n (s .begins) r own)
@@ -258,7 +252,7 @@ first-tag : (kind : ℕ) → Known kind → (c : Trees Said) → Conforms (rowsO
 unfolding spell
 first-tag kind known c conforms =
     let l = laid kind known in
-    let d = document-shape (rowsOf kind) (l .0) (l .1) c conforms in
+    let d = document-shape (rowsOf kind) (l .period) (l .layout) c conforms in
     (d .tag, _, ap (spell (rowsOf kind)) (d .is))
 
 opened-name : (s u : Said) (n m : ℕ) (l k : List (Sign Said)) → Opens s n ∷ l ≡ Opens u m ∷ k → n ≡ m
@@ -288,7 +282,7 @@ one-content doc kind other c d s u g h =
     let e : spell (rowsOf kind) c ≡ spell (rowsOf other) d = sym (s .tags) ∙ ap (λ n. signsOf (itemsFrom doc n)) f ∙ u .tags in
     let k = same-kind kind other (g .known) (h .known) (same-names kind other (g .known) (h .known) c d (g .conforms) (h .conforms) e) in (
       k,
-      one-tree Said (rowsOf other) (known-made other (h .known)) c d (subst (λ (i : ℕ). Conforms (rowsOf i) 0 c) k (g .conforms)) (h .conforms)
+      one-tree Said (rowsOf other) (laid other (h .known) .layout .well) c d (subst (λ (i : ℕ). Conforms (rowsOf i) 0 c) k (g .conforms)) (h .conforms)
           (ap (λ (i : ℕ). spell (rowsOf i) c) (sym k) ∙ e),
     )
 
