@@ -7,6 +7,7 @@ pub mod Walk
 pub mod Fill
 pub mod Lifted
 pub mod Signs
+pub mod Values
 pub mod Steps
 pub mod Rooted
 pub mod Moved

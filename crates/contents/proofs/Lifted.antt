@@ -79,16 +79,8 @@ unfolding EachConforms saying
 each-said rows none c = tt
 each-said rows (element q x inner after) c = (rw (taken-said inner) (c .0), each-said rows inner (c .1), each-said rows after (c .2))
 
-each-placed : (rows : List ℕ) (kids : Trees Placed) → EachConforms rows (saying kids) → EachConforms rows kids
-unfolding EachConforms saying
-each-placed rows none c = tt
-each-placed rows (element q x inner after) c = (rw (taken-said inner) at (c .0), each-placed rows inner (c .1), each-placed rows after (c .2))
-
 pub conforms-said : (rows : List ℕ) (p : ℕ) (kids : Trees Placed) → Conforms rows p kids → Conforms rows p (saying kids)
 conforms-said rows p kids c = record { fits = rw (taken-said kids) (c .fits); each = each-said rows kids (c .each) }
-
-pub conforms-placed : (rows : List ℕ) (p : ℕ) (kids : Trees Placed) → Conforms rows p (saying kids) → Conforms rows p kids
-conforms-placed rows p kids c = record { fits = rw (taken-said kids) at (c .fits); each = each-placed rows kids (c .each) }
 
 -- ---- where the items stand
 

@@ -1,17 +1,10 @@
--- What a row is to the reader, case by case; and that an element that has to bring a value brings it.
--- Assumes nothing.
+-- What a row is to the tables, case by case. Assumes nothing.
 use Prim.Native.Nat.{ℕ}
 use mathlib.Core.Path.{_≡_}
-use mathlib.Core.List.{List}
-use mathlib.Core.Bool.{true, false}
+use mathlib.Core.Bool.{false}
 use mathlib.Core.Logic.{⊎-elim}
 use lib.Dec.{eqb}
-use lib.ListN.{getD}
 use Rattle.lists.proofs.Cases.{eqb-cases}
-use Rattle.states.specs.Attributes.{there, asksV}
-use Rattle.reader.specs.Items.{Placed}
-use Rattle.reader.specs.Rows.{spanOf}
-use Rattle.trees.specs.Trees.{Trees, none, element}
 
 -- the roles that bring something into the tables
 pub data Role (r : ℕ) : Type 0 where
@@ -34,11 +27,3 @@ role-cases r =
     ⊎-elim (λ f. is-pos (f .0)) (λ f.
     ⊎-elim (λ g. is-qty (g .0)) (λ g. is-other (a .1) (b .1) (c .1) (d .1) (e .1) (f .1) (g .1))
     (eqb-cases r 10)) (eqb-cases r 9)) (eqb-cases r 8)) (eqb-cases r 7)) (eqb-cases r 6)) (eqb-cases r 4)) (eqb-cases r 2)
-
--- ---- values that have to be there
-
--- each element whose row asks for `v` has it
-unfoldable pub Given : List ℕ → Trees Placed → Type 0
-Given rows none = Unit {0}
-Given rows (element q x inner after) =
-    (asksV (getD rows q 0) ≡ true → there (spanOf (x .item)) ≡ true) × Given rows inner × Given rows after

@@ -30,8 +30,9 @@ use Rattle.contents.proofs.Shape.{in-series-row, series-in, under-root,
 use Rattle.contents.proofs.Walk.{Tally, opened, walked}
 use Rattle.contents.proofs.Fill.{saidOf, saying, stateOf, entered, filled, Stands}
 use Rattle.contents.proofs.Lifted.{each-said, taken-said}
+use Rattle.contents.proofs.Values.{Given}
 use Rattle.contents.proofs.Views.{same-view}
-use Rattle.contents.proofs.Roles.{Role, is-series, is-interval, is-object, is-business, is-id, is-pos, is-qty, is-other, role-cases, Given}
+use Rattle.contents.proofs.Roles.{Role, is-series, is-interval, is-object, is-business, is-id, is-pos, is-qty, is-other, role-cases}
 use Rattle.contents.proofs.Intervals.{puts}
 use Rattle.contents.proofs.Series.{valueBytes, trimmedBytes, Effect, cell-at, inside}
 

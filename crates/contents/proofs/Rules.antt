@@ -375,11 +375,6 @@ module _ (kind : ℕ) (room : Room) (rows : List ℕ) (p : ℕ) (L : Layout rows
         tt,
       )
 
-  -- the walk comes to the content's own period
-  whole-period : walked rows whole nothing .period ≡ p₀
-  unfolding periodOf nothing
-  whole-period = period-walked rows whole nothing
-
 module _ (kind : ℕ) (room : Room) (rows : List ℕ) (p : ℕ) (L : Layout rows p) (c : Trees Said) (conforms : Conforms rows 0 c) where
   whole-is : (d : DocumentShape rows p L c) → c ≡ element 1 (d .tag) (beside (d .shape .head) (d .shape .tail)) none
   whole-is d = d .is ∙ ap (λ i. element 1 (d .tag) i none) (d .shape .is)

@@ -9,7 +9,7 @@ use native.Mathlib.Omega.{arith}
 use lib.Dec.{eqb, ltb}
 use lib.ListN.{length, getD}
 use borrow.Author.Tests.{eq-eqb, ne-eqb, lt-ltb, ltb-true}
-use Rattle.lists.proofs.Cases.{bool-cases, eqb-cases}
+use Rattle.lists.proofs.Cases.{eqb-cases}
 use Rattle.rules.specs.Rules.{positionFits}
 use Rattle.guideline.specs.Columns.{formOf, roleOf}
 use Rattle.guideline.specs.Kinds.{takesAnother}
@@ -20,17 +20,17 @@ use Rattle.contents.specs.Legal.{hasRole, those, Period, quartersOf, pos
 use Rattle.contents.proofs.Tests.{chosen, other, parts-and, and-parts}
 use Rattle.contents.proofs.Elements.{Within, within-more, length-element, unit}
 use Rattle.contents.proofs.Walk.{Tally, opened, walked, Taken, Passes}
-use Rattle.contents.proofs.Tallies.{turn-append, invariant, intervals-walked, first-walked, last-walked}
+use Rattle.contents.proofs.Tallies.{turn-append, invariant, intervals-walked, first-walked, last-walked, one-or-none}
 
-pub takes-few : (kind n : ℕ) → takesAnother kind n ≡ true → kind ≡ 1 → n < 100
+takes-few : (kind n : ℕ) → takesAnother kind n ≡ true → kind ≡ 1 → n < 100
 unfolding takesAnother
 takes-few kind n e k = let h : ltb n 100 ≡ true = rw (eq-eqb kind 1 k) at e in ltb-true n 100 h
 
-pub few-takes : (kind n : ℕ) → (kind ≡ 1 → n < 100) → takesAnother kind n ≡ true
+few-takes : (kind n : ℕ) → (kind ≡ 1 → n < 100) → takesAnother kind n ≡ true
 unfolding takesAnother
 few-takes kind n f = ⊎-elim (λ y. rw (y .1) (lt-ltb n 100 (f (y .0)))) (λ y. rw (y .1) refl) (eqb-cases kind 1)
 
--- what goes before: the tables' room and the limit of a Period are kept
+-- so far the tables' room and the limit of a Period are kept
 pub record Holds (kind : ℕ) (room : Room) (y : Tally) : Type 0 where
   pub begins : y .first ≤ y .intervals
   pub fit : y .intervals ≤ room .intervals
@@ -43,6 +43,7 @@ pub record Plain (rows : List ℕ) (q : ℕ) : Type 0 where
   pub turn : formOf (getD rows q 0) ≡ 9 → roleOf (getD rows q 0) ≡ 9
   pub back : roleOf (getD rows q 0) ≡ 9 → formOf (getD rows q 0) ≡ 9
 
+-- what elements that open no series and no Period have to meet, walked over from the tally y on
 pub record Segment (kind : ℕ) (room : Room) (rows : List ℕ) (p₀ : Period) (c : Trees Said) (y : Tally) : Type 0 where
   pub each : Each (elementFits kind p₀) rows c
   pub turns : inTurn kind (quartersOf p₀) (y .last) (map positionOf (those (hasRole 9) rows c)) ≡ true
@@ -50,8 +51,7 @@ pub record Segment (kind : ℕ) (room : Room) (rows : List ℕ) (p₀ : Period) 
   pub fit : y .intervals + length (those (hasRole 4) rows c) ≤ room .intervals
 
 one-interval : (w : ℕ) (s : Said) (y : Tally) → opened w s y .intervals ≡ y .intervals + unit 4 w
-one-interval w s y =
-    ⊎-elim (λ (z : eqb (roleOf w) 4 ≡ true). rw z refl) (λ (z : eqb (roleOf w) 4 ≡ false). rw z (omega arith)) (bool-cases (eqb (roleOf w) 4))
+one-interval w s y = one-or-none (eqb (roleOf w) 4) (y .intervals)
 
 module _ (rows : List ℕ) (kind n : ℕ) (q : ℕ) (s : Said) (inner after : Trees Said) (y : Tally) (not : roleOf (getD rows q 0) ≡ 3 → ⊥)
     (inside : Within (λ q. roleOf (getD rows q 0) ≡ 3 → ⊥) inner) where

@@ -26,8 +26,9 @@ use Rattle.contents.proofs.Elements.{own, mapped-parts}
 use Rattle.contents.proofs.Shape.{later}
 use Rattle.contents.proofs.Walk.{Tally, opened, walked}
 use Rattle.contents.proofs.Fill.{saidOf, saying, stateOf, entered, filled, Stands}
+use Rattle.contents.proofs.Values.{Given}
 use Rattle.contents.proofs.Views.{same-view, whole-view, trimmed-view}
-use Rattle.contents.proofs.Roles.{Role, is-series, is-interval, is-object, is-business, is-id, is-pos, is-qty, is-other, role-cases, Given}
+use Rattle.contents.proofs.Roles.{Role, is-series, is-interval, is-object, is-business, is-id, is-pos, is-qty, is-other, role-cases}
 
 abbrev pub valueBytes : Said → List ℕ
 valueBytes s = bytes (s .v)

@@ -22,7 +22,8 @@ use Rattle.contents.proofs.Elements.{last-in, last-those}
 use Rattle.contents.proofs.Shape.{document-shape}
 use Rattle.contents.proofs.Walk.{nothing, opened, walked}
 use Rattle.contents.proofs.Fill.{saidOf, saying, stateOf, entered, filled, Stands}
-use Rattle.contents.proofs.Roles.{role-cases, Given}
+use Rattle.contents.proofs.Values.{Given}
+use Rattle.contents.proofs.Roles.{role-cases}
 use Rattle.contents.proofs.Intervals.{Puts, puts}
 use Rattle.contents.proofs.Series.{valueBytes, trimmedBytes}
 use Rattle.contents.proofs.Rows.{Filled, filled-as, row-moved, series-kept, seriesIn, series-filled}

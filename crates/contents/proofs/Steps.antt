@@ -9,9 +9,8 @@ use mathlib.Core.Bool.{Bool, true, false, cond, _&&_}
 use native.Mathlib.Omega.{arith}
 use lib.ListN.{length, getD}
 use lib.Dec.{leb, ltb, eqb}
-use borrow.Author.Tests.{eq-eqb, ne-eqb, lt-ltb, le-ltb, lt-leb, leb-false, eqb-true}
+use borrow.Author.Tests.{eq-eqb, ne-eqb, le-ltb, lt-leb, leb-false, eqb-true}
 use Rattle.lists.proofs.Cases.{bool-cases, by-cond, eqb-cases, zero-not-one, both-true}
-use Rattle.attributes.specs.Attribute.{partOf}
 use Rattle.characters.specs.Says.{says}
 use Rattle.trims.specs.Trim.{dropped}
 use Rattle.forms.specs.Forms.{fixedVersion}
@@ -21,7 +20,6 @@ use Rattle.numbers.specs.declared.Number.the-variants.{Is, NotNumber}
 use Rattle.times.specs.Times.{interval}
 use Rattle.times.specs.declared.Interval.{Interval}
 use Rattle.times.specs.declared.Interval.the-variants.{Minutes, NotInterval}
-use Rattle.tags.specs.declared.Span.{Span}
 use Rattle.items.specs.declared.Tag.{Tag}
 use Rattle.guideline.specs.Columns.{formOf, collapsed, schemeOf, roleOf}
 use Rattle.guideline.specs.Kinds.{takesAnother}
@@ -30,16 +28,18 @@ use Rattle.rules.specs.declared.Held.{Held}
 use Rattle.rules.specs.declared.Judged.{Judged}
 use Rattle.states.specs.Attributes.{there, agree, asksV, asksScheme, noOthers, valueOf, schemeRefusal, least, alsoScheme, judgeTag}
 use Rattle.states.specs.Attributes.{attributesFit as tagFits}
-use Rattle.states.specs.Moves.{oneMore, heldOf, cutShort, tooMany, noRoom, halfOriginals, valuesJudged, judgedAt, startJudged, placed, oneSeries, oneInterval, oneOriginal, lastPos, covering, kept, entered, entryOf, closedAt, endRefusal}
+use Rattle.states.specs.Moves.{heldOf, cutShort, tooMany, noRoom, halfOriginals, valuesJudged, judgedAt, startJudged, placed, oneSeries, oneInterval, oneOriginal, lastPos, covering, kept, entered, entryOf, closedAt, endRefusal}
 use Rattle.states.specs.declared.State.{State}
 use Rattle.states.specs.declared.Room.{Room}
-use Rattle.contents.specs.Said.{Absent, Given, Said, given, bytes}
-use Rattle.contents.specs.Spelled.{valueIn, saidBy}
+use Rattle.blindness.proofs.Counts.{one-more}
+use Rattle.contents.specs.Said.{Said, bytes}
+use Rattle.contents.specs.Spelled.{saidBy}
 use Rattle.contents.specs.Legal.{periodBy, quartersOf, positionBy, positionOf, sayings, attributesFit, schemeFits, valueFits, elementFits}
 use Rattle.contents.proofs.Tests.{and-parts}
 use Rattle.contents.proofs.Laid.{Layout}
 use Rattle.contents.proofs.Walk.{Tally, quartersIn, opened, Taken, Ended}
 use Rattle.contents.proofs.Fill.{stateOf}
+use Rattle.contents.proofs.Values.{asked-there, given-there, there-bytes}
 
 -- ---- tests
 
@@ -55,29 +55,12 @@ opposite false e = absurd (zero-not-one (cc))
 
 -- ---- the attributes of a tag, by where they stand and by what they are
 
-given-there : (x : Span) (s : List ℕ) → given (valueIn x s) ≡ there x
-unfolding valueIn given
-given-there x s = by (there x)
-  where
-    by : (t : Bool) → given (cond t (Given (partOf s (x .start) (x .len))) Absent) ≡ t
-    by true = refl
-    by false = refl
-
-there-bytes : (x : Span) (s : List ℕ) → there x ≡ true → bytes (valueIn x s) ≡ partOf s (x .start) (x .len)
-unfolding valueIn bytes
-there-bytes x s e = rw e
-
 attributes-same : (w : ℕ) (t : Tag) (s : List ℕ) → tagFits w t ≡ attributesFit w (saidBy t s)
 unfolding tagFits attributesFit saidBy
 attributes-same w t s =
     rw (given-there (t .v) s, given-there (t .coding) s, given-there (t .version) s)
     (chained (agree (asksV w) (there (t .v))) (agree (asksScheme w) (there (t .coding))) (agree (eqb (roleOf w) 1) (there (t .version)))
     (noOthers w (t .others) (t .passable)))
-
--- what a row asks for is there
-asked-there : (a g : Bool) → agree a g ≡ true → a ≡ true → g ≡ true
-unfolding agree
-asked-there a g h e = rw e at h
 
 -- ---- what the reader judges of a tag's values, by what the tag says
 
@@ -340,10 +323,6 @@ module _ (kind k₀ r : ℕ) (o : Bool) (y : Tally) (w : ℕ) (u : Said) where
         (eqb-cases (formOf w) 9)
 
 -- ---- the state after a start tag
-
-one-more : (n : ℕ) → n < 4294967295 → oneMore n ≡ n + 1
-unfolding oneMore
-one-more n h = rw (lt-ltb n 4294967295 h)
 
 -- TimePeriodCovered is nothing else to the reader
 record Alone (role : ℕ) : Type 0 where

@@ -4,92 +4,45 @@ use Prim.Native.Nat.{ℕ, _+_, _*_, _/_, _≤_, _<_}
 use mathlib.Core.Path.{_≡_, refl, sym, ap, subst, _∙_}
 use mathlib.Core.List.{List, _∷_, map}
 use mathlib.Core.Logic.{_⊎_, inl, inr, ⊎-elim}
-use mathlib.Core.Bool.{Bool, true, false, _&&_}
+use mathlib.Core.Bool.{true, false}
 use native.Mathlib.Omega.{arith}
 use native.Mathlib.Nat.{zero-add}
 use lib.Dec.{leb}
 use lib.ListN.{length, getD, length-replicate}
 use lib.IntN.{pos}
 use borrow.Author.Tests.{le-ltb}
-use Rattle.lists.proofs.Cases.{leb-cases, zero-not-one}
+use Rattle.lists.proofs.Cases.{leb-cases}
 use Rattle.slices.specs.Same.{same}
 use Rattle.elements.specs.Names.{names, numberIn, elementNo}
 use Rattle.structure.specs.Rows.{nameOf}
-use Rattle.items.specs.declared.Item.{Item}
-use Rattle.items.specs.declared.Item.the-variants.{Start, Empty, End, Text, Comment, Refused}
 use Rattle.prolog.specs.Prolog.{begin}
 use Rattle.prolog.specs.declared.Begin.{Begin}
 use Rattle.prolog.specs.declared.Begin.the-variants.{From, Unreadable}
 use Rattle.guideline.specs.Rows.{beschaffungsanforderung, kostenblatt, rowsOf}
-use Rattle.states.specs.Attributes.{agree, asksV, there, noOthers, asksScheme}
 use Rattle.states.specs.Moves.{begun}
 use Rattle.states.specs.declared.Room.{Room}
 use Rattle.reader.specs.Items.{Placed, itemsFrom}
-use Rattle.reader.specs.Rows.{spanOf}
 use Rattle.reader.specs.Reading.{Tables, Out, blank, roomOf, roomIn, refusedAt, acceptedAt, readItems, itemsRead, readAfter, readInto, orBlank, readSheet}
 use Rattle.reader.specs.Answer.{Outcome, answerOf, told, noted, readOf}
 use Rattle.reader.proofs.Sheets.{into-items, sheet-taken, read-noted}
-use Rattle.trees.specs.Trees.{Sign, Opens, Trees, none, element, spell, Conforms}
+use Rattle.trees.specs.Trees.{Sign, Opens, Trees, spell, Conforms}
 use Rattle.trees.specs.Cursor.{rowAfter, openAfter}
 use Rattle.trees.proofs.Theorems.{one-tree}
-use Rattle.guideline.specs.Columns.{isRoot}
-use Rattle.contents.specs.Said.{Said, given}
-use Rattle.contents.specs.Spelled.{valueIn, saidBy, signsOf, Spells, Alike}
-use Rattle.contents.specs.Legal.{hasRole, Period, periodOf, quartersOf, attributesFit, elementFits, Each, Legal, HasRoom}
+use Rattle.contents.specs.Said.{Said}
+use Rattle.contents.specs.Spelled.{signsOf, Spells, Alike}
+use Rattle.contents.specs.Legal.{periodOf, quartersOf, Legal, HasRoom}
 use Rattle.contents.specs.Shown.{Shows, RowShows, Tells, SameButPlaces, view}
-use Rattle.contents.proofs.Tests.{and-parts}
 use Rattle.contents.proofs.Laid.{Known, laid}
 use Rattle.contents.proofs.Shape.{document-shape}
 use Rattle.contents.proofs.Walk.{nothing, walked}
-use Rattle.contents.proofs.Fill.{saidByItem, saidOf, saying, stateOf, filled}
+use Rattle.contents.proofs.Fill.{saying, stateOf, filled}
 use Rattle.contents.proofs.Lifted.{relabelled, signs-said, spell-said, conforms-said, lift}
+use Rattle.contents.proofs.Values.{each-given}
 use Rattle.contents.proofs.Bridge.{Read, forth, back}
 use Rattle.contents.proofs.Tallies.{series-walked, intervals-walked, period-walked}
 use Rattle.contents.proofs.Rules.{Rules, passes-rules, rules-passes}
-use Rattle.contents.proofs.Roles.{Given}
 use Rattle.contents.proofs.Shown.{shows}
 use Rattle.contents.proofs.Unused.{unused-apart, apart-unused}
-
--- ---- where a value is asked for, it is there
-
-agreed : (g : Bool) → agree true g ≡ true → g ≡ true
-unfolding agree
-agreed g e = e
-
-asked-given : (w : ℕ) (s : Said) → attributesFit w s ≡ true → asksV w ≡ true → given (s .v) ≡ true
-unfolding attributesFit
-asked-given w s e a =
-    let v = agree (asksV w) (given (s .v)) in
-    let scheme = agree (asksScheme w) (given (s .scheme)) in
-    let version = agree (hasRole isRoot w) (given (s .version)) in
-    let k = and-parts v scheme (and-parts (v && scheme) version (and-parts (v && scheme && version) (noOthers w (s .others) (s .passable)) e .0) .0) .0 in
-    agreed (given (s .v)) (ap (λ (b : Bool). agree b (given (s .v))) (sym a) ∙ k)
-
-given-there : (x : Item) (s : List ℕ) → given (saidByItem x s .v) ≡ true → there (spanOf x) ≡ true
-unfolding saidByItem saidBy valueIn given spanOf
-given-there (Start t) s e = by (there (t .v)) refl e
-  where
-    by : (b : Bool) → there (t .v) ≡ b → given (valueIn (t .v) s) ≡ true → there (t .v) ≡ true
-    by true q h = q
-    by false q h = let z : _≡_ {A = Bool} false true = rw q at h in absurd (zero-not-one (cc))
-given-there (Empty t) s e = by (there (t .v)) refl e
-  where
-    by : (b : Bool) → there (t .v) ≡ b → given (valueIn (t .v) s) ≡ true → there (t .v) ≡ true
-    by true q h = q
-    by false q h = let z : _≡_ {A = Bool} false true = rw q at h in absurd (zero-not-one (cc))
-given-there (End n e) s h = absurd (zero-not-one (cc))
-given-there (Text w e) s h = absurd (zero-not-one (cc))
-given-there (Comment e) s h = absurd (zero-not-one (cc))
-given-there (Refused p) s h = absurd (zero-not-one (cc))
-
-each-given : (kind : ℕ) (q : Period) (rows : List ℕ) (kids : Trees Placed) → Each (elementFits kind q) rows (saying kids) → Given rows kids
-unfolding Each Given saying elementFits
-each-given kind q rows none e = tt
-each-given kind q rows (element r x inner after) e = (
-  (λ a. given-there (x .item) (x .rest) (asked-given (getD rows r 0) (saidOf x) (and-parts (attributesFit (getD rows r 0) (saidOf x)) _ (e .0) .0) a)),
-  each-given kind q rows inner (e .1),
-  each-given kind q rows after (e .2),
-)
 
 -- ---- the whole document around its items
 

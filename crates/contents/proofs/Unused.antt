@@ -28,8 +28,8 @@ use Rattle.contents.proofs.Elements.{own, mapped-parts}
 use Rattle.contents.proofs.Shape.{later, document-shape}
 use Rattle.contents.proofs.Walk.{Tally, nothing, opened, walked}
 use Rattle.contents.proofs.Fill.{saidOf, saying, entered, filled, Unused, Stands}
-use Rattle.contents.proofs.Views.{said-bytes}
-use Rattle.contents.proofs.Roles.{Role, is-series, is-interval, is-object, is-business, is-id, is-pos, is-qty, is-other, role-cases, Given}
+use Rattle.contents.proofs.Values.{said-bytes, Given}
+use Rattle.contents.proofs.Roles.{Role, is-series, is-interval, is-object, is-business, is-id, is-pos, is-qty, is-other, role-cases}
 use Rattle.contents.proofs.Series.{valueBytes, step-effect, no-series, inside}
 use Rattle.contents.proofs.Rows.{tallyIn, tablesIn, tallyOut, tablesOut, opened-series, opened-before, opened-size, rowed, plain, once-in, more-series, those-plain, those-after}
 use Rattle.contents.proofs.Shown.{root-those, root-role, root-tally, root-cells}
