@@ -79,7 +79,7 @@ module _ (doc : List ℕ) (room : Room) (n : ℕ) (t : Tables) (short : length d
       )
 
   -- what is found, and the tables
-  abbrev pub outOf : ℕ → Trees Placed → Out
+  abbrev outOf : ℕ → Trees Placed → Out
   outOf kind kids =
       record {
         found = acceptedAt (length doc) (stateOf kind (rowAfter 0 kids) (openAfter true kids) (walked (rowsOf kind) (saying kids) nothing));

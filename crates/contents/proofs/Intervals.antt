@@ -33,8 +33,8 @@ use Rattle.contents.proofs.Laid.{Layout, Valued}
 use Rattle.contents.proofs.Elements.{own, those-parts, mapped-parts}
 use Rattle.contents.proofs.Shape.{in-interval-row, holds-two}
 use Rattle.contents.proofs.Walk.{Tally, opened, walked}
-use Rattle.contents.proofs.Fill.{saidOf, saying, stateOf, entered, filled}
-use Rattle.contents.proofs.Values.{said-bytes, Given}
+use Rattle.contents.proofs.Fill.{saidOf, saying, stateOf, tablesWith, filled}
+use Rattle.contents.proofs.Values.{said-bytes, HasValues}
 use Rattle.contents.proofs.Roles.{Role, is-series, is-interval, is-object, is-business, is-id, is-pos, is-qty, is-other, role-cases}
 
 -- between two places of the walk these intervals start, and these positions and amounts are put, from the next interval's row on
@@ -103,7 +103,7 @@ amounts-kept r n v s st l (is-other a b c d e f g) k = simp (a, b, c, d, e, f, g
 
 module _ (kind : ℕ) (rows : List ℕ) (p : ℕ) (L : Layout rows p) (W : Valued rows) where
   step-puts : (q : ℕ) (x : Placed) (y : Tally) (t : Tables) → eqb (roleOf (getD rows q 0)) 4 ≡ false → eqb (roleOf (getD rows q 0)) 9 ≡ false
-      → eqb (roleOf (getD rows q 0)) 10 ≡ false → Puts y t (opened (getD rows q 0) (saidOf x) y) (entered kind rows q x (opened (getD rows q 0) (saidOf x) y) t) [] [] []
+      → eqb (roleOf (getD rows q 0)) 10 ≡ false → Puts y t (opened (getD rows q 0) (saidOf x) y) (tablesWith kind rows q x (opened (getD rows q 0) (saidOf x) y) t) [] [] []
   unfolding tablesAfter
   step-puts q x y t a b c =
       let w = getD rows q 0 in
@@ -122,7 +122,7 @@ module _ (kind : ℕ) (rows : List ℕ) (p : ℕ) (L : Layout rows p) (W : Value
 
   interval-made : (x a b : Placed) (y : Tally) (t : Tables) → there (spanOf (b .item)) ≡ true
       → Puts y t (walked rows (saying (two a b)) (opened (getD rows (p + 3) 0) (saidOf x) y))
-      (filled kind rows (two a b) (opened (getD rows (p + 3) 0) (saidOf x) y) (entered kind rows (p + 3) x (opened (getD rows (p + 3) 0) (saidOf x) y) t))
+      (filled kind rows (two a b) (opened (getD rows (p + 3) 0) (saidOf x) y) (tablesWith kind rows (p + 3) x (opened (getD rows (p + 3) 0) (saidOf x) y) t))
       (own (hasRole 4 (getD rows (p + 3) 0)) (saidOf x) ++ those (hasRole 4) rows (saying (two a b)))
       (map positionOf (own (hasRole 9 (getD rows (p + 3) 0)) (saidOf x)) ++ map positionOf (those (hasRole 9) rows (saying (two a b))))
       (map amountIn (own (hasRole 10 (getD rows (p + 3) 0)) (saidOf x)) ++ map amountIn (those (hasRole 10) rows (saying (two a b))))
@@ -141,16 +141,16 @@ module _ (kind : ℕ) (rows : List ℕ) (p : ℕ) (L : Layout rows p) (W : Value
       })
 
   interval-puts : (q : ℕ) (x : Placed) (inner : Trees Placed) (y : Tally) (t : Tables) → q ≡ p + 3 → Fits rows q (rowsTaken inner) → EachConforms rows inner
-      → Given rows inner
+      → HasValues rows inner
       → Puts y t (walked rows (saying inner) (opened (getD rows q 0) (saidOf x) y))
-      (filled kind rows inner (opened (getD rows q 0) (saidOf x) y) (entered kind rows q x (opened (getD rows q 0) (saidOf x) y) t))
+      (filled kind rows inner (opened (getD rows q 0) (saidOf x) y) (tablesWith kind rows q x (opened (getD rows q 0) (saidOf x) y) t))
       (own (hasRole 4 (getD rows q 0)) (saidOf x) ++ those (hasRole 4) rows (saying inner))
       (map positionOf (own (hasRole 9 (getD rows q 0)) (saidOf x)) ++ map positionOf (those (hasRole 9) rows (saying inner)))
       (map amountIn (own (hasRole 10 (getD rows q 0)) (saidOf x)) ++ map amountIn (those (hasRole 10) rows (saying inner)))
-  unfolding Given
+  unfolding HasValues
   interval-puts q x inner y t e f c g =
       let h = holds-two rows p L inner (rw e at f) c in
-      let k : Given rows (two (h .0) (h .1)) = rw (h .2) at g in
+      let k : HasValues rows (two (h .0) (h .1)) = rw (h .2) at g in
       let s = L .size in
       let r = L .qty in
       let v = k .2 .0 (W (p + 5) (omega (arith, s)) (omega (arith, r))) in
@@ -160,12 +160,12 @@ module _ (kind : ℕ) (rows : List ℕ) (p : ℕ) (L : Layout rows p) (W : Value
 
   other-puts : (h q : ℕ) (x : Placed) (inner : Trees Placed) (y : Tally) (t : Tables) → h < length rows → (h ≡ p + 3 → ⊥) → q < length rows
       → parentOf (getD rows q 0) ≡ h → (q ≡ p + 3 → ⊥)
-      → Puts (opened (getD rows q 0) (saidOf x) y) (entered kind rows q x (opened (getD rows q 0) (saidOf x) y) t)
+      → Puts (opened (getD rows q 0) (saidOf x) y) (tablesWith kind rows q x (opened (getD rows q 0) (saidOf x) y) t)
       (walked rows (saying inner) (opened (getD rows q 0) (saidOf x) y))
-      (filled kind rows inner (opened (getD rows q 0) (saidOf x) y) (entered kind rows q x (opened (getD rows q 0) (saidOf x) y) t))
+      (filled kind rows inner (opened (getD rows q 0) (saidOf x) y) (tablesWith kind rows q x (opened (getD rows q 0) (saidOf x) y) t))
       (those (hasRole 4) rows (saying inner)) (map positionOf (those (hasRole 9) rows (saying inner))) (map amountIn (those (hasRole 10) rows (saying inner)))
       → Puts y t (walked rows (saying inner) (opened (getD rows q 0) (saidOf x) y))
-      (filled kind rows inner (opened (getD rows q 0) (saidOf x) y) (entered kind rows q x (opened (getD rows q 0) (saidOf x) y) t))
+      (filled kind rows inner (opened (getD rows q 0) (saidOf x) y) (tablesWith kind rows q x (opened (getD rows q 0) (saidOf x) y) t))
       (own (hasRole 4 (getD rows q 0)) (saidOf x) ++ those (hasRole 4) rows (saying inner))
       (map positionOf (own (hasRole 9 (getD rows q 0)) (saidOf x)) ++ map positionOf (those (hasRole 9) rows (saying inner)))
       (map amountIn (own (hasRole 10 (getD rows q 0)) (saidOf x)) ++ map amountIn (those (hasRole 10) rows (saying inner)))
@@ -182,10 +182,10 @@ module _ (kind : ℕ) (rows : List ℕ) (p : ℕ) (L : Layout rows p) (W : Value
       (puts-on (step-puts q x y t a b c) k)
 
   pub puts : (kids : Trees Placed) (h : ℕ) (y : Tally) (t : Tables) → h < length rows → (h ≡ p + 3 → ⊥) → Stand rows h (rowsTaken kids)
-      → EachConforms rows kids → Given rows kids
+      → EachConforms rows kids → HasValues rows kids
       → Puts y t (walked rows (saying kids) y) (filled kind rows kids y t) (those (hasRole 4) rows (saying kids))
       (map positionOf (those (hasRole 9) rows (saying kids))) (map amountIn (those (hasRole 10) rows (saying kids)))
-  unfolding walked filled saying rowsTaken Stand EachConforms Given those
+  unfolding walked filled saying rowsTaken Stand EachConforms HasValues those
   puts none h y t l n s c g = puts-none refl refl refl
   puts (element q x inner after) h y t l n s c g =
       let w = getD rows q 0 in
@@ -202,6 +202,6 @@ module _ (kind : ℕ) (rows : List ℕ) (p : ℕ) (L : Layout rows p) (W : Value
       (λ d. interval-puts q x inner y t (d .0) (c .0) (c .1) (g .1))
       (λ d.
       other-puts h q x inner y t l n (s .0) (s .1) (d .0)
-      (puts inner q (opened w (saidOf x) y) (entered kind rows q x (opened w (saidOf x) y) t) (s .0) (d .0) (c .0 .stand) (c .1) (g .1)))
+      (puts inner q (opened w (saidOf x) y) (tablesWith kind rows q x (opened w (saidOf x) y) t) (s .0) (d .0) (c .0 .stand) (c .1) (g .1)))
       (eqb-cases q (p + 3)))
-      (puts after h (walked rows a (opened w (saidOf x) y)) (filled kind rows inner (opened w (saidOf x) y) (entered kind rows q x (opened w (saidOf x) y) t)) l n (s .2) (c .2) (g .2)))
+      (puts after h (walked rows a (opened w (saidOf x) y)) (filled kind rows inner (opened w (saidOf x) y) (tablesWith kind rows q x (opened w (saidOf x) y) t)) l n (s .2) (c .2) (g .2)))

@@ -104,7 +104,7 @@ counted-back kind n quarters e =
     (eqb-cases kind 1)
 
 module _ (kind : ℕ) (room : Room) (rows : List ℕ) (p : ℕ) (L : Layout rows p) (p₀ : Period) where
-  abbrev pub quarters : ℕ
+  abbrev quarters : ℕ
   quarters = quartersOf p₀
 
   pub short : (q : ℕ) → q < p → q < length rows
@@ -146,7 +146,7 @@ module _ (kind : ℕ) (room : Room) (rows : List ℕ) (p : ℕ) (L : Layout rows
   abbrev InPeriod : ℕ → Type 0
   InPeriod q = (p < q) × (q < length rows)
 
-  abbrev pub InRoot : ℕ → Type 0
+  abbrev InRoot : ℕ → Type 0
   InRoot q = (1 < q) × (q < 12)
 
   -- the values of a series

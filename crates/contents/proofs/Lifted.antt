@@ -32,7 +32,7 @@ unfolding onRow
 on-same (Row q) f g h = h q
 on-same NotDue f g h = refl
 
-pub follows-said : (rows : List ℕ) (s : List (Sign Placed)) (r : ℕ) (o : Bool) → follows rows r o (map relabelled s) ≡ follows rows r o s
+follows-said : (rows : List ℕ) (s : List (Sign Placed)) (r : ℕ) (o : Bool) → follows rows r o (map relabelled s) ≡ follows rows r o s
 unfolding follows relabelled
 follows-said rows [] r o = refl
 follows-said rows (Opens x name ∷ s) r o =
@@ -85,7 +85,7 @@ conforms-said rows p kids c = record { fits = rw (taken-said kids) (c .fits); ea
 -- ---- where the items stand
 
 -- each item stands in the document
-abbrev pub Standing : List ℕ → List Placed → Type 0
+abbrev Standing : List ℕ → List Placed → Type 0
 Standing doc [] = Unit {0}
 Standing doc (x ∷ xs) = (x .rest ≡ drop (x .at) doc) × Standing doc xs
 
@@ -96,7 +96,7 @@ after-standing doc (suc k) at (b ∷ t) e = after-standing doc k (suc at) t (dro
 after-standing doc zero at (b ∷ t) e =
     (e, after-standing doc (pred (itemEnd (item at (b ∷ t)))) (suc at) t (drop-next doc at b t e))
 
-pub items-standing : (doc : List ℕ) (n : ℕ) → Standing doc (itemsFrom doc n)
+items-standing : (doc : List ℕ) (n : ℕ) → Standing doc (itemsFrom doc n)
 unfolding itemsFrom
 items-standing doc n = after-standing doc 0 n (drop n doc) refl
 

@@ -28,9 +28,9 @@ use Rattle.contents.proofs.Laid.{Layout, Valued}
 use Rattle.contents.proofs.Elements.{in-of, own, those-of, Within, none-in, none-there, within-more}
 use Rattle.contents.proofs.Shape.{in-series-row, series-in, under-root, leaf, elsewhere, comes-once}
 use Rattle.contents.proofs.Walk.{Tally, opened, walked}
-use Rattle.contents.proofs.Fill.{saidOf, saying, stateOf, entered, filled, Stands}
+use Rattle.contents.proofs.Fill.{saidOf, saying, stateOf, tablesWith, filled, Stands}
 use Rattle.contents.proofs.Lifted.{each-said, taken-said}
-use Rattle.contents.proofs.Values.{Given}
+use Rattle.contents.proofs.Values.{HasValues}
 use Rattle.contents.proofs.Views.{same-view}
 use Rattle.contents.proofs.Roles.{Role, is-series, is-interval, is-object, is-business, is-id, is-pos, is-qty, is-other, role-cases}
 use Rattle.contents.proofs.Intervals.{puts}
@@ -60,7 +60,7 @@ pub row-moved : {doc cells : List ℕ} {n m : ℕ} {id object business : List �
 row-moved e d r = rw (e, d) at r
 
 -- m rows from n on show these series, of which the first has its first interval at f
-abbrev pub RowsFrom : List ℕ → List ℕ → ℕ → ℕ → ℕ → List (List ℕ) → List (List ℕ) → List (List ℕ) → List ℕ → Type 0
+abbrev RowsFrom : List ℕ → List ℕ → ℕ → ℕ → ℕ → List (List ℕ) → List (List ℕ) → List (List ℕ) → List ℕ → Type 0
 RowsFrom doc cells n f m ids objs kinds counts =
     (i : ℕ) → i < m → RowOf doc cells (n + i) (getD ids i []) (getD objs i []) (getD kinds i []) (f + sum (take i counts)) (getD counts i 0)
 
@@ -126,7 +126,7 @@ module _ (kind : ℕ) (rows : List ℕ) (p : ℕ) (L : Layout rows p) (W : Value
   tallyIn q x y = opened (getD rows q 0) (saidOf x) y
 
   abbrev pub tablesIn : ℕ → Placed → Tally → Tables → Tables
-  tablesIn q x y t = entered kind rows q x (tallyIn q x y) t
+  tablesIn q x y t = tablesWith kind rows q x (tallyIn q x y) t
 
   abbrev pub tallyOut : ℕ → Placed → Trees Placed → Tally → Tally
   tallyOut q x inner y = walked rows (saying inner) (tallyIn q x y)
@@ -177,12 +177,12 @@ module _ (kind : ℕ) (rows : List ℕ) (p : ℕ) (L : Layout rows p) (W : Value
     pub opened-size : length (tablesIn q x y t .series) ≡ length (t .series)
     opened-size = rw opened-cells (length-set (t .series) (8 * y .series + 6) (y .intervals))
 
-    module _ (f : Fits rows q (rowsTaken inner)) (c : EachConforms rows inner) (d : Stands doc inner) (g : Given rows inner)
+    module _ (f : Fits rows q (rowsTaken inner)) (c : EachConforms rows inner) (d : Stands doc inner) (g : HasValues rows inner)
         (room : 8 * (y .series + 1) ≤ length (t .series)) where
       within : q < length rows
       within = let s = L .size in omega (arith, s, e)
 
-      pub series-effect : Effect doc (y .series) (tallyIn q x y) (tablesIn q x y t .series) (tallyOut q x inner y) (tablesOut q x inner y t .series)
+      series-effect : Effect doc (y .series) (tallyIn q x y) (tablesIn q x y t .series) (tallyOut q x inner y) (tablesOut q x inner y t .series)
           (identifications rows (saying inner)) (objects rows (saying inner)) (businessTypes rows (saying inner))
       series-effect =
           let o = opened-series .0 in
@@ -238,7 +238,7 @@ module _ (kind : ℕ) (rows : List ℕ) (p : ℕ) (L : Layout rows p) (W : Value
   -- ---- beside the series
 
   -- what a row of the root that is no series leaves as it is
-  pub record Plain (q : ℕ) (x : Placed) (inner : Trees Placed) (y : Tally) (t : Tables) : Type 0 where
+  pub record Untouched (q : ℕ) (x : Placed) (inner : Trees Placed) (y : Tally) (t : Tables) : Type 0 where
     pub bare : inner ≡ none
     pub series : tallyIn q x y .series ≡ y .series
     pub intervals : tallyIn q x y .intervals ≡ y .intervals
@@ -248,10 +248,10 @@ module _ (kind : ℕ) (rows : List ℕ) (p : ℕ) (L : Layout rows p) (W : Value
     pub not-seven : eqb (roleOf (getD rows q 0)) 7 ≡ false
     pub not-eight : eqb (roleOf (getD rows q 0)) 8 ≡ false
 
-  pub plain : (q : ℕ) (x : Placed) (inner : Trees Placed) (y : Tally) (t : Tables) → (q ≡ 12 → ⊥) → q < length rows → parentOf (getD rows q 0) ≡ 1
-      → Stand rows q (rowsTaken inner) → Plain q x inner y t
+  pub untouched : (q : ℕ) (x : Placed) (inner : Trees Placed) (y : Tally) (t : Tables) → (q ≡ 12 → ⊥) → q < length rows → parentOf (getD rows q 0) ≡ 1
+      → Stand rows q (rowsTaken inner) → Untouched q x inner y t
   unfolding tablesAfter
-  plain q x inner y t n l e s =
+  untouched q x inner y t n l e s =
       let b = under-root rows p L q l e in
       let b₀ = b .0 in
       let b₁ = b .1 in
@@ -312,12 +312,12 @@ module _ (kind : ℕ) (rows : List ℕ) (p : ℕ) (L : Layout rows p) (W : Value
   abbrev pub seriesIn : Trees Placed → ℕ
   seriesIn kids = length (those (hasRole 2) rows (saying kids))
 
-  abbrev pub FilledBy : Trees Placed → Tally → Tables → Type 0
+  abbrev FilledBy : Trees Placed → Tally → Tables → Type 0
   FilledBy kids y t =
       Filled doc (y .series) (y .intervals) (t .series) (filled kind rows kids y t .series) (seriesIn kids) (identifications rows (saying kids)) (objects rows (saying kids))
       (businessTypes rows (saying kids)) (intervalCounts rows (saying kids))
 
-  filled-plain : (q : ℕ) (x : Placed) (inner after : Trees Placed) (y : Tally) (t : Tables) → Plain q x inner y t
+  filled-plain : (q : ℕ) (x : Placed) (inner after : Trees Placed) (y : Tally) (t : Tables) → Untouched q x inner y t
       → FilledBy after (tallyIn q x y) (tablesIn q x y t) → FilledBy (element q x inner after) y t
   unfolding filled walked saying identifications objects businessTypes intervalCounts
   filled-plain q x inner after y t e h =
@@ -364,9 +364,9 @@ module _ (kind : ℕ) (rows : List ℕ) (p : ℕ) (L : Layout rows p) (W : Value
       let two : eqb (roleOf (getD rows q 0)) 2 ≡ true = rw role in
       sym (ap length (those-after rows 2 q x inner after two (o .no-series)))
 
-  pub series-filled : (kids : Trees Placed) (y : Tally) (t : Tables) → Stand rows 1 (rowsTaken kids) → EachConforms rows kids → Stands doc kids → Given rows kids
+  pub series-filled : (kids : Trees Placed) (y : Tally) (t : Tables) → Stand rows 1 (rowsTaken kids) → EachConforms rows kids → Stands doc kids → HasValues rows kids
       → 8 * (y .series + seriesIn kids) ≤ length (t .series) → ((j : ℕ) → 8 * y .series ≤ j → getD (t .series) j 0 ≡ 0) → FilledBy kids y t
-  unfolding rowsTaken Stand EachConforms Stands Given filled saying those
+  unfolding rowsTaken Stand EachConforms Stands HasValues filled saying those
   series-filled none y t s c d g room blank = record { size = refl; before = λ j l. refl; rows = λ i l. absurd (omega (arith, l)) }
   series-filled (element q x inner after) y t s c d g room blank =
       ⊎-elim
@@ -381,7 +381,7 @@ module _ (kind : ℕ) (rows : List ℕ) (p : ℕ) (L : Layout rows p) (W : Value
       (series-filled after (tallyOut q x inner y) (tablesOut q x inner y t) (s .2) (c .2) (d .3) (g .2) (omega (arith, m, room, u, v))
       (λ j l. r .beyond j (omega (arith, l, u)) ∙ blank j (omega (arith, l, u)))))
       (λ e.
-      let k = plain q x inner y t (e .0) (s .0) (s .1) (c .0 .stand) in
+      let k = untouched q x inner y t (e .0) (s .0) (s .1) (c .0 .stand) in
       let m : seriesIn (element q x inner after) ≡ seriesIn after = sym (ap length (those-plain rows 2 q x inner after (k .bare) (k .not-two))) in
       let u = k .series in
       let v = ap length (k .cells) in

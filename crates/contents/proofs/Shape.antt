@@ -161,7 +161,7 @@ module _ (rows : List ℕ) (p : ℕ) (L : Layout rows p) where
         absurd (omega (arith, a, b))
 
     -- what stands in a row comes after it in the table, at any depth
-    pub beyond : (b h : ℕ) (c : Trees A) → b ≤ h → h < length rows → Stand rows h (rowsTaken c) → EachConforms rows c
+    beyond : (b h : ℕ) (c : Trees A) → b ≤ h → h < length rows → Stand rows h (rowsTaken c) → EachConforms rows c
         → Within (λ q. (b < q) × (q < length rows)) c
     unfolding Stand rowsTaken EachConforms Within
     beyond b h none l m s each = tt
@@ -336,7 +336,7 @@ module _ (rows : List ℕ) (p : ℕ) (L : Layout rows p) where
   -- ---- a row that comes once
 
   -- any row but k
-  abbrev pub Other : ℕ → ℕ → Type 0
+  abbrev Other : ℕ → ℕ → Type 0
   Other k q = (q < length rows) × (q ≡ k → ⊥)
 
   module _ {A : Type 0} (k : ℕ) where

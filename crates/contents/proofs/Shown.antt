@@ -21,8 +21,8 @@ use Rattle.contents.proofs.Laid.{Layout, Valued}
 use Rattle.contents.proofs.Elements.{last-in, last-those}
 use Rattle.contents.proofs.Shape.{document-shape}
 use Rattle.contents.proofs.Walk.{nothing, opened, walked}
-use Rattle.contents.proofs.Fill.{saidOf, saying, stateOf, entered, filled, Stands}
-use Rattle.contents.proofs.Values.{Given}
+use Rattle.contents.proofs.Fill.{saidOf, saying, stateOf, tablesWith, filled, Stands}
+use Rattle.contents.proofs.Values.{HasValues}
 use Rattle.contents.proofs.Roles.{role-cases}
 use Rattle.contents.proofs.Intervals.{Puts, puts}
 use Rattle.contents.proofs.Series.{valueBytes, trimmedBytes}
@@ -48,7 +48,7 @@ module _ (kind : ℕ) (rows : List ℕ) (p : ℕ) (L : Layout rows p) (W : Value
   unfolding nothing
   root-tally x = rw (L .root) (refl, refl)
 
-  pub root-cells : (x : Placed) → entered kind rows 1 x (opened (getD rows 1 0) (saidOf x) nothing) (blank ns np na) .series ≡ zeros ns
+  pub root-cells : (x : Placed) → tablesWith kind rows 1 x (opened (getD rows 1 0) (saidOf x) nothing) (blank ns np na) .series ≡ zeros ns
   unfolding tablesAfter blank
   root-cells x =
       let r = L .root in
@@ -57,7 +57,7 @@ module _ (kind : ℕ) (rows : List ℕ) (p : ℕ) (L : Layout rows p) (W : Value
 
   -- ---- a conforming content
 
-  module _ (kids : Trees Placed) (c : Conforms rows 0 kids) (g : Given rows kids) where
+  module _ (kids : Trees Placed) (c : Conforms rows 0 kids) (g : HasValues rows kids) where
     all-puts : Puts nothing (blank ns np na) (walked rows (saying kids) nothing) (filled kind rows kids nothing (blank ns np na))
         (those (hasRole 4) rows (saying kids)) (map positionOf (those (hasRole 9) rows (saying kids))) (map amountIn (those (hasRole 10) rows (saying kids)))
     all-puts =
@@ -81,14 +81,14 @@ module _ (kind : ℕ) (rows : List ℕ) (p : ℕ) (L : Layout rows p) (W : Value
         ap (λ (l : List ℤ). getD l j (pos 0)) (k .amounts) ∙ sets-shown (pos 0) na (map amountIn (those (hasRole 10) rows (saying kids))) (omega (arith, m, h)) j
 
   root-filled : (x : Placed) (inner : Trees Placed) → Conforms rows 0 (element 1 x inner none) → Stands doc (element 1 x inner none)
-      → Given rows (element 1 x inner none) → 8 * seriesIn kind rows p L W doc (element 1 x inner none) ≤ ns
+      → HasValues rows (element 1 x inner none) → 8 * seriesIn kind rows p L W doc (element 1 x inner none) ≤ ns
       → Filled doc 0 0 (zeros ns) (filled kind rows (element 1 x inner none) nothing (blank ns np na) .series) (length (those (hasRole 2) rows (saying (element 1 x inner none))))
       (identifications rows (saying (element 1 x inner none))) (objects rows (saying (element 1 x inner none))) (businessTypes rows (saying (element 1 x inner none)))
       (intervalCounts rows (saying (element 1 x inner none)))
-  unfolding EachConforms Stands Given filled identifications objects businessTypes intervalCounts
+  unfolding EachConforms Stands HasValues filled identifications objects businessTypes intervalCounts
   root-filled x inner c d g room =
       let y = opened (getD rows 1 0) (saidOf x) nothing in
-      let t = entered kind rows 1 x y (blank ns np na) in
+      let t = tablesWith kind rows 1 x y (blank ns np na) in
       let a = root-tally x in
       let a₀ = a .0 in
       let z = root-cells x in
@@ -102,14 +102,14 @@ module _ (kind : ℕ) (rows : List ℕ) (p : ℕ) (L : Layout rows p) (W : Value
       (series-filled kind rows p L W doc inner y t (c .each .0 .stand) (c .each .1) (d .2) (g .1) (omega (arith, m, room, len, a₀))
       (λ j l. ap (λ (k : List ℕ). getD k j 0) z ∙ zero-all 0 ns j))
 
-  shown-series : (kids : Trees Placed) → Conforms rows 0 kids → Stands doc kids → Given rows kids → 8 * length (those (hasRole 2) rows (saying kids)) ≤ ns
+  shown-series : (kids : Trees Placed) → Conforms rows 0 kids → Stands doc kids → HasValues rows kids → 8 * length (those (hasRole 2) rows (saying kids)) ≤ ns
       → Filled doc 0 0 (zeros ns) (filled kind rows kids nothing (blank ns np na) .series) (length (those (hasRole 2) rows (saying kids)))
       (identifications rows (saying kids)) (objects rows (saying kids)) (businessTypes rows (saying kids)) (intervalCounts rows (saying kids))
   shown-series kids c d g room =
       let h = document-shape rows p L kids c in
       rw (h .is) (root-filled (h .tag) (h .inner) (rw (h .is) at c) (rw (h .is) at d) (rw (h .is) at g) (rw (h .is) at room))
 
-  pub shows : (kids : Trees Placed) → Conforms rows 0 kids → Stands doc kids → Given rows kids → 8 * length (those (hasRole 2) rows (saying kids)) ≤ ns
+  pub shows : (kids : Trees Placed) → Conforms rows 0 kids → Stands doc kids → HasValues rows kids → 8 * length (those (hasRole 2) rows (saying kids)) ≤ ns
       → length (those (hasRole 4) rows (saying kids)) ≤ np → length (those (hasRole 4) rows (saying kids)) ≤ na
       → Shows doc (filled kind rows kids nothing (blank ns np na)) rows (saying kids)
   shows kids c d g a b e =

@@ -27,11 +27,11 @@ use Rattle.contents.proofs.Laid.{Layout, Valued}
 use Rattle.contents.proofs.Elements.{own, mapped-parts}
 use Rattle.contents.proofs.Shape.{later, document-shape}
 use Rattle.contents.proofs.Walk.{Tally, nothing, opened, walked}
-use Rattle.contents.proofs.Fill.{saidOf, saying, entered, filled, Unused, Stands}
-use Rattle.contents.proofs.Values.{said-bytes, Given}
+use Rattle.contents.proofs.Fill.{saidOf, saying, tablesWith, filled, Unused, Stands}
+use Rattle.contents.proofs.Values.{said-bytes, HasValues}
 use Rattle.contents.proofs.Roles.{Role, is-series, is-interval, is-object, is-business, is-id, is-pos, is-qty, is-other, role-cases}
 use Rattle.contents.proofs.Series.{valueBytes, step-effect, no-series, inside}
-use Rattle.contents.proofs.Rows.{tallyIn, tablesIn, tallyOut, tablesOut, opened-series, opened-before, opened-size, rowed, plain, once-in, more-series, those-plain, those-after}
+use Rattle.contents.proofs.Rows.{tallyIn, tablesIn, tallyOut, tablesOut, opened-series, opened-before, opened-size, rowed, untouched, once-in, more-series, those-plain, those-after}
 use Rattle.contents.proofs.Shown.{root-those, root-role, root-tally, root-cells}
 
 -- ---- no two are the same
@@ -66,26 +66,26 @@ same-none x [] h = tt
 same-none x (z ∷ l) h = let k = among-none x z l h in (same-both z x ∙ k .0, same-none x l (k .1))
 
 -- each is not among those before it
-abbrev pub Fresh : List (List ℕ) → List (List ℕ) → Type 0
-Fresh past [] = Unit {0}
-Fresh past (x ∷ xs) = (isAmong x past ≡ false) × Fresh (x ∷ past) xs
+abbrev NoneBefore : List (List ℕ) → List (List ℕ) → Type 0
+NoneBefore past [] = Unit {0}
+NoneBefore past (x ∷ xs) = (isAmong x past ≡ false) × NoneBefore (x ∷ past) xs
 
-fresh-apart : (ids past : List (List ℕ)) → Fresh past ids → Apart ids × All (λ x. isAmong x past ≡ false) ids
+before-apart : (ids past : List (List ℕ)) → NoneBefore past ids → Apart ids × All (λ x. isAmong x past ≡ false) ids
 unfolding Apart All
-fresh-apart [] past h = (tt, tt)
-fresh-apart (x ∷ xs) past h =
-    let k = fresh-apart xs (x ∷ past) (h .1) in
+before-apart [] past h = (tt, tt)
+before-apart (x ∷ xs) past h =
+    let k = before-apart xs (x ∷ past) (h .1) in
     (
       (none-same x xs (all-change (λ z. isAmong z (x ∷ past) ≡ false) (λ z. same z x ≡ false) xs (λ z e. among-none z x past e .0) (k .1)), k .0),
       (h .0, all-change (λ z. isAmong z (x ∷ past) ≡ false) (λ z. isAmong z past ≡ false) xs (λ z e. among-none z x past e .1) (k .1)),
     )
 
-apart-fresh : (ids past : List (List ℕ)) → Apart ids → All (λ x. isAmong x past ≡ false) ids → Fresh past ids
+apart-before : (ids past : List (List ℕ)) → Apart ids → All (λ x. isAmong x past ≡ false) ids → NoneBefore past ids
 unfolding Apart All
-apart-fresh [] past h k = tt
-apart-fresh (x ∷ xs) past h k = (
+apart-before [] past h k = tt
+apart-before (x ∷ xs) past h k = (
   k .0,
-  apart-fresh xs (x ∷ past) (h .1)
+  apart-before xs (x ∷ past) (h .1)
       (all-both (λ z. same z x ≡ false) (λ z. isAmong z past ≡ false) (λ z. isAmong z (x ∷ past) ≡ false) xs (λ z a b. among-made z x past a b)
       (same-none x xs (h .0)) (k .1)),
 )
@@ -104,7 +104,7 @@ module _ (doc : List ℕ) where
   used-kept t u (suc n) id k = rw (used-kept t u n id (λ j l. k j (omega (arith, l))), k (8 * n) (omega arith), k (8 * n + 1) (omega arith))
 
   -- the first n rows show these
-  abbrev pub Knows : List ℕ → ℕ → List (List ℕ) → Type 0
+  abbrev Knows : List ℕ → ℕ → List (List ℕ) → Type 0
   Knows t n past = (id : List ℕ) → used doc t n id ≡ isAmong id past
 
   knows-on : (t u : List ℕ) (n : ℕ) (past : List (List ℕ)) (x : List ℕ) → ((j : ℕ) → j < 8 * n → getD u j 0 ≡ getD t j 0) → view doc u (8 * n) ≡ x
@@ -152,14 +152,14 @@ module _ (kind : ℕ) (rows : List ℕ) (p : ℕ) (L : Layout rows p) (W : Value
   -- ---- in a series
 
   inside-unused : (kids : Trees Placed) (h i : ℕ) (y : Tally) (t : Tables) → 12 ≤ h → h < length rows → Stand rows h (rowsTaken kids) → EachConforms rows kids
-      → Stands doc kids → Given rows kids → y .series ≡ suc i → 8 * i + 8 ≤ length (t .series)
+      → Stands doc kids → HasValues rows kids → y .series ≡ suc i → 8 * i + 8 ≤ length (t .series)
       → Unused doc kind rows kids y t ↔ All (NotUsed doc (t .series) i) (identifications rows (saying kids))
-  unfolding Unused rowsTaken Stand EachConforms Stands Given saying identifications those All tablesAfter
+  unfolding Unused rowsTaken Stand EachConforms Stands HasValues saying identifications those All tablesAfter
   inside-unused none h i y t a l s c d g e m = ((λ u. tt), (λ u. tt))
   inside-unused (element q x inner after) h i y t a l s c d g e m =
       let w = getD rows q 0 in
       let y₁ = opened w (saidOf x) y in
-      let t₁ = entered kind rows q x y₁ t in
+      let t₁ = tablesWith kind rows q x y₁ t in
       let y₂ = walked rows (saying inner) y₁ in
       let t₂ = filled kind rows inner y₁ t₁ in
       let b = later rows p L h q l (s .0) (s .1) in
@@ -184,9 +184,9 @@ module _ (kind : ℕ) (rows : List ℕ) (p : ℕ) (L : Layout rows p) (W : Value
       (λ z. ((λ u. sym (keep₂ z ∙ keep z) ∙ u), (λ u. keep₂ z ∙ keep z ∙ u)))
 
   within-unused : (q : ℕ) (x : Placed) (inner : Trees Placed) (y : Tally) (t : Tables) (past : List (List ℕ)) (id : Said) → q ≡ 12 → q < length rows
-      → Fits rows q (rowsTaken inner) → EachConforms rows inner → Stands doc inner → Given rows inner → 8 * (y .series + 1) ≤ length (t .series)
+      → Fits rows q (rowsTaken inner) → EachConforms rows inner → Stands doc inner → HasValues rows inner → 8 * (y .series + 1) ≤ length (t .series)
       → those (hasRole 8) rows (saying inner) ≡ id ∷ [] → Knows doc (t .series) (y .series) past
-      → Unused doc kind rows inner (opened (getD rows q 0) (saidOf x) y) (entered kind rows q x (opened (getD rows q 0) (saidOf x) y) t) ↔ (isAmong (valueBytes id) past ≡ false)
+      → Unused doc kind rows inner (opened (getD rows q 0) (saidOf x) y) (tablesWith kind rows q x (opened (getD rows q 0) (saidOf x) y) t) ↔ (isAmong (valueBytes id) past ≡ false)
   unfolding identifications All
   within-unused q x inner y t past id e l f c d g room o k =
       let y₁ = tallyIn kind rows p L W doc q x y in
@@ -211,37 +211,37 @@ module _ (kind : ℕ) (rows : List ℕ) (p : ℕ) (L : Layout rows p) (W : Value
       not-used doc r (positionOf (saidOf x)) t (spanOf (x .item)) (x .rest) (opened (getD rows q 0) (saidOf x) y .series) (role-cases r) n
 
   plain-unused : (q : ℕ) (x : Placed) (inner after : Trees Placed) (y : Tally) (t : Tables) (past : List (List ℕ)) → inner ≡ none → eqb (roleOf (getD rows q 0)) 8 ≡ false
-      → Unused doc kind rows after (opened (getD rows q 0) (saidOf x) y) (entered kind rows q x (opened (getD rows q 0) (saidOf x) y) t)
-      ↔ Fresh past (identifications rows (saying after))
-      → Unused doc kind rows (element q x inner after) y t ↔ Fresh past (identifications rows (saying (element q x inner after)))
+      → Unused doc kind rows after (opened (getD rows q 0) (saidOf x) y) (tablesWith kind rows q x (opened (getD rows q 0) (saidOf x) y) t)
+      ↔ NoneBefore past (identifications rows (saying after))
+      → Unused doc kind rows (element q x inner after) y t ↔ NoneBefore past (identifications rows (saying (element q x inner after)))
   unfolding Unused walked filled saying identifications
   plain-unused q x inner after y t past e n h =
       let l = ap (map valueBytes) (those-plain rows 8 q x inner after e n) in
       let none-used = step-none q x y (t .series) n in (
-        (λ u. subst (Fresh past) l (h .0 (rw e at (u .2)))),
-        (λ u. (none-used, rw e tt, rw e (h .1 (subst (Fresh past) (sym l) u)))),
+        (λ u. subst (NoneBefore past) l (h .0 (rw e at (u .2)))),
+        (λ u. (none-used, rw e tt, rw e (h .1 (subst (NoneBefore past) (sym l) u)))),
       )
 
   series-unused : (q : ℕ) (x : Placed) (inner after : Trees Placed) (y : Tally) (t : Tables) (past : List (List ℕ)) (id : Said) → eqb (roleOf (getD rows q 0)) 8 ≡ false
       → those (hasRole 8) rows (saying inner) ≡ id ∷ []
-      → Unused doc kind rows inner (opened (getD rows q 0) (saidOf x) y) (entered kind rows q x (opened (getD rows q 0) (saidOf x) y) t) ↔ (isAmong (valueBytes id) past ≡ false)
+      → Unused doc kind rows inner (opened (getD rows q 0) (saidOf x) y) (tablesWith kind rows q x (opened (getD rows q 0) (saidOf x) y) t) ↔ (isAmong (valueBytes id) past ≡ false)
       → Unused doc kind rows after (walked rows (saying inner) (opened (getD rows q 0) (saidOf x) y))
-      (filled kind rows inner (opened (getD rows q 0) (saidOf x) y) (entered kind rows q x (opened (getD rows q 0) (saidOf x) y) t))
-      ↔ Fresh (valueBytes id ∷ past) (identifications rows (saying after))
-      → Unused doc kind rows (element q x inner after) y t ↔ Fresh past (identifications rows (saying (element q x inner after)))
+      (filled kind rows inner (opened (getD rows q 0) (saidOf x) y) (tablesWith kind rows q x (opened (getD rows q 0) (saidOf x) y) t))
+      ↔ NoneBefore (valueBytes id ∷ past) (identifications rows (saying after))
+      → Unused doc kind rows (element q x inner after) y t ↔ NoneBefore past (identifications rows (saying (element q x inner after)))
   unfolding Unused saying identifications
   series-unused q x inner after y t past id n e h k =
       let l = ap (map valueBytes) (those-after rows 8 q x inner after n e) in
       let none-used = step-none q x y (t .series) n in (
-        (λ u. subst (Fresh past) l (h .0 (u .1), k .0 (u .2))),
-        (λ u. let v : Fresh past (valueBytes id ∷ identifications rows (saying after)) = subst (Fresh past) (sym l) u in (none-used, h .1 (v .0), k .1 (v .1))),
+        (λ u. subst (NoneBefore past) l (h .0 (u .1), k .0 (u .2))),
+        (λ u. let v : NoneBefore past (valueBytes id ∷ identifications rows (saying after)) = subst (NoneBefore past) (sym l) u in (none-used, h .1 (v .0), k .1 (v .1))),
       )
 
-  beside-unused : (kids : Trees Placed) (y : Tally) (t : Tables) (past : List (List ℕ)) → Stand rows 1 (rowsTaken kids) → EachConforms rows kids → Stands doc kids → Given rows kids
+  beside-unused : (kids : Trees Placed) (y : Tally) (t : Tables) (past : List (List ℕ)) → Stand rows 1 (rowsTaken kids) → EachConforms rows kids → Stands doc kids → HasValues rows kids
       → 8 * (y .series + length (those (hasRole 2) rows (saying kids))) ≤ length (t .series) → ((j : ℕ) → 8 * y .series ≤ j → getD (t .series) j 0 ≡ 0)
       → Knows doc (t .series) (y .series) past
-      → Unused doc kind rows kids y t ↔ Fresh past (identifications rows (saying kids))
-  unfolding Unused rowsTaken Stand EachConforms Stands Given saying identifications those
+      → Unused doc kind rows kids y t ↔ NoneBefore past (identifications rows (saying kids))
+  unfolding Unused rowsTaken Stand EachConforms Stands HasValues saying identifications those
   beside-unused none y t past s c d g room blank k = ((λ u. tt), (λ u. tt))
   beside-unused (element q x inner after) y t past s c d g room blank k =
       ⊎-elim
@@ -269,7 +269,7 @@ module _ (kind : ℕ) (rows : List ℕ) (p : ℕ) (L : Layout rows p) (W : Value
       (λ e.
       let y₁ = tallyIn kind rows p L W doc q x y in
       let t₁ = tablesIn kind rows p L W doc q x y t in
-      let b = plain kind rows p L W doc q x inner y t (e .0) (s .0) (s .1) (c .0 .stand) in
+      let b = untouched kind rows p L W doc q x inner y t (e .0) (s .0) (s .1) (c .0 .stand) in
       let more = ap length (those-plain rows 2 q x inner after (b .bare) (b .not-two)) in
       let u = b .series in
       let v = ap length (b .cells) in
@@ -281,12 +281,12 @@ module _ (kind : ℕ) (rows : List ℕ) (p : ℕ) (L : Layout rows p) (W : Value
 
 module _ (kind : ℕ) (rows : List ℕ) (p : ℕ) (L : Layout rows p) (W : Valued rows) (doc : List ℕ) (ns np na : ℕ) where
   root-unused : (x : Placed) (inner : Trees Placed) → Conforms rows 0 (element 1 x inner none) → Stands doc (element 1 x inner none)
-      → Given rows (element 1 x inner none) → 8 * length (those (hasRole 2) rows (saying (element 1 x inner none))) ≤ ns
-      → Unused doc kind rows (element 1 x inner none) nothing (blank ns np na) ↔ Fresh [] (identifications rows (saying (element 1 x inner none)))
-  unfolding EachConforms Stands Given Unused identifications used isAmong
+      → HasValues rows (element 1 x inner none) → 8 * length (those (hasRole 2) rows (saying (element 1 x inner none))) ≤ ns
+      → Unused doc kind rows (element 1 x inner none) nothing (blank ns np na) ↔ NoneBefore [] (identifications rows (saying (element 1 x inner none)))
+  unfolding EachConforms Stands HasValues Unused identifications used isAmong
   root-unused x inner c d g room =
       let y = opened (getD rows 1 0) (saidOf x) nothing in
-      let t = entered kind rows 1 x y (blank ns np na) in
+      let t = tablesWith kind rows 1 x y (blank ns np na) in
       let a₀ = root-tally kind rows p L W doc ns np na x .0 in
       let z = root-cells kind rows p L W doc ns np na x in
       let m = ap length (root-those kind rows p L W doc ns np na 2 x inner refl) in
@@ -296,21 +296,21 @@ module _ (kind : ℕ) (rows : List ℕ) (p : ℕ) (L : Layout rows p) (W : Value
       let h = beside-unused kind rows p L W doc inner y t [] (c .each .0 .stand) (c .each .1) (d .2) (g .1) (omega (arith, m, room, len, a₀))
       (λ j b. ap (λ (k : List ℕ). getD k j 0) z ∙ zero-all 0 ns j)
       (λ i. ap (λ (k : ℕ). used doc (t .series) k i) a₀) in (
-        (λ u. subst (Fresh []) l (h .0 (u .1))),
-        (λ u. (none-used, h .1 (subst (Fresh []) (sym l) u), tt)),
+        (λ u. subst (NoneBefore []) l (h .0 (u .1))),
+        (λ u. (none-used, h .1 (subst (NoneBefore []) (sym l) u), tt)),
       )
 
-  all-unused : (kids : Trees Placed) → Conforms rows 0 kids → Stands doc kids → Given rows kids → 8 * length (those (hasRole 2) rows (saying kids)) ≤ ns
-      → Unused doc kind rows kids nothing (blank ns np na) ↔ Fresh [] (identifications rows (saying kids))
+  all-unused : (kids : Trees Placed) → Conforms rows 0 kids → Stands doc kids → HasValues rows kids → 8 * length (those (hasRole 2) rows (saying kids)) ≤ ns
+      → Unused doc kind rows kids nothing (blank ns np na) ↔ NoneBefore [] (identifications rows (saying kids))
   all-unused kids c d g room =
       let h = document-shape rows p L kids c in
       rw (h .is) (root-unused (h .tag) (h .inner) (rw (h .is) at c) (rw (h .is) at d) (rw (h .is) at g) (rw (h .is) at room))
 
-  pub unused-apart : (kids : Trees Placed) → Conforms rows 0 kids → Stands doc kids → Given rows kids → 8 * length (those (hasRole 2) rows (saying kids)) ≤ ns
+  pub unused-apart : (kids : Trees Placed) → Conforms rows 0 kids → Stands doc kids → HasValues rows kids → 8 * length (those (hasRole 2) rows (saying kids)) ≤ ns
       → Unused doc kind rows kids nothing (blank ns np na) → Apart (identifications rows (saying kids))
-  unused-apart kids c d g room u = fresh-apart (identifications rows (saying kids)) [] (all-unused kids c d g room .0 u) .0
+  unused-apart kids c d g room u = before-apart (identifications rows (saying kids)) [] (all-unused kids c d g room .0 u) .0
 
-  pub apart-unused : (kids : Trees Placed) → Conforms rows 0 kids → Stands doc kids → Given rows kids → 8 * length (those (hasRole 2) rows (saying kids)) ≤ ns
+  pub apart-unused : (kids : Trees Placed) → Conforms rows 0 kids → Stands doc kids → HasValues rows kids → 8 * length (those (hasRole 2) rows (saying kids)) ≤ ns
       → Apart (identifications rows (saying kids)) → Unused doc kind rows kids nothing (blank ns np na)
   apart-unused kids c d g room a =
-      all-unused kids c d g room .1 (apart-fresh (identifications rows (saying kids)) [] a (none-past (identifications rows (saying kids))))
+      all-unused kids c d g room .1 (apart-before (identifications rows (saying kids)) [] a (none-past (identifications rows (saying kids))))

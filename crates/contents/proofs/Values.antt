@@ -15,8 +15,7 @@ use Rattle.states.specs.Attributes.{there, agree, asksV, asksScheme, noOthers}
 use Rattle.reader.specs.Items.{Placed}
 use Rattle.reader.specs.Rows.{spanOf, quoted}
 use Rattle.trees.specs.Trees.{Trees, none, element}
-use Rattle.contents.specs.Said.{Absent, Said, given, bytes}
-use Rattle.contents.specs.Said.{Given as There}
+use Rattle.contents.specs.Said.{Absent, Given, Said, given, bytes}
 use Rattle.contents.specs.Spelled.{valueIn, saidBy}
 use Rattle.contents.specs.Legal.{hasRole, Period, attributesFit, elementFits, Each}
 use Rattle.contents.proofs.Tests.{and-parts}
@@ -28,7 +27,7 @@ pub given-there : (x : Span) (s : List ℕ) → given (valueIn x s) ≡ there x
 unfolding valueIn given
 given-there x s = by (there x)
   where
-    by : (t : Bool) → given (cond t (There (partOf s (x .start) (x .len))) Absent) ≡ t
+    by : (t : Bool) → given (cond t (Given (partOf s (x .start) (x .len))) Absent) ≡ t
     by true = refl
     by false = refl
 
@@ -66,10 +65,10 @@ said-bytes x e = item-bytes (x .item) (x .rest) e
 -- ---- values that have to be there
 
 -- each element whose row asks for `v` has it
-unfoldable pub Given : List ℕ → Trees Placed → Type 0
-Given rows none = Unit {0}
-Given rows (element q x inner after) =
-    (asksV (getD rows q 0) ≡ true → there (spanOf (x .item)) ≡ true) × Given rows inner × Given rows after
+unfoldable pub HasValues : List ℕ → Trees Placed → Type 0
+HasValues rows none = Unit {0}
+HasValues rows (element q x inner after) =
+    (asksV (getD rows q 0) ≡ true → there (spanOf (x .item)) ≡ true) × HasValues rows inner × HasValues rows after
 
 asked-given : (w : ℕ) (s : Said) → attributesFit w s ≡ true → asksV w ≡ true → given (s .v) ≡ true
 unfolding attributesFit
@@ -89,8 +88,8 @@ given-item (Text w e) s h = absurd (zero-not-one (cc))
 given-item (Comment e) s h = absurd (zero-not-one (cc))
 given-item (Refused p) s h = absurd (zero-not-one (cc))
 
-pub each-given : (kind : ℕ) (q : Period) (rows : List ℕ) (kids : Trees Placed) → Each (elementFits kind q) rows (saying kids) → Given rows kids
-unfolding Each Given saying elementFits
+pub each-given : (kind : ℕ) (q : Period) (rows : List ℕ) (kids : Trees Placed) → Each (elementFits kind q) rows (saying kids) → HasValues rows kids
+unfolding Each HasValues saying elementFits
 each-given kind q rows none e = tt
 each-given kind q rows (element r x inner after) e = (
   (λ a. given-item (x .item) (x .rest) (asked-given (getD rows r 0) (saidOf x) (and-parts (attributesFit (getD rows r 0) (saidOf x)) _ (e .0) .0) a)),

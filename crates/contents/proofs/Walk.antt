@@ -1,5 +1,5 @@
 -- A walk over a content, from its first tag to its last: what the reading state holds along it, and what each tag has to pass. Between the reader, which
--- keeps a state, and the rules of specs/Legal.antt, which have none.
+-- keeps a state, and the rules of specs/Legal.antt, which have none. Assumes nothing.
 use Prim.Native.Nat.{ℕ, _+_, _-_, _<_}
 use mathlib.Core.Path.{_≡_}
 use mathlib.Core.List.{List}
