@@ -418,9 +418,9 @@ module _ (kind : ℕ) (room : Room) (rows : List ℕ) (p : ℕ) (L : Layout rows
           },
           deep-passes inner (sh .deep) yp period-now period-holds d,
           (λ _.
-          ap (λ m. countRefusal kind m (walked rows inner yp .intervals - walked rows inner yp .first)) quarters-there
-          ∙ ap (λ m. countRefusal kind quarters m) count-there
-          ∙ k .0),
+              ap (λ m. countRefusal kind m (walked rows inner yp .intervals - walked rows inner yp .first)) quarters-there
+              ∙ ap (λ m. countRefusal kind quarters m) count-there
+              ∙ k .0),
           tt,
         )
 

@@ -81,9 +81,9 @@ pub joined : {A S U Z : Type 0} (P Q R : A → Type 0) (a b c l : List A) → l 
     → ((z : A) → Q z ↔ P z) → ((z : A) → R z ↔ P z) → (S × U × Z) ↔ All P l
 joined P Q R a b c l e s u z f g = (
   (λ h. subst (All P) (sym e)
-  (all-join P a (b ++ c) (s .0 (h .0)) (all-join P b c (all-change Q P b (λ i k. f i .0 k) (u .0 (h .1))) (all-change R P c (λ i k. g i .0 k) (z .0 (h .2)))))),
+      (all-join P a (b ++ c) (s .0 (h .0)) (all-join P b c (all-change Q P b (λ i k. f i .0 k) (u .0 (h .1))) (all-change R P c (λ i k. g i .0 k) (z .0 (h .2)))))),
   (λ h.
-  let k = all-split P a (b ++ c) (subst (All P) e h) in
-  let m = all-split P b c (k .1) in
-  (s .1 (k .0), u .1 (all-change P Q b (λ i k. f i .1 k) (m .0)), z .1 (all-change P R c (λ i k. g i .1 k) (m .1)))),
+      let k = all-split P a (b ++ c) (subst (All P) e h) in
+      let m = all-split P b c (k .1) in
+      (s .1 (k .0), u .1 (all-change P Q b (λ i k. f i .1 k) (m .0)), z .1 (all-change P R c (λ i k. g i .1 k) (m .1)))),
 )

@@ -381,7 +381,7 @@ module _ (rows : List ℕ) (p : ℕ) (L : Layout rows p) where
           let t : eqb (roleOf (getD rows q 0)) role ≡ true = eq-eqb (roleOf (getD rows q 0)) role (ap (λ (j : ℕ). roleOf (getD rows j 0)) (e .0) ∙ r) in (
             x,
             those-of rows (hasRole role) q x inner after t inside
-            ∙ ap (λ (l : List A). x ∷ l) (gone after (not-again after q (omega (arith, e .0)) (i .0) (i .1) (s .2) (each .2))),
+                ∙ ap (λ (l : List A). x ∷ l) (gone after (not-again after q (omega (arith, e .0)) (i .0) (i .1) (s .2) (each .2))),
           ))
           (λ e.
           let n : eqb (roleOf (getD rows q 0)) role ≡ false = ne-eqb (roleOf (getD rows q 0)) role (λ d. e .0 (only q (s .0) d)) in

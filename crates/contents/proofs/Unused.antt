@@ -74,8 +74,7 @@ before-apart : (ids past : List (List ℕ)) → NoneBefore past ids → Apart id
 unfolding Apart All
 before-apart [] past h = (tt, tt)
 before-apart (x ∷ xs) past h =
-    let k = before-apart xs (x ∷ past) (h .1) in
-    (
+    let k = before-apart xs (x ∷ past) (h .1) in (
       (none-same x xs (all-change (λ z. isAmong z (x ∷ past) ≡ false) (λ z. same z x ≡ false) xs (λ z e. among-none z x past e .0) (k .1)), k .0),
       (h .0, all-change (λ z. isAmong z (x ∷ past) ≡ false) (λ z. isAmong z past ≡ false) xs (λ z e. among-none z x past e .1) (k .1)),
     )
