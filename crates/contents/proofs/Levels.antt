@@ -3,7 +3,7 @@
 use Prim.Native.Nat.{ℕ, _+_, _-_, _≤_, _<_}
 use mathlib.Core.Path.{_≡_, refl, sym, ap, subst, _∙_}
 use mathlib.Core.List.{List, [], _++_, map, append-nil}
-use mathlib.Core.Logic.{_⊎_, inl, inr, ⊎-elim}
+use mathlib.Core.Logic.{_⊎_, inl, inr, ⊎-elim, _↔_}
 use mathlib.Core.Bool.{true, false, cond, _&&_}
 use native.Mathlib.Omega.{arith}
 use lib.Dec.{eqb, leb}
@@ -25,7 +25,7 @@ use Rattle.contents.proofs.Elements.{Within, within-more, beside, no-ro
 use Rattle.contents.proofs.Shape.{SeriesShape}
 use Rattle.contents.proofs.Walk.{Tally, opened, walked, quartersIn, Passes}
 use Rattle.contents.proofs.Tallies.{unchanged, intervals-walked, originals-walked, first-walked}
-use Rattle.contents.proofs.Segments.{Holds, Plain, Segment, passes-fit, fit-passes}
+use Rattle.contents.proofs.Segments.{Holds, Plain, Segment, passes-segment}
 
 -- ---- the rule of one element, and the period
 
@@ -150,30 +150,17 @@ module _ (kind : ℕ) (room : Room) (rows : List ℕ) (p : ℕ) (L : Layout rows
   InRoot q = (1 < q) × (q < 12)
 
   -- the values of a series
-  head-fit : (c : Trees Said) → Within InHead c → (y : Tally) → Now y → Holds kind room y → Passes kind room rows c y → Segment kind room rows p₀ c y
-  head-fit =
-      passes-fit kind room rows p₀ InHead Now (λ q r. head-plain q (λ e. omega (arith, e, r .0)) (r .1))
-      (λ q s y r i. now-kept q s y (short q (r .1)) (λ e. omega (arith, e, r .0)) i)
-      (λ q s y r i. now-fits q s y i) (λ q y r i e. i)
-
-  head-passes : (c : Trees Said) → Within InHead c → (y : Tally) → Now y → Holds kind room y → Segment kind room rows p₀ c y → Passes kind room rows c y
-  head-passes =
-      fit-passes kind room rows p₀ InHead Now (λ q r. head-plain q (λ e. omega (arith, e, r .0)) (r .1))
+  head-segment : (c : Trees Said) → Within InHead c → (y : Tally) → Now y → Holds kind room y → Passes kind room rows c y ↔ Segment kind room rows p₀ c y
+  head-segment =
+      passes-segment kind room rows p₀ InHead Now (λ q r. head-plain q (λ e. omega (arith, e, r .0)) (r .1))
       (λ q s y r i. now-kept q s y (short q (r .1)) (λ e. omega (arith, e, r .0)) i)
       (λ q s y r i. now-fits q s y i) (λ q y r i e. i)
 
   -- what stands in a Period
-  deep-fit : (c : Trees Said) → Within InPeriod c → (y : Tally) → Now y → Holds kind room y → Passes kind room rows c y → Segment kind room rows p₀ c y
-  deep-fit =
+  deep-segment : (c : Trees Said) → Within InPeriod c → (y : Tally) → Now y → Holds kind room y → Passes kind room rows c y ↔ Segment kind room rows p₀ c y
+  deep-segment =
       let w = L .wide in
-      passes-fit kind room rows p₀ InPeriod Now deep-plain
-      (λ q s y r i. now-kept q s y (r .1) (λ e. omega (arith, e, r .0, w)) i)
-      (λ q s y r i. now-fits q s y i) (λ q y r i e. i)
-
-  deep-passes : (c : Trees Said) → Within InPeriod c → (y : Tally) → Now y → Holds kind room y → Segment kind room rows p₀ c y → Passes kind room rows c y
-  deep-passes =
-      let w = L .wide in
-      fit-passes kind room rows p₀ InPeriod Now deep-plain
+      passes-segment kind room rows p₀ InPeriod Now deep-plain
       (λ q s y r i. now-kept q s y (r .1) (λ e. omega (arith, e, r .0, w)) i)
       (λ q s y r i. now-fits q s y i) (λ q y r i e. i)
 
@@ -193,11 +180,8 @@ module _ (kind : ℕ) (room : Room) (rows : List ℕ) (p : ℕ) (L : Layout rows
       let z = L .only-pos-form q (short q (omega (arith, r .1, w))) e in
       absurd (omega (arith, z, r .1, w))
 
-  pub root-fit : (c : Trees Said) → Within InRoot c → (y : Tally) → Unit {0} → Holds kind room y → Passes kind room rows c y → Segment kind room rows p₀ c y
-  root-fit = passes-fit kind room rows p₀ InRoot (λ y. Unit {0}) root-plain (λ q s y r i. tt) root-any root-now
-
-  pub root-passes : (c : Trees Said) → Within InRoot c → (y : Tally) → Unit {0} → Holds kind room y → Segment kind room rows p₀ c y → Passes kind room rows c y
-  root-passes = fit-passes kind room rows p₀ InRoot (λ y. Unit {0}) root-plain (λ q s y r i. tt) root-any root-now
+  pub root-segment : (c : Trees Said) → Within InRoot c → (y : Tally) → Holds kind room y → Passes kind room rows c y ↔ Segment kind room rows p₀ c y
+  root-segment c h y a = passes-segment kind room rows p₀ InRoot (λ y. Unit {0}) root-plain (λ q s y r i. tt) root-any root-now c h y tt a
 
   -- ---- a series
 
@@ -348,8 +332,8 @@ module _ (kind : ℕ) (room : Room) (rows : List ℕ) (p : ℕ) (L : Layout rows
     passes-rules-at t =
         let u = passes-parts kind room rows head period y t in
         let b = u .1 in
-        let g = head-fit head (sh .heads) y (f .now) holds (u .0) in
-        let d = deep-fit inner (sh .deep) yp period-now period-holds (b .1) in
+        let g = head-segment head (sh .heads) y (f .now) holds .0 (u .0) in
+        let d = deep-segment inner (sh .deep) yp period-now period-holds .0 (b .1) in
         let n : length (those (hasRole 4) rows (beside head period)) ≡ length (those (hasRole 4) rows inner) = ap length intervals-there in
         let a = period-intervals in
         let c = period-first in
@@ -405,7 +389,7 @@ module _ (kind : ℕ) (room : Room) (rows : List ℕ) (p : ℕ) (L : Layout rows
           few = λ o. let z = k .1 o in omega (arith, z, a, c);
           fit = let z = r .fit in omega (arith, z, a, n);
         } in
-        passes-beside kind room rows head period y (head-passes head (sh .heads) y (f .now) holds g) (
+        passes-beside kind room rows head period y (head-segment head (sh .heads) y (f .now) holds .1 g) (
           record {
             fits = now-fits p (sh .tag) yh head-now ∙ e .1 .0;
             turn = λ z. let u = L .only-pos-form p inside z in absurd (omega (arith, u));
@@ -416,7 +400,7 @@ module _ (kind : ℕ) (room : Room) (rows : List ℕ) (p : ℕ) (L : Layout rows
                 let o : yh .originals ≡ length (those (hasRole 5) rows (beside head period)) = head-originals ∙ ap length (sym originals-there) in
                 ⊎-elim (λ z. inl (o ∙ z)) (λ z. inr (o ∙ z)) (r .fits .originals);
           },
-          deep-passes inner (sh .deep) yp period-now period-holds d,
+          deep-segment inner (sh .deep) yp period-now period-holds .1 d,
           (λ _.
               ap (λ m. countRefusal kind m (walked rows inner yp .intervals - walked rows inner yp .first)) quarters-there
               ∙ ap (λ m. countRefusal kind quarters m) count-there

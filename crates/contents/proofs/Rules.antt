@@ -19,7 +19,7 @@ use Rattle.contents.proofs.Shape.{SeriesShape, AllSeries, RootShape, Do
 use Rattle.contents.proofs.Walk.{Tally, nothing, opened, walked, Passes}
 use Rattle.contents.proofs.Tallies.{unchanged, intervals-walked, series-walked, period-walked}
 use Rattle.contents.proofs.Segments.{Holds, Segment}
-use Rattle.contents.proofs.Levels.{fits-any, passes-parts, passes-beside, short, Now, now-kept, now-fits, root-fit, root-passes, SeriesRules, Fresh}
+use Rattle.contents.proofs.Levels.{fits-any, passes-parts, passes-beside, short, Now, now-kept, now-fits, root-segment, SeriesRules, Fresh}
 use Rattle.contents.proofs.Levels.{passes-rules as series-rules}
 use Rattle.contents.proofs.Levels.{rules-passes as series-passes}
 
@@ -314,7 +314,7 @@ module _ (kind : ℕ) (room : Room) (rows : List ℕ) (p : ℕ) (L : Layout rows
   unfolding Passes Each
   passes-whole t =
       let u = passes-parts kind room rows head tail yr (t .1) in
-      let g = root-fit kind room rows p L p₀ head (sh .heads) yr tt holds (u .0) in
+      let g = root-segment kind room rows p L p₀ head (sh .heads) yr holds .0 (u .0) in
       let i = head-intervals in
       let n = head-series in
       let a = all-rules kind room rows p L p₀ tail (sh .all) yh head-now (omega (arith, i)) (omega (arith, n)) (u .1) in
@@ -369,7 +369,7 @@ module _ (kind : ℕ) (room : Room) (rows : List ℕ) (p : ℕ) (L : Layout rows
           another = λ o. absurd (omega (arith, o, root));
           originals = λ o. absurd (omega (arith, o, root));
         },
-        passes-beside kind room rows head tail yr (root-passes kind room rows p L p₀ head (sh .heads) yr tt holds g)
+        passes-beside kind room rows head tail yr (root-segment kind room rows p L p₀ head (sh .heads) yr holds .1 g)
             (all-passes kind room rows p L p₀ tail (sh .all) yh head-now (omega (arith, i)) (omega (arith, n)) a),
         (λ o. absurd (omega (arith, o, root))),
         tt,

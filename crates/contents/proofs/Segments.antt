@@ -4,7 +4,7 @@ use Prim.Native.Nat.{ℕ, _+_, _-_, _≤_, _<_}
 use mathlib.Core.Path.{_≡_, refl, sym, ap, _∙_}
 use mathlib.Core.List.{List, _∷_, _++_, map, map-append}
 use mathlib.Core.Bool.{true, false, cond, _&&_}
-use mathlib.Core.Logic.{⊎-elim}
+use mathlib.Core.Logic.{⊎-elim, _↔_}
 use native.Mathlib.Omega.{arith}
 use lib.Dec.{eqb, ltb}
 use lib.ListN.{length, getD}
@@ -167,7 +167,7 @@ module _ (kind : ℕ) (room : Room) (rows : List ℕ) (p₀ : Period) (R : ℕ �
       (omega (arith, u, a .fit), λ k. omega (arith, u, a .few k)))
       (eqb-cases (roleOf w) 4)
 
-  pub passes-fit : (c : Trees Said) → Within R c → (y : Tally) → I y → Holds kind room y → Passes kind room rows c y → Segment kind room rows p₀ c y
+  passes-fit : (c : Trees Said) → Within R c → (y : Tally) → I y → Holds kind room y → Passes kind room rows c y → Segment kind room rows p₀ c y
   unfolding Within Passes Each inTurn those walked quartersOf
   passes-fit none h y i a t =
       record { each = tt; turns = refl; few = λ k. let u = a .few k in omega (arith, u); fit = let u = a .fit in omega (arith, u) }
@@ -197,7 +197,7 @@ module _ (kind : ℕ) (room : Room) (rows : List ℕ) (p₀ : Period) (R : ℕ �
         fit = let u = g₂ .fit in omega (arith, l, n₁, n₂, u);
       }
 
-  pub fit-passes : (c : Trees Said) → Within R c → (y : Tally) → I y → Holds kind room y → Segment kind room rows p₀ c y → Passes kind room rows c y
+  fit-passes : (c : Trees Said) → Within R c → (y : Tally) → I y → Holds kind room y → Segment kind room rows p₀ c y → Passes kind room rows c y
   unfolding Within Passes Each inTurn those walked quartersOf
   fit-passes none h y i a g = tt
   fit-passes (element q s inner after) h y i a g =
@@ -243,3 +243,6 @@ module _ (kind : ℕ) (room : Room) (rows : List ℕ) (p₀ : Period) (R : ℕ �
         (λ e. absurd (plain q (h .0) .not-period e)),
         fit-passes after (h .2) y₂ (invariant rows I R keep inner (h .1) y₁ i₁) (after-holds inner (h .1) y₁ a₁ g₁) g₂,
       )
+
+  pub passes-segment : (c : Trees Said) → Within R c → (y : Tally) → I y → Holds kind room y → Passes kind room rows c y ↔ Segment kind room rows p₀ c y
+  passes-segment c h y i a = (passes-fit c h y i a, fit-passes c h y i a)
