@@ -327,9 +327,9 @@ module _ (kind : ℕ) (room : Room) (rows : List ℕ) (p : ℕ) (L : Layout rows
     unfolding quartersOf
     quarters-there = ap quartersOf deep-now
 
-    passes-rules-at : Passes kind room rows (beside head period) y → SeriesRules (beside head period) y
+    series-rules-at : Passes kind room rows (beside head period) y → SeriesRules (beside head period) y
     unfolding Passes Each
-    passes-rules-at t =
+    series-rules-at t =
         let u = passes-parts kind room rows head period y t in
         let b = u .1 in
         let g = head-segment head (sh .heads) y (f .now) holds .0 (u .0) in
@@ -359,9 +359,9 @@ module _ (kind : ℕ) (room : Room) (rows : List ℕ) (p : ℕ) (L : Layout rows
           fit = let z = d .fit in omega (arith, z, a, n);
         }
 
-    rules-passes-at : SeriesRules (beside head period) y → Passes kind room rows (beside head period) y
+    series-passes-at : SeriesRules (beside head period) y → Passes kind room rows (beside head period) y
     unfolding Passes Each inTurn
-    rules-passes-at r =
+    series-passes-at r =
         let e = each-parts rows (elementFits kind p₀) head period (r .each) in
         let n : length (those (hasRole 4) rows (beside head period)) ≡ length (those (hasRole 4) rows inner) = ap length intervals-there in
         let a = period-intervals in
@@ -408,8 +408,8 @@ module _ (kind : ℕ) (room : Room) (rows : List ℕ) (p : ℕ) (L : Layout rows
           tt,
         )
 
-    pub passes-rules : Passes kind room rows c y → SeriesRules c y
-    passes-rules t = subst (λ d. SeriesRules d y) (sym (sh .is)) (passes-rules-at (subst (λ d. Passes kind room rows d y) (sh .is) t))
+    pub series-rules : Passes kind room rows c y → SeriesRules c y
+    series-rules t = subst (λ d. SeriesRules d y) (sym (sh .is)) (series-rules-at (subst (λ d. Passes kind room rows d y) (sh .is) t))
 
-    pub rules-passes : SeriesRules c y → Passes kind room rows c y
-    rules-passes r = subst (λ d. Passes kind room rows d y) (sym (sh .is)) (rules-passes-at (subst (λ d. SeriesRules d y) (sh .is) r))
+    pub series-passes : SeriesRules c y → Passes kind room rows c y
+    series-passes r = subst (λ d. Passes kind room rows d y) (sym (sh .is)) (series-passes-at (subst (λ d. SeriesRules d y) (sh .is) r))

@@ -19,9 +19,7 @@ use Rattle.contents.proofs.Shape.{SeriesShape, AllSeries, RootShape, Do
 use Rattle.contents.proofs.Walk.{Tally, nothing, opened, walked, Passes}
 use Rattle.contents.proofs.Tallies.{unchanged, intervals-walked, series-walked, period-walked}
 use Rattle.contents.proofs.Segments.{Holds, Segment}
-use Rattle.contents.proofs.Levels.{fits-any, passes-parts, passes-beside, short, Now, now-kept, now-fits, root-segment, SeriesRules, Fresh}
-use Rattle.contents.proofs.Levels.{passes-rules as series-rules}
-use Rattle.contents.proofs.Levels.{rules-passes as series-passes}
+use Rattle.contents.proofs.Levels.{fits-any, passes-parts, passes-beside, short, Now, now-kept, now-fits, root-segment, SeriesRules, Fresh, series-rules, series-passes}
 
 module _ (kind : ℕ) (room : Room) (rows : List ℕ) (p : ℕ) (L : Layout rows p) (p₀ : Period) where
   -- series side by side
