@@ -19,7 +19,7 @@ use Rattle.states.specs.declared.Room.{Room}
 use Rattle.trees.specs.Trees.{Trees, none, element}
 use Rattle.contents.specs.Said.{Said}
 use Rattle.contents.specs.Legal.{hasRole, those, Period, quartersOf, positionOf, valueFits, elementFits, Each, inTurn, countFits, SeriesFits}
-use Rattle.contents.proofs.Tests.{chosen, other, and-parts}
+use Rattle.contents.proofs.Tests.{chosen, other, and-parts, parts-and}
 use Rattle.contents.proofs.Laid.{Layout}
 use Rattle.contents.proofs.Elements.{Within, within-more, beside, no-role, those-beside, each-beside, each-parts, last-those}
 use Rattle.contents.proofs.Shape.{SeriesShape}
@@ -75,7 +75,8 @@ counts kind n quarters e f =
     (λ (a : (92 ≤ n) × (leb 92 n ≡ true)).
     let g : _≡_ {A = ℕ} (cond (eqb n quarters) 0 8) 0 = rw (a .1) at h in
     ⊎-elim
-    (λ (b : eqb n quarters ≡ true). rw (a .1, le-leb n 100 (f (y .0)), b) refl)
+    (λ (b : eqb n quarters ≡ true).
+    parts-and (leb 92 n && leb n 100) (eqb n quarters) (parts-and (leb 92 n) (leb n 100) (a .1) (le-leb n 100 (f (y .0)))) b)
     (λ (b : eqb n quarters ≡ false). let z : _≡_ {A = ℕ} 8 0 = rw b at g in absurd (omega (arith, z)))
     (bool-cases (eqb n quarters)))
     (λ (a : (n < 92) × (leb 92 n ≡ false)). let z : _≡_ {A = ℕ} 3 0 = rw (a .1) at h in absurd (omega (arith, z)))
