@@ -10,8 +10,8 @@ use lib.Dec.{eqb}
 use lib.IntN.{ℤ}
 use lib.ListN.{length, getD, set, length-append}
 use lib.Seq.{sets}
-use borrow.Author.Tests.{ne-eqb}
-use Rattle.lists.proofs.Cases.{eqb-cases, zero-not-one}
+use borrow.Author.Tests.{ne-eqb, eqb-false}
+use Rattle.lists.proofs.Cases.{eqb-cases}
 use Rattle.characters.specs.Says.{says}
 use Rattle.trims.specs.Trim.{dropped}
 use Rattle.tags.specs.declared.Span.{Span}
@@ -35,7 +35,7 @@ use Rattle.contents.proofs.Shape.{in-interval-row, holds-two}
 use Rattle.contents.proofs.Walk.{Tally, opened, walked}
 use Rattle.contents.proofs.Fill.{saidOf, saying, stateOf, tablesWith, filled}
 use Rattle.contents.proofs.Values.{said-bytes, HasValues}
-use Rattle.contents.proofs.Roles.{Role, is-series, is-interval, is-object, is-business, is-id, is-pos, is-qty, is-other, role-cases}
+use Rattle.contents.proofs.Roles.{by-entry}
 
 -- between two places of the walk these intervals start, and these positions and amounts are put, from the next interval's row on
 pub record Puts (y : Tally) (t : Tables) (y′ : Tally) (t′ : Tables) (starts : List Said) (ps : List ℕ) (ams : List ℤ) : Type 0 where
@@ -79,27 +79,15 @@ puts-lists e f g k = rw (e, f, g) at k
 
 -- ---- a row that is no interval, Pos or Qty
 
-positions-kept : (r n : ℕ) (st : State) (l : List ℕ) → Role r → eqb r 9 ≡ false → positionsAfter st (entryOf r n) l ≡ l
-unfolding positionsAfter entryOf
-positions-kept r n st l (is-series e) k = rw e
-positions-kept r n st l (is-interval e) k = rw e
-positions-kept r n st l (is-object e) k = rw e
-positions-kept r n st l (is-business e) k = rw e
-positions-kept r n st l (is-id e) k = rw e
-positions-kept r n st l (is-pos e) k = let z : true ≡ false = rw e at k in absurd (zero-not-one (cc))
-positions-kept r n st l (is-qty e) k = rw e
-positions-kept r n st l (is-other a b c d e f g) k = simp (a, b, c, d, e, f, g)
+positions-kept : (r n : ℕ) (st : State) (l : List ℕ) → eqb r 9 ≡ false → positionsAfter st (entryOf r n) l ≡ l
+unfolding positionsAfter
+positions-kept r n st l k =
+    by-entry (λ e. positionsAfter st e l ≡ l) r n refl (λ e. refl) (λ e. refl) (λ e. refl) (λ e. refl) (λ e. refl) (λ e. absurd (eqb-false r 9 k e)) (λ e. refl)
 
-amounts-kept : (r n : ℕ) (v : Span) (s : List ℕ) (st : State) (l : List ℤ) → Role r → eqb r 10 ≡ false → amountsAfter v s st (entryOf r n) l ≡ l
-unfolding amountsAfter entryOf
-amounts-kept r n v s st l (is-series e) k = rw e
-amounts-kept r n v s st l (is-interval e) k = rw e
-amounts-kept r n v s st l (is-object e) k = rw e
-amounts-kept r n v s st l (is-business e) k = rw e
-amounts-kept r n v s st l (is-id e) k = rw e
-amounts-kept r n v s st l (is-pos e) k = rw e
-amounts-kept r n v s st l (is-qty e) k = let z : true ≡ false = rw e at k in absurd (zero-not-one (cc))
-amounts-kept r n v s st l (is-other a b c d e f g) k = simp (a, b, c, d, e, f, g)
+amounts-kept : (r n : ℕ) (v : Span) (s : List ℕ) (st : State) (l : List ℤ) → eqb r 10 ≡ false → amountsAfter v s st (entryOf r n) l ≡ l
+unfolding amountsAfter
+amounts-kept r n v s st l k =
+    by-entry (λ e. amountsAfter v s st e l ≡ l) r n refl (λ e. refl) (λ e. refl) (λ e. refl) (λ e. refl) (λ e. refl) (λ e. refl) (λ e. absurd (eqb-false r 10 k e))
 
 module _ (kind : ℕ) (rows : List ℕ) (p : ℕ) (L : Layout rows p) (W : Valued rows) where
   step-puts : (q : ℕ) (x : Placed) (y : Tally) (t : Tables) → eqb (roleOf (getD rows q 0)) 4 ≡ false → eqb (roleOf (getD rows q 0)) 9 ≡ false
@@ -108,8 +96,8 @@ module _ (kind : ℕ) (rows : List ℕ) (p : ℕ) (L : Layout rows p) (W : Value
   step-puts q x y t a b c =
       let w = getD rows q 0 in
       let st = stateOf kind q true (opened w (saidOf x) y) in
-      puts-none (rw a) (positions-kept (roleOf w) (positionOf (saidOf x)) st (t .positions) (role-cases (roleOf w)) b)
-      (amounts-kept (roleOf w) (positionOf (saidOf x)) (spanOf (x .item)) (x .rest) st (t .amounts) (role-cases (roleOf w)) c)
+      puts-none (rw a) (positions-kept (roleOf w) (positionOf (saidOf x)) st (t .positions) b)
+      (amounts-kept (roleOf w) (positionOf (saidOf x)) (spanOf (x .item)) (x .rest) st (t .amounts) c)
 
   -- ---- an interval
 

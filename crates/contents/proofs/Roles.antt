@@ -5,6 +5,9 @@ use mathlib.Core.Bool.{false}
 use mathlib.Core.Logic.{⊎-elim}
 use lib.Dec.{eqb}
 use Rattle.lists.proofs.Cases.{eqb-cases}
+use Rattle.states.specs.Moves.{entryOf}
+use Rattle.states.specs.declared.Entry.{Entry}
+use Rattle.states.specs.declared.Entry.the-variants.{Nothing, Series, Identification, Object, BusinessType, Interval, Position, Amount}
 
 -- the roles that bring something into the tables
 pub data Role (r : ℕ) : Type 0 where
@@ -27,3 +30,19 @@ role-cases r =
     ⊎-elim (λ f. is-pos (f .0)) (λ f.
     ⊎-elim (λ g. is-qty (g .0)) (λ g. is-other (a .1) (b .1) (c .1) (d .1) (e .1) (f .1) (g .1))
     (eqb-cases r 10)) (eqb-cases r 9)) (eqb-cases r 8)) (eqb-cases r 7)) (eqb-cases r 6)) (eqb-cases r 4)) (eqb-cases r 2)
+
+-- what holds of the entry that each role brings
+pub by-entry : (P : Entry → Type 0) (r n : ℕ) → P Nothing → (r ≡ 2 → P Series) → (r ≡ 4 → P Interval) → (r ≡ 6 → P Object) → (r ≡ 7 → P BusinessType)
+    → (r ≡ 8 → P Identification) → (r ≡ 9 → P (Position n)) → (r ≡ 10 → P Amount) → P (entryOf r n)
+unfolding entryOf
+by-entry P r n nothing series interval object business id position amount = by (role-cases r)
+  where
+    by : Role r → P (entryOf r n)
+    by (is-series e) = rw e (series e)
+    by (is-interval e) = rw e (interval e)
+    by (is-object e) = rw e (object e)
+    by (is-business e) = rw e (business e)
+    by (is-id e) = rw e (id e)
+    by (is-pos e) = rw e (position e)
+    by (is-qty e) = rw e (amount e)
+    by (is-other a b c d e f g) = simp (a, b, c, d, e, f, g) nothing

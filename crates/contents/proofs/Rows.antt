@@ -32,7 +32,7 @@ use Rattle.contents.proofs.Fill.{saidOf, saying, stateOf, tablesWith, f
 use Rattle.contents.proofs.Lifted.{each-said, taken-said}
 use Rattle.contents.proofs.Values.{HasValues}
 use Rattle.contents.proofs.Views.{same-view}
-use Rattle.contents.proofs.Roles.{Role, is-series, is-interval, is-object, is-business, is-id, is-pos, is-qty, is-other, role-cases}
+use Rattle.contents.proofs.Roles.{by-entry}
 use Rattle.contents.proofs.Intervals.{puts}
 use Rattle.contents.proofs.Series.{valueBytes, trimmedBytes, Effect, cell-at, inside}
 
@@ -108,17 +108,12 @@ module _ (rows : List ℕ) (role q : ℕ) (x : Placed) (inner after : Trees Plac
 
 -- ---- what stands beside the series changes nothing
 
-pub series-kept : (r n at : ℕ) (v : Span) (s : List ℕ) (st : State) (l : List ℕ) → Role r → (r ≡ 2 → ⊥) → (r ≡ 4 → ⊥) → (r ≡ 6 → ⊥) → (r ≡ 7 → ⊥) → (r ≡ 8 → ⊥)
+pub series-kept : (r n at : ℕ) (v : Span) (s : List ℕ) (st : State) (l : List ℕ) → (r ≡ 2 → ⊥) → (r ≡ 4 → ⊥) → (r ≡ 6 → ⊥) → (r ≡ 7 → ⊥) → (r ≡ 8 → ⊥)
     → seriesAfter at v s st (entryOf r n) l ≡ l
-unfolding seriesAfter entryOf
-series-kept r n at v s st l (is-series e) a b c d f = absurd (a e)
-series-kept r n at v s st l (is-interval e) a b c d f = absurd (b e)
-series-kept r n at v s st l (is-object e) a b c d f = absurd (c e)
-series-kept r n at v s st l (is-business e) a b c d f = absurd (d e)
-series-kept r n at v s st l (is-id e) a b c d f = absurd (f e)
-series-kept r n at v s st l (is-pos e) a b c d f = rw e
-series-kept r n at v s st l (is-qty e) a b c d f = rw e
-series-kept r n at v s st l (is-other a₁ a₂ a₃ a₄ a₅ a₆ a₇) a b c d f = simp (a₁, a₂, a₃, a₄, a₅, a₆, a₇)
+unfolding seriesAfter
+series-kept r n at v s st l a b c d f =
+    by-entry (λ e. seriesAfter at v s st e l ≡ l) r n refl (λ e. absurd (a e)) (λ e. absurd (b e)) (λ e. absurd (c e)) (λ e. absurd (d e)) (λ e. absurd (f e))
+    (λ e. refl) (λ e. refl)
 
 module _ (kind : ℕ) (rows : List ℕ) (p : ℕ) (L : Layout rows p) (W : Valued rows) (doc : List ℕ) where
   -- the tally and the tables after the start tag of an element, and after what stands in it
@@ -268,7 +263,7 @@ module _ (kind : ℕ) (rows : List ℕ) (p : ℕ) (L : Layout rows p) (W : Value
             leaf rows p L q inner l (λ d. omega (arith, d, b₀)) (λ d. omega (arith, d, b₀)) n (λ d. omega (arith, d, b₁, w)) (λ d. omega (arith, d, b₁, w)) s;
         series = rw (ne-eqb r 2 n₂);
         intervals = rw (ne-eqb r 4 n₄);
-        cells = series-kept r (positionOf (saidOf x)) (x .at) (spanOf (x .item)) (x .rest) st (t .series) (role-cases r) n₂ n₄ n₆ n₇ n₈;
+        cells = series-kept r (positionOf (saidOf x)) (x .at) (spanOf (x .item)) (x .rest) st (t .series) n₂ n₄ n₆ n₇ n₈;
         not-two = ne-eqb r 2 n₂;
         not-six = ne-eqb r 6 n₆;
         not-seven = ne-eqb r 7 n₇;

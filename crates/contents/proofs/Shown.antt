@@ -23,7 +23,6 @@ use Rattle.contents.proofs.Shape.{document-shape}
 use Rattle.contents.proofs.Walk.{nothing, opened, walked}
 use Rattle.contents.proofs.Fill.{saidOf, saying, stateOf, tablesWith, filled, Stands}
 use Rattle.contents.proofs.Values.{HasValues}
-use Rattle.contents.proofs.Roles.{role-cases}
 use Rattle.contents.proofs.Intervals.{Puts, puts}
 use Rattle.contents.proofs.Series.{valueBytes, trimmedBytes}
 use Rattle.contents.proofs.Rows.{Filled, filled-as, row-moved, series-kept, seriesIn, series-filled}
@@ -53,7 +52,7 @@ module _ (kind : ℕ) (rows : List ℕ) (p : ℕ) (L : Layout rows p) (W : Value
   root-cells x =
       let r = L .root in
       series-kept (roleOf (getD rows 1 0)) (positionOf (saidOf x)) (x .at) _ (x .rest) (stateOf kind 1 true (opened (getD rows 1 0) (saidOf x) nothing)) (zeros ns)
-      (role-cases (roleOf (getD rows 1 0))) (λ e. omega (arith, e, r)) (λ e. omega (arith, e, r)) (λ e. omega (arith, e, r)) (λ e. omega (arith, e, r)) (λ e. omega (arith, e, r))
+      (λ e. omega (arith, e, r)) (λ e. omega (arith, e, r)) (λ e. omega (arith, e, r)) (λ e. omega (arith, e, r)) (λ e. omega (arith, e, r))
 
   -- ---- a conforming content
 

@@ -8,7 +8,7 @@ use mathlib.Core.Logic.{_↔_, inl, ⊎-elim}
 use native.Mathlib.Omega.{arith}
 use lib.Dec.{eqb}
 use lib.ListN.{length, getD, length-replicate}
-use borrow.Author.Tests.{eq-eqb, ne-eqb}
+use borrow.Author.Tests.{eq-eqb, ne-eqb, eqb-false}
 use Rattle.lists.proofs.Cases.{eqb-cases, past-cond}
 use Rattle.slices.specs.Same.{same}
 use Rattle.tags.specs.declared.Span.{Span}
@@ -29,7 +29,7 @@ use Rattle.contents.proofs.Shape.{later, document-shape}
 use Rattle.contents.proofs.Walk.{Tally, nothing, opened, walked}
 use Rattle.contents.proofs.Fill.{saidOf, saying, tablesWith, filled, Unused, Stands}
 use Rattle.contents.proofs.Values.{said-bytes, HasValues}
-use Rattle.contents.proofs.Roles.{Role, is-series, is-interval, is-object, is-business, is-id, is-pos, is-qty, is-other, role-cases}
+use Rattle.contents.proofs.Roles.{Role, is-series, is-interval, is-object, is-business, is-id, is-pos, is-qty, is-other, role-cases, by-entry}
 use Rattle.contents.proofs.Series.{valueBytes, step-effect, no-series, inside}
 use Rattle.contents.proofs.Rows.{tallyIn, tablesIn, tallyOut, tablesOut, opened-series, opened-before, opened-size, rowed, untouched, once-in, more-series, those-plain, those-after}
 use Rattle.contents.proofs.Shown.{root-those, root-role, root-tally, root-cells}
@@ -112,16 +112,11 @@ module _ (doc : List ℕ) where
   knows-on t u n past x k e h id = rw (e, used-kept t u n id k ∙ h id, same-both x id)
 
   -- an element that brings no identification
-  not-used : (r n : ℕ) (t : List ℕ) (v : Span) (s : List ℕ) (m : ℕ) → Role r → eqb r 8 ≡ false → usedBefore doc t v s m (entryOf r n) ≡ false
-  unfolding usedBefore entryOf
-  not-used r n t v s m (is-series e) k = rw e
-  not-used r n t v s m (is-interval e) k = rw e
-  not-used r n t v s m (is-object e) k = rw e
-  not-used r n t v s m (is-business e) k = rw e
-  not-used r n t v s m (is-id e) k = let z : true ≡ false = rw e at k in absurd (true≢false z)
-  not-used r n t v s m (is-pos e) k = rw e
-  not-used r n t v s m (is-qty e) k = rw e
-  not-used r n t v s m (is-other a b c d e f g) k = simp (a, b, c, d, e, f, g)
+  not-used : (r n : ℕ) (t : List ℕ) (v : Span) (s : List ℕ) (m : ℕ) → eqb r 8 ≡ false → usedBefore doc t v s m (entryOf r n) ≡ false
+  unfolding usedBefore
+  not-used r n t v s m k =
+      by-entry (λ e. usedBefore doc t v s m e ≡ false) r n refl (λ e. refl) (λ e. refl) (λ e. refl) (λ e. refl) (λ e. absurd (eqb-false r 8 k e)) (λ e. refl)
+      (λ e. refl)
 
   abbrev NotUsed : List ℕ → ℕ → List ℕ → Type 0
   NotUsed t i id = used doc t i id ≡ false
@@ -207,7 +202,7 @@ module _ (kind : ℕ) (rows : List ℕ) (p : ℕ) (L : Layout rows p) (W : Value
       → usedBefore doc t (spanOf (x .item)) (x .rest) (opened (getD rows q 0) (saidOf x) y .series) (entryOf (roleOf (getD rows q 0)) (positionOf (saidOf x))) ≡ false
   step-none q x y t n =
       let r = roleOf (getD rows q 0) in
-      not-used doc r (positionOf (saidOf x)) t (spanOf (x .item)) (x .rest) (opened (getD rows q 0) (saidOf x) y .series) (role-cases r) n
+      not-used doc r (positionOf (saidOf x)) t (spanOf (x .item)) (x .rest) (opened (getD rows q 0) (saidOf x) y .series) n
 
   plain-unused : (q : ℕ) (x : Placed) (inner after : Trees Placed) (y : Tally) (t : Tables) (past : List (List ℕ)) → inner ≡ none → eqb (roleOf (getD rows q 0)) 8 ≡ false
       → Unused doc kind rows after (opened (getD rows q 0) (saidOf x) y) (tablesWith kind rows q x (opened (getD rows q 0) (saidOf x) y) t)
