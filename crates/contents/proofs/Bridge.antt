@@ -4,7 +4,6 @@ use Prim.Native.Nat.{ℕ, _≤_}
 use mathlib.Core.Path.{_≡_, refl, sym, ap, _∙_}
 use mathlib.Core.List.{List, [], append-nil}
 use mathlib.Core.Bool.{true}
-use mathlib.Core.Logic.{_⊎_}
 use native.Mathlib.Omega.{arith}
 use lib.ListN.{length, drop, length-drop}
 use Rattle.structure.specs.Rows.{overOf}
@@ -22,16 +21,17 @@ use Rattle.trees.proofs.Made.{made}
 use Rattle.trees.proofs.Along.{run-along, conforms-along}
 use Rattle.trees.proofs.Theorems.{complete, sound}
 use Rattle.contents.specs.Spelled.{AllAllowed}
+use Rattle.contents.proofs.Laid.{laid, Known}
 use Rattle.contents.proofs.Walk.{nothing, walked, Passes}
 use Rattle.contents.proofs.Fill.{placedSigns, saying, stateOf, filled, Unused, Stands}
-use Rattle.contents.proofs.Lifted.{known-made, spelled-stands}
+use Rattle.contents.proofs.Lifted.{spelled-stands}
 use Rattle.contents.proofs.Signs.{Runs, respelled, runs-follow, runs-along, along-runs}
 use Rattle.contents.proofs.Moved.{Low}
 use Rattle.contents.proofs.Items.{Over, Ends, begin-forth, begun-back}
 
 -- The document from the place n on, read into the tables t, is one of a kind, and its tags spell these elements.
 pub record Read (doc : List ℕ) (room : Room) (n : ℕ) (t : Tables) (kind : ℕ) (kids : Trees Placed) : Type 0 where
-  pub known : (kind ≡ 1) ⊎ (kind ≡ 2)
+  pub known : Known kind
   pub allowed : AllAllowed (itemsFrom doc n)
   pub tags : placedSigns (itemsFrom doc n) ≡ spell (rowsOf kind) kids
   pub conforms : Conforms (rowsOf kind) 0 kids
@@ -58,7 +58,7 @@ module _ (doc : List ℕ) (room : Room) (n : ℕ) (t : Tables) (short : length d
       let b = begin-forth doc room xs t (items-low doc n short) (ap (λ (st : State). readItems doc room xs st t .found .refusal) begun-is ∙ ok) in
       let kind = b .0 in
       let rows = rowsOf kind in
-      let w = known-made kind (b .1) in
+      let w = laid kind (b .1) .layout .well in
       let m = made rows w in
       let s = sound Placed rows w (placedSigns xs) (runs-follow doc room kind rows (placedSigns xs) 0 true nothing t (b .3)) in
       let kids = s .0 in
@@ -79,7 +79,7 @@ module _ (doc : List ℕ) (room : Room) (n : ℕ) (t : Tables) (short : length d
       )
 
   -- what is found, and the tables
-  abbrev pub outOf : ℕ → Trees Placed → Out
+  abbrev outOf : ℕ → Trees Placed → Out
   outOf kind kids =
       record {
         found = acceptedAt (length doc) (stateOf kind (rowAfter 0 kids) (openAfter true kids) (walked (rowsOf kind) (saying kids) nothing));
@@ -91,7 +91,7 @@ module _ (doc : List ℕ) (room : Room) (n : ℕ) (t : Tables) (short : length d
   back kind kids r =
       let xs = itemsFrom doc n in
       let rows = rowsOf kind in
-      let w = known-made kind (r .known) in
+      let w = laid kind (r .known) .layout .well in
       let m = made rows w in
       let a = conforms-along Placed rows m 0 kids (m .some-row) (r .conforms) in
       let over : overOf rows (rowAfter 0 kids) (openAfter true kids) ≡ true =

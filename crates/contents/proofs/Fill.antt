@@ -1,4 +1,4 @@
--- The walk over a content whose elements know the item that opened them: what the reader puts into the tables along it.
+-- The walk over a content whose elements know the item that opened them: what the reader puts into the tables along it. Assumes nothing.
 use Prim.Native.Nat.{ℕ}
 use mathlib.Core.Path.{_≡_}
 use mathlib.Core.List.{List, [], _∷_, _++_}
@@ -67,22 +67,22 @@ stateOf kind r inside y =
     }
 
 -- the tables after the start tag of an element of row q, y being the tally after it
-abbrev pub entered : ℕ → List ℕ → ℕ → Placed → Tally → Tables → Tables
-entered kind rows q x y t = tablesAfter x (stateOf kind q true y) (entryOf (roleOf (getD rows q 0)) (positionOf (saidOf x))) t
+abbrev pub tablesWith : ℕ → List ℕ → ℕ → Placed → Tally → Tables → Tables
+tablesWith kind rows q x y t = tablesAfter x (stateOf kind q true y) (entryOf (roleOf (getD rows q 0)) (positionOf (saidOf x))) t
 
 -- the tables after the elements
 unfoldable pub filled : ℕ → List ℕ → Trees Placed → Tally → Tables → Tables
 filled kind rows none y t = t
 filled kind rows (element q x inner after) y t =
     let y′ = opened (getD rows q 0) (saidOf x) y in
-    filled kind rows after (walked rows (saying inner) y′) (filled kind rows inner y′ (entered kind rows q x y′ t))
+    filled kind rows after (walked rows (saying inner) y′) (filled kind rows inner y′ (tablesWith kind rows q x y′ t))
 
 -- none of them brings a TimeSeriesIdentification that a row of the series table shows already
 unfoldable pub Unused : List ℕ → ℕ → List ℕ → Trees Placed → Tally → Tables → Type 0
 Unused doc kind rows none y t = Unit {0}
 Unused doc kind rows (element q x inner after) y t =
     let y′ = opened (getD rows q 0) (saidOf x) y in
-    let t′ = entered kind rows q x y′ t in
+    let t′ = tablesWith kind rows q x y′ t in
     (usedBefore doc (t .series) (spanOf (x .item)) (x .rest) (y′ .series) (entryOf (roleOf (getD rows q 0)) (positionOf (saidOf x))) ≡ false)
     × Unused doc kind rows inner y′ t′
     × Unused doc kind rows after (walked rows (saying inner) y′) (filled kind rows inner y′ t′)

@@ -1,18 +1,17 @@
 -- What the elements of a conforming content put into the positions and the amounts: those of their intervals, one after the other.
 -- Assumes nothing.
-use Prim.Native.Nat.{ℕ, suc, _+_, _-_, _≤_, _<_}
+use Prim.Native.Nat.{ℕ, _+_, _-_, _<_}
 use mathlib.Core.Path.{_≡_, refl, sym, ap, _∙_}
-use mathlib.Core.List.{List, [], _∷_, _++_, map, append-assoc}
-use mathlib.Core.Bool.{Bool, true, false, cond}
+use mathlib.Core.List.{List, [], _++_, map, append-assoc}
+use mathlib.Core.Bool.{Bool, true, false}
 use mathlib.Core.Logic.{⊎-elim}
 use native.Mathlib.Omega.{arith}
-use native.Mathlib.Nat.{add-zero}
 use lib.Dec.{eqb}
 use lib.IntN.{ℤ}
-use lib.ListN.{length, getD, set, length-append, length-map}
+use lib.ListN.{length, getD, set, length-append}
 use lib.Seq.{sets}
-use borrow.Author.Tests.{ne-eqb}
-use Rattle.lists.proofs.Cases.{eqb-cases, zero-not-one}
+use borrow.Author.Tests.{ne-eqb, eqb-false}
+use Rattle.lists.proofs.Cases.{eqb-cases}
 use Rattle.characters.specs.Says.{says}
 use Rattle.trims.specs.Trim.{dropped}
 use Rattle.tags.specs.declared.Span.{Span}
@@ -26,21 +25,17 @@ use Rattle.reader.specs.Items.{Placed}
 use Rattle.reader.specs.Rows.{spanOf, quoted, thousandthsOf, positionsAfter, amountsAfter}
 use Rattle.reader.specs.Reading.{Tables, tablesAfter}
 use Rattle.trees.specs.Trees.{Trees, none, element, rowsTaken, Stand, Fits, EachConforms}
-use Rattle.contents.specs.Said.{Said, bytes}
+use Rattle.lists.proofs.Stores.{sets-more}
+use Rattle.contents.specs.Said.{Said}
 use Rattle.contents.specs.Legal.{hasRole, those, positionOf}
 use Rattle.contents.specs.Shown.{amountIn}
-use Rattle.contents.proofs.Laid.{Layout}
+use Rattle.contents.proofs.Laid.{Layout, Valued}
+use Rattle.contents.proofs.Elements.{own, those-parts, mapped-parts}
+use Rattle.contents.proofs.Shape.{in-interval-row, holds-two}
 use Rattle.contents.proofs.Walk.{Tally, opened, walked}
-use Rattle.contents.proofs.Fill.{saidOf, saying, stateOf, entered, filled}
-use Rattle.contents.proofs.Shapes.{Place, in-document, in-root, in-series, in-period, in-interval, place, holds-two}
-use Rattle.contents.proofs.Views.{said-bytes}
-use Rattle.contents.proofs.Roles.{Role, is-series, is-interval, is-object, is-business, is-id, is-pos, is-qty, is-other, role-cases, own, those-parts, mapped-parts, Given, Valued}
-
-pub sets-append : {A : Type 0} (a b l : List A) (i : ℕ) → sets l i (a ++ b) ≡ sets (sets l i a) (i + length a) b
-sets-append [] b l i = ap (λ (n : ℕ). sets l n b) (sym (add-zero i))
-sets-append (x ∷ a) b l i =
-    let e : suc i + length a ≡ i + suc (length a) = omega arith in
-    sets-append a b (set l i x) (suc i) ∙ ap (λ (n : ℕ). sets (sets (set l i x) (suc i) a) n b) e
+use Rattle.contents.proofs.Fill.{saidOf, saying, stateOf, tablesWith, filled}
+use Rattle.contents.proofs.Values.{said-bytes, HasValues}
+use Rattle.contents.proofs.Roles.{by-entry}
 
 -- between two places of the walk these intervals start, and these positions and amounts are put, from the next interval's row on
 pub record Puts (y : Tally) (t : Tables) (y′ : Tally) (t′ : Tables) (starts : List Said) (ps : List ℕ) (ams : List ℤ) : Type 0 where
@@ -68,11 +63,11 @@ puts-on {y} {y₁} {y₂} {t} {t₁} {t₂} {starts} {starts₁} {ps} {ps₁} {a
       positions =
           g .positions ∙ ap (λ (l : List ℕ). sets l (y₁ .intervals) ps₁) (f .positions)
           ∙ ap (λ (n : ℕ). sets (sets (t .positions) (y .intervals) ps) n ps₁) k
-          ∙ sym (sets-append ps ps₁ (t .positions) (y .intervals));
+          ∙ sym (sets-more ps (t .positions) (y .intervals) ps₁);
       amounts =
           g .amounts ∙ ap (λ (l : List ℤ). sets l (y₁ .intervals) ams₁) (f .amounts)
           ∙ ap (λ (n : ℕ). sets (sets (t .amounts) (y .intervals) ams) n ams₁) m
-          ∙ sym (sets-append ams ams₁ (t .amounts) (y .intervals));
+          ∙ sym (sets-more ams (t .amounts) (y .intervals) ams₁);
     }
 
 puts-none : {y y′ : Tally} {t t′ : Tables} → y′ .intervals ≡ y .intervals → t′ .positions ≡ t .positions → t′ .amounts ≡ t .amounts → Puts y t y′ t′ [] [] []
@@ -84,37 +79,25 @@ puts-lists e f g k = rw (e, f, g) at k
 
 -- ---- a row that is no interval, Pos or Qty
 
-positions-kept : (r n : ℕ) (st : State) (l : List ℕ) → Role r → eqb r 9 ≡ false → positionsAfter st (entryOf r n) l ≡ l
-unfolding positionsAfter entryOf
-positions-kept r n st l (is-series e) k = rw e
-positions-kept r n st l (is-interval e) k = rw e
-positions-kept r n st l (is-object e) k = rw e
-positions-kept r n st l (is-business e) k = rw e
-positions-kept r n st l (is-id e) k = rw e
-positions-kept r n st l (is-pos e) k = let z : true ≡ false = rw e at k in absurd (zero-not-one (cc))
-positions-kept r n st l (is-qty e) k = rw e
-positions-kept r n st l (is-other a b c d e f g) k = simp (a, b, c, d, e, f, g)
+positions-kept : (r n : ℕ) (st : State) (l : List ℕ) → eqb r 9 ≡ false → positionsAfter st (entryOf r n) l ≡ l
+unfolding positionsAfter
+positions-kept r n st l k =
+    by-entry (λ e. positionsAfter st e l ≡ l) r n refl (λ e. refl) (λ e. refl) (λ e. refl) (λ e. refl) (λ e. refl) (λ e. absurd (eqb-false r 9 k e)) (λ e. refl)
 
-amounts-kept : (r n : ℕ) (v : Span) (s : List ℕ) (st : State) (l : List ℤ) → Role r → eqb r 10 ≡ false → amountsAfter v s st (entryOf r n) l ≡ l
-unfolding amountsAfter entryOf
-amounts-kept r n v s st l (is-series e) k = rw e
-amounts-kept r n v s st l (is-interval e) k = rw e
-amounts-kept r n v s st l (is-object e) k = rw e
-amounts-kept r n v s st l (is-business e) k = rw e
-amounts-kept r n v s st l (is-id e) k = rw e
-amounts-kept r n v s st l (is-pos e) k = rw e
-amounts-kept r n v s st l (is-qty e) k = let z : true ≡ false = rw e at k in absurd (zero-not-one (cc))
-amounts-kept r n v s st l (is-other a b c d e f g) k = simp (a, b, c, d, e, f, g)
+amounts-kept : (r n : ℕ) (v : Span) (s : List ℕ) (st : State) (l : List ℤ) → eqb r 10 ≡ false → amountsAfter v s st (entryOf r n) l ≡ l
+unfolding amountsAfter
+amounts-kept r n v s st l k =
+    by-entry (λ e. amountsAfter v s st e l ≡ l) r n refl (λ e. refl) (λ e. refl) (λ e. refl) (λ e. refl) (λ e. refl) (λ e. refl) (λ e. absurd (eqb-false r 10 k e))
 
 module _ (kind : ℕ) (rows : List ℕ) (p : ℕ) (L : Layout rows p) (W : Valued rows) where
   step-puts : (q : ℕ) (x : Placed) (y : Tally) (t : Tables) → eqb (roleOf (getD rows q 0)) 4 ≡ false → eqb (roleOf (getD rows q 0)) 9 ≡ false
-      → eqb (roleOf (getD rows q 0)) 10 ≡ false → Puts y t (opened (getD rows q 0) (saidOf x) y) (entered kind rows q x (opened (getD rows q 0) (saidOf x) y) t) [] [] []
+      → eqb (roleOf (getD rows q 0)) 10 ≡ false → Puts y t (opened (getD rows q 0) (saidOf x) y) (tablesWith kind rows q x (opened (getD rows q 0) (saidOf x) y) t) [] [] []
   unfolding tablesAfter
   step-puts q x y t a b c =
       let w = getD rows q 0 in
       let st = stateOf kind q true (opened w (saidOf x) y) in
-      puts-none (rw a) (positions-kept (roleOf w) (positionOf (saidOf x)) st (t .positions) (role-cases (roleOf w)) b)
-      (amounts-kept (roleOf w) (positionOf (saidOf x)) (spanOf (x .item)) (x .rest) st (t .amounts) (role-cases (roleOf w)) c)
+      puts-none (rw a) (positions-kept (roleOf w) (positionOf (saidOf x)) st (t .positions) b)
+      (amounts-kept (roleOf w) (positionOf (saidOf x)) (spanOf (x .item)) (x .rest) st (t .amounts) c)
 
   -- ---- an interval
 
@@ -127,7 +110,7 @@ module _ (kind : ℕ) (rows : List ℕ) (p : ℕ) (L : Layout rows p) (W : Value
 
   interval-made : (x a b : Placed) (y : Tally) (t : Tables) → there (spanOf (b .item)) ≡ true
       → Puts y t (walked rows (saying (two a b)) (opened (getD rows (p + 3) 0) (saidOf x) y))
-      (filled kind rows (two a b) (opened (getD rows (p + 3) 0) (saidOf x) y) (entered kind rows (p + 3) x (opened (getD rows (p + 3) 0) (saidOf x) y) t))
+      (filled kind rows (two a b) (opened (getD rows (p + 3) 0) (saidOf x) y) (tablesWith kind rows (p + 3) x (opened (getD rows (p + 3) 0) (saidOf x) y) t))
       (own (hasRole 4 (getD rows (p + 3) 0)) (saidOf x) ++ those (hasRole 4) rows (saying (two a b)))
       (map positionOf (own (hasRole 9 (getD rows (p + 3) 0)) (saidOf x)) ++ map positionOf (those (hasRole 9) rows (saying (two a b))))
       (map amountIn (own (hasRole 10 (getD rows (p + 3) 0)) (saidOf x)) ++ map amountIn (those (hasRole 10) rows (saying (two a b))))
@@ -146,16 +129,16 @@ module _ (kind : ℕ) (rows : List ℕ) (p : ℕ) (L : Layout rows p) (W : Value
       })
 
   interval-puts : (q : ℕ) (x : Placed) (inner : Trees Placed) (y : Tally) (t : Tables) → q ≡ p + 3 → Fits rows q (rowsTaken inner) → EachConforms rows inner
-      → Given rows inner
+      → HasValues rows inner
       → Puts y t (walked rows (saying inner) (opened (getD rows q 0) (saidOf x) y))
-      (filled kind rows inner (opened (getD rows q 0) (saidOf x) y) (entered kind rows q x (opened (getD rows q 0) (saidOf x) y) t))
+      (filled kind rows inner (opened (getD rows q 0) (saidOf x) y) (tablesWith kind rows q x (opened (getD rows q 0) (saidOf x) y) t))
       (own (hasRole 4 (getD rows q 0)) (saidOf x) ++ those (hasRole 4) rows (saying inner))
       (map positionOf (own (hasRole 9 (getD rows q 0)) (saidOf x)) ++ map positionOf (those (hasRole 9) rows (saying inner)))
       (map amountIn (own (hasRole 10 (getD rows q 0)) (saidOf x)) ++ map amountIn (those (hasRole 10) rows (saying inner)))
-  unfolding Given
+  unfolding HasValues
   interval-puts q x inner y t e f c g =
       let h = holds-two rows p L inner (rw e at f) c in
-      let k : Given rows (two (h .0) (h .1)) = rw (h .2) at g in
+      let k : HasValues rows (two (h .0) (h .1)) = rw (h .2) at g in
       let s = L .size in
       let r = L .qty in
       let v = k .2 .0 (W (p + 5) (omega (arith, s)) (omega (arith, r))) in
@@ -163,30 +146,23 @@ module _ (kind : ℕ) (rows : List ℕ) (p : ℕ) (L : Layout rows p) (W : Value
 
   -- ---- any other element
 
-  not-inside : (h q : ℕ) → (h ≡ p + 3 → ⊥) → p + 3 < q → Place p h q → ⊥
-  not-inside h q n g (in-document e f) = omega (arith, f, g)
-  not-inside h q n g (in-root e f k) = let w = L .wide in omega (arith, k, g, w)
-  not-inside h q n g (in-series e f k) = omega (arith, k, g)
-  not-inside h q n g (in-period e f k) = omega (arith, k, g)
-  not-inside h q n g (in-interval e f) = n e
-
   other-puts : (h q : ℕ) (x : Placed) (inner : Trees Placed) (y : Tally) (t : Tables) → h < length rows → (h ≡ p + 3 → ⊥) → q < length rows
       → parentOf (getD rows q 0) ≡ h → (q ≡ p + 3 → ⊥)
-      → Puts (opened (getD rows q 0) (saidOf x) y) (entered kind rows q x (opened (getD rows q 0) (saidOf x) y) t)
+      → Puts (opened (getD rows q 0) (saidOf x) y) (tablesWith kind rows q x (opened (getD rows q 0) (saidOf x) y) t)
       (walked rows (saying inner) (opened (getD rows q 0) (saidOf x) y))
-      (filled kind rows inner (opened (getD rows q 0) (saidOf x) y) (entered kind rows q x (opened (getD rows q 0) (saidOf x) y) t))
+      (filled kind rows inner (opened (getD rows q 0) (saidOf x) y) (tablesWith kind rows q x (opened (getD rows q 0) (saidOf x) y) t))
       (those (hasRole 4) rows (saying inner)) (map positionOf (those (hasRole 9) rows (saying inner))) (map amountIn (those (hasRole 10) rows (saying inner)))
       → Puts y t (walked rows (saying inner) (opened (getD rows q 0) (saidOf x) y))
-      (filled kind rows inner (opened (getD rows q 0) (saidOf x) y) (entered kind rows q x (opened (getD rows q 0) (saidOf x) y) t))
+      (filled kind rows inner (opened (getD rows q 0) (saidOf x) y) (tablesWith kind rows q x (opened (getD rows q 0) (saidOf x) y) t))
       (own (hasRole 4 (getD rows q 0)) (saidOf x) ++ those (hasRole 4) rows (saying inner))
       (map positionOf (own (hasRole 9 (getD rows q 0)) (saidOf x)) ++ map positionOf (those (hasRole 9) rows (saying inner)))
       (map amountIn (own (hasRole 10 (getD rows q 0)) (saidOf x)) ++ map amountIn (those (hasRole 10) rows (saying inner)))
   other-puts h q x inner y t l n m e d k =
       let w = getD rows q 0 in
-      let out = place rows p L h q l m e in
+      let within : p + 3 < q → ⊥ = λ g. n (sym e ∙ in-interval-row rows p L q g m) in
       let a : eqb (roleOf w) 4 ≡ false = ne-eqb (roleOf w) 4 (λ r. d (L .only-interval q m r)) in
-      let b : eqb (roleOf w) 9 ≡ false = ne-eqb (roleOf w) 9 (λ r. let f = L .only-pos q m r in not-inside h q n (omega (arith, f)) out) in
-      let c : eqb (roleOf w) 10 ≡ false = ne-eqb (roleOf w) 10 (λ r. let f = L .only-qty q m r in not-inside h q n (omega (arith, f)) out) in
+      let b : eqb (roleOf w) 9 ≡ false = ne-eqb (roleOf w) 9 (λ r. let f = L .only-pos q m r in within (omega (arith, f))) in
+      let c : eqb (roleOf w) 10 ≡ false = ne-eqb (roleOf w) 10 (λ r. let f = L .only-qty q m r in within (omega (arith, f))) in
       puts-lists
       (ap (λ (u : Bool). own u (saidOf x) ++ those (hasRole 4) rows (saying inner)) (sym a))
       (ap (λ (u : Bool). map positionOf (own u (saidOf x)) ++ map positionOf (those (hasRole 9) rows (saying inner))) (sym b))
@@ -194,26 +170,26 @@ module _ (kind : ℕ) (rows : List ℕ) (p : ℕ) (L : Layout rows p) (W : Value
       (puts-on (step-puts q x y t a b c) k)
 
   pub puts : (kids : Trees Placed) (h : ℕ) (y : Tally) (t : Tables) → h < length rows → (h ≡ p + 3 → ⊥) → Stand rows h (rowsTaken kids)
-      → EachConforms rows kids → Given rows kids
+      → EachConforms rows kids → HasValues rows kids
       → Puts y t (walked rows (saying kids) y) (filled kind rows kids y t) (those (hasRole 4) rows (saying kids))
       (map positionOf (those (hasRole 9) rows (saying kids))) (map amountIn (those (hasRole 10) rows (saying kids)))
-  unfolding walked filled saying rowsTaken Stand EachConforms Given those
+  unfolding walked filled saying rowsTaken Stand EachConforms HasValues those
   puts none h y t l n s c g = puts-none refl refl refl
   puts (element q x inner after) h y t l n s c g =
       let w = getD rows q 0 in
       let a = saying inner in
       let b = saying after in
       puts-lists
-      (append-assoc (own (hasRole 4 w) (saidOf x)) (those (hasRole 4) rows a) (those (hasRole 4) rows b) ∙ sym (those-parts (hasRole 4) rows q (saidOf x) a b))
+      (append-assoc (own (hasRole 4 w) (saidOf x)) (those (hasRole 4) rows a) (those (hasRole 4) rows b) ∙ sym (those-parts rows (hasRole 4) q (saidOf x) a b))
       (append-assoc (map positionOf (own (hasRole 9 w) (saidOf x))) (map positionOf (those (hasRole 9) rows a)) (map positionOf (those (hasRole 9) rows b))
-      ∙ sym (mapped-parts positionOf (hasRole 9) rows q (saidOf x) a b))
+      ∙ sym (mapped-parts rows positionOf (hasRole 9) q (saidOf x) a b))
       (append-assoc (map amountIn (own (hasRole 10 w) (saidOf x))) (map amountIn (those (hasRole 10) rows a)) (map amountIn (those (hasRole 10) rows b))
-      ∙ sym (mapped-parts amountIn (hasRole 10) rows q (saidOf x) a b))
+      ∙ sym (mapped-parts rows amountIn (hasRole 10) q (saidOf x) a b))
       (puts-on
       (⊎-elim
       (λ d. interval-puts q x inner y t (d .0) (c .0) (c .1) (g .1))
       (λ d.
       other-puts h q x inner y t l n (s .0) (s .1) (d .0)
-      (puts inner q (opened w (saidOf x) y) (entered kind rows q x (opened w (saidOf x) y) t) (s .0) (d .0) (c .0 .stand) (c .1) (g .1)))
+      (puts inner q (opened w (saidOf x) y) (tablesWith kind rows q x (opened w (saidOf x) y) t) (s .0) (d .0) (c .0 .stand) (c .1) (g .1)))
       (eqb-cases q (p + 3)))
-      (puts after h (walked rows a (opened w (saidOf x) y)) (filled kind rows inner (opened w (saidOf x) y) (entered kind rows q x (opened w (saidOf x) y) t)) l n (s .2) (c .2) (g .2)))
+      (puts after h (walked rows a (opened w (saidOf x) y)) (filled kind rows inner (opened w (saidOf x) y) (tablesWith kind rows q x (opened w (saidOf x) y) t)) l n (s .2) (c .2) (g .2)))

@@ -31,15 +31,12 @@ use Rattle.reader.specs.Reading.{endedAt as overAt}
 use Rattle.reader.proofs.Ran.{read-next, read-stop}
 use Rattle.trees.specs.Trees.{Sign, Opens, Closes}
 use Rattle.contents.specs.Spelled.{saidBy, nameIn, allowed, AllAllowed}
-use Rattle.contents.proofs.Laid.{Layout}
+use Rattle.contents.proofs.Laid.{Layout, Known, laid}
 use Rattle.contents.proofs.Walk.{Tally, nothing, Ended}
-use Rattle.contents.proofs.Fill.{saidByItem, saidOf, placedBy, placedSigns, stateOf}
-use Rattle.contents.proofs.Fill.{entered as tablesWith}
-use Rattle.contents.proofs.Lifted.{Known}
+use Rattle.contents.proofs.Fill.{tablesWith, saidByItem, saidOf, placedBy, placedSigns, stateOf}
 use Rattle.contents.proofs.Signs.{on-row, row-on, Goal, after, bringing, Runs, Opening, Closing, respelled}
-use Rattle.contents.proofs.Rooted.{laid, kind-cases, first-row, no-end, not-over, row-within, row-named, short-ends, ends-row, row-ends}
-use Rattle.contents.proofs.Moved.{Low, low-opened, low-less, tables-inside, tables-still, still, dark-text, unread, step-told, step-in}
-use Rattle.contents.proofs.Moved.{over-known, Went, Goes, Closed, started-goes, went-starts, ended-goes, went-ends}
+use Rattle.contents.proofs.Rooted.{kind-cases, first-row, no-end, not-over, row-within, row-named, short-ends, ends-row, row-ends}
+use Rattle.contents.proofs.Moved.{Low, low-opened, low-less, tables-inside, tables-still, still, dark-text, unread, step-told, step-in, over-known, Went, Goes, Closed, started-goes, went-starts, ended-goes, went-ends}
 
 -- ---- the kinds of items
 
@@ -72,7 +69,8 @@ unfolding passed placedBy allowed
 passed-signs x (Start t) e = absurd (zero-not-one (cc))
 passed-signs x (Empty t) e = absurd (zero-not-one (cc))
 passed-signs x (End n m) e = absurd (zero-not-one (cc))
-passed-signs x (Text w m) e = (refl, e)
+passed-signs x (Text true m) e = (refl, refl)
+passed-signs x (Text false m) e = absurd (zero-not-one (cc))
 passed-signs x (Comment m) e = (refl, refl)
 passed-signs x (Unreadable p) e = absurd (zero-not-one (cc))
 
@@ -166,7 +164,7 @@ module _ (doc : List ℕ) (room : Room) (kind : ℕ) (known : Known kind) where
   abbrev L : Layout (rowsOf kind) (laid kind known .period)
   L = laid kind known .layout
 
-  abbrev pub Reads : List Placed → ℕ → Bool → Tally → Tables → Type 0
+  abbrev Reads : List Placed → ℕ → Bool → Tally → Tables → Type 0
   Reads xs r o y t = AllAllowed xs × Runs doc room kind rows (Over kind) (placedSigns xs) r o y t
 
   -- the row of an empty tag is no Period's
@@ -301,7 +299,7 @@ module _ (doc : List ℕ) (room : Room) (kind : ℕ) (known : Known kind) where
       by true e = refl
       by false e = absurd (omega (arith, e))
 
-  pub items-forth : (xs : List Placed) (r : ℕ) (o : Bool) (y : Tally) (t : Tables) → Low (length xs) y
+  items-forth : (xs : List Placed) (r : ℕ) (o : Bool) (y : Tally) (t : Tables) → Low (length xs) y
       → readItems doc room xs (stateOf kind r o y) t .found .refusal ≡ 0 → Reads xs r o y t
   unfolding readItems placedSigns AllAllowed Runs
   items-forth [] r o y t low ok = (tt, over-forth r o y ok)
@@ -402,7 +400,7 @@ module _ (doc : List ℕ) (room : Room) (kind : ℕ) (known : Known kind) where
   unfolding readItems stateOf
   over-back out r o y t e = rw (over-known kind known (length doc) (stateOf kind r o y) refl, e .0) (e .1)
 
-  pub items-back : (out : Out) (xs : List Placed) (r : ℕ) (o : Bool) (y : Tally) (t : Tables) → Low (length xs) y → AllAllowed xs
+  items-back : (out : Out) (xs : List Placed) (r : ℕ) (o : Bool) (y : Tally) (t : Tables) → Low (length xs) y → AllAllowed xs
       → Runs doc room kind rows (Ends doc kind out) (placedSigns xs) r o y t → readItems doc room xs (stateOf kind r o y) t ≡ out
   unfolding placedSigns Runs
   items-back out [] r o y t low may runs = over-back out r o y t runs
@@ -453,7 +451,7 @@ no-close name = by (endOf (rowsOf 2) 0 true name) refl
 
 module _ (doc : List ℕ) (room : Room) where
   -- a kind is told, and by its rows the items are read
-  abbrev pub Begins : List Placed → Tables → Type 0
+  abbrev Begins : List Placed → Tables → Type 0
   Begins xs t = (kind : ℕ) × Known kind × AllAllowed xs × Runs doc room kind (rowsOf kind) (Over kind) (placedSigns xs) 0 true nothing t
 
   module _ (x : Placed) (xs : List Placed) (t : Tables) (low : Low (suc (length xs)) nothing)

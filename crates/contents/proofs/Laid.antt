@@ -1,27 +1,33 @@
--- The two structure tables lie alike: the root is row 1, a series row 12, its Period row p, and then TimeInterval, Resolution, Interval, Pos and Qty.
--- Assumes nothing.
-use Prim.Native.Nat.{ℕ, _+_, _<_}
+-- What is known of the two structure tables. They lie alike: the root is row 1, a series row 12, its Period row p, and then TimeInterval, Resolution,
+-- Interval, Pos and Qty. Assumes nothing.
+use Prim.Native.Nat.{ℕ, zero, suc, _+_, _≤_, _<_}
 use mathlib.Core.Path.{_≡_, refl}
-use mathlib.Core.List.{List}
-use mathlib.Core.Bool.{Bool, true, false, cond}
-use native.Mathlib.Omega.{arith}
+use mathlib.Core.List.{List, [], _∷_}
+use mathlib.Core.Bool.{Bool, true, false, cond, not}
+use mathlib.Core.Logic.{_⊎_, ⊎-elim}
 use lib.Dec.{eqb, leb, ltb}
 use lib.ListN.{length, getD}
-use borrow.Author.Tests.{eq-eqb, eqb-true, lt-ltb, ltb-true}
+use borrow.Author.Tests.{eq-eqb, ne-eqb, eqb-true, le-leb, lt-ltb, ltb-true, not-true}
+use Rattle.lists.proofs.Cases.{bool-cases, both-true, never}
 use Rattle.slices.specs.Same.{same}
 use Rattle.elements.specs.Names.{names, numberIn, elementNo}
-use Rattle.structure.specs.Rows.{parentOf, required, repeated}
+use Rattle.structure.specs.Rows.{nameOf, parentOf, required, repeated, endsIn, endsAtOnce}
 use Rattle.guideline.specs.Columns.{formOf, collapsed, roleOf}
+use Rattle.guideline.specs.Kinds.{kindOf}
 use Rattle.guideline.specs.Rows.{beschaffungsanforderung, kostenblatt, rowsOf}
-use Rattle.lists.proofs.Cases.{both-true}
+use Rattle.states.specs.Attributes.{asksV}
 use Rattle.blindness.proofs.Tables.{allBelow, below, where-true}
 use Rattle.trees.specs.Trees.{wellMade}
 use Rattle.trees.proofs.Made.{one-well-made, two-well-made}
+
+abbrev pub Known : ℕ → Type 0
+Known kind = (kind ≡ 1) ⊎ (kind ≡ 2)
 
 -- the row that row q stands in
 abbrev pub home : ℕ → ℕ → ℕ
 home p q = cond (leb q 1) 0 (cond (leb q 12) 1 (cond (leb q p) 12 (cond (leb q (p + 3)) p (p + 3))))
 
+-- a table lies so, with its Period in row p
 pub record Layout (rows : List ℕ) (p : ℕ) : Type 0 where
   pub size : length rows ≡ p + 6
   pub wide : 20 < p
@@ -64,127 +70,152 @@ pub record Layout (rows : List ℕ) (p : ℕ) : Type 0 where
   pub must-qty : required (getD rows (p + 5) 0) ≡ true
   pub once : (q : ℕ) → q < length rows → (q ≡ 12 → ⊥) → (q ≡ p + 3 → ⊥) → repeated (getD rows q 0) ≡ false
 
--- the test of a row that has a number in one of its columns
-only : (rows : List ℕ) (column : ℕ → ℕ) (n i : ℕ) → allBelow (length rows) (λ q. cond (eqb (column (getD rows q 0)) n) (eqb q i) true) ≡ true
-    → (q : ℕ) → q < length rows → column (getD rows q 0) ≡ n → q ≡ i
-only rows column n i t q l e =
-    eqb-true q i
-    (where-true (eqb (column (getD rows q 0)) n) (below (length rows) (λ q. cond (eqb (column (getD rows q 0)) n) (eqb q i) true) t q l)
-    (eq-eqb (column (getD rows q 0)) n e))
+-- what the tables show has a value
+abbrev pub Valued : List ℕ → Type 0
+Valued rows = (q : ℕ) → q < length rows → 6 ≤ roleOf (getD rows q 0) → asksV (getD rows q 0) ≡ true
 
-onlyBetween : (rows : List ℕ) (n a b : ℕ)
-    → allBelow (length rows) (λ q. cond (eqb (roleOf (getD rows q 0)) n) (cond (ltb a q) (ltb q b) false) true) ≡ true
+-- the rows of a kind; a Period has to have something in it, and the root's name tells the kind
+pub record Laid (kind : ℕ) : Type 0 where
+  pub period : ℕ
+  pub layout : Layout (rowsOf kind) period
+  pub valued : Valued (rowsOf kind)
+  pub filled : endsAtOnce (rowsOf kind) period ≡ false
+  pub told : kindOf (nameOf (getD (rowsOf kind) 1 0)) ≡ kind
+
+-- ---- the tests by which a table lies so
+
+-- a test of each row of which something is known
+abbrev wherever : List ℕ → (ℕ → Bool) → (ℕ → Bool) → Bool
+wherever rows given test = allBelow (length rows) (λ q. cond (given q) (test q) true)
+
+at-row : (rows : List ℕ) (given test : ℕ → Bool) → wherever rows given test ≡ true → (q : ℕ) → q < length rows → given q ≡ true → test q ≡ true
+at-row rows given test t q l e = where-true (given q) (below (length rows) (λ q. cond (given q) (test q) true) t q l) e
+
+-- row i has n in a column, and no other row has
+abbrev soleTest : List ℕ → (ℕ → ℕ) → ℕ → ℕ → Bool
+soleTest rows column n i = cond (eqb (column (getD rows i 0)) n) (wherever rows (λ q. eqb (column (getD rows q 0)) n) (λ q. eqb q i)) false
+
+sole : (rows : List ℕ) (column : ℕ → ℕ) (n i : ℕ) → soleTest rows column n i ≡ true
+    → (column (getD rows i 0) ≡ n) × ((q : ℕ) → q < length rows → column (getD rows q 0) ≡ n → q ≡ i)
+sole rows column n i t =
+    let h = both-true (eqb (column (getD rows i 0)) n) t in (
+      eqb-true (column (getD rows i 0)) n (h .0),
+      λ q l e. eqb-true q i (at-row rows (λ q. eqb (column (getD rows q 0)) n) (λ q. eqb q i) (h .1) q l (eq-eqb (column (getD rows q 0)) n e)),
+    )
+
+between : (rows : List ℕ) (n a b : ℕ) → wherever rows (λ q. eqb (roleOf (getD rows q 0)) n) (λ q. cond (ltb a q) (ltb q b) false) ≡ true
     → (q : ℕ) → q < length rows → roleOf (getD rows q 0) ≡ n → (a < q) × (q < b)
-onlyBetween rows n a b t q l e =
-    let h = where-true (eqb (roleOf (getD rows q 0)) n) (below (length rows) (λ q. cond (eqb (roleOf (getD rows q 0)) n) (cond (ltb a q) (ltb q b) false) true) t q l)
-    (eq-eqb (roleOf (getD rows q 0)) n e) in
+between rows n a b t q l e =
+    let h = at-row rows (λ q. eqb (roleOf (getD rows q 0)) n) (λ q. cond (ltb a q) (ltb q b) false) t q l (eq-eqb (roleOf (getD rows q 0)) n e) in
     let k = both-true (ltb a q) h in
     (ltb-true a q (k .0), ltb-true q b (k .1))
 
-standing : (rows : List ℕ) (p : ℕ) → allBelow (length rows) (λ q. cond (ltb 0 q) (eqb (parentOf (getD rows q 0)) (home p q)) true) ≡ true
-    → (q : ℕ) → 0 < q → q < length rows → parentOf (getD rows q 0) ≡ home p q
-standing rows p t q a l =
-    eqb-true (parentOf (getD rows q 0)) (home p q)
-    (where-true (ltb 0 q) (below (length rows) (λ q. cond (ltb 0 q) (eqb (parentOf (getD rows q 0)) (home p q)) true) t q l) (lt-ltb 0 q a))
-
 -- not repeated but for two rows
-single : (rows : List ℕ) (a b : ℕ) → allBelow (length rows) (λ q. cond (repeated (getD rows q 0)) (cond (eqb q a) true (eqb q b)) true) ≡ true
+single : (rows : List ℕ) (a b : ℕ) → wherever rows (λ q. repeated (getD rows q 0)) (λ q. cond (eqb q a) true (eqb q b)) ≡ true
     → (q : ℕ) → q < length rows → (q ≡ a → ⊥) → (q ≡ b → ⊥) → repeated (getD rows q 0) ≡ false
-single rows a b t q l f g = by (repeated (getD rows q 0)) refl (eqb q a) refl
-  where
-    whole : cond (repeated (getD rows q 0)) (cond (eqb q a) true (eqb q b)) true ≡ true
-    whole = below (length rows) (λ q. cond (repeated (getD rows q 0)) (cond (eqb q a) true (eqb q b)) true) t q l
+single rows a b t q l f g =
+    ⊎-elim
+    (λ y.
+    let h = at-row rows (λ q. repeated (getD rows q 0)) (λ q. cond (eqb q a) true (eqb q b)) t q l y in
+    let k : false ≡ true = rw (ne-eqb q a f, ne-eqb q b g) at h in
+    never k)
+    (λ y. y)
+    (bool-cases (repeated (getD rows q 0)))
 
-    by : (r : Bool) → repeated (getD rows q 0) ≡ r → (e : Bool) → eqb q a ≡ e → repeated (getD rows q 0) ≡ false
-    by true x true y = absurd (f (eqb-true q a y))
-    by true x false y =
-        let h : cond (eqb q a) true (eqb q b) ≡ true = where-true (repeated (getD rows q 0)) whole x in
-        let k : eqb q b ≡ true = rw y at h in
-        absurd (g (eqb-true q b k))
-    by false x e y = x
+abbrev all : List Bool → Bool
+all [] = true
+all (t ∷ ts) = cond t (all ts) false
 
-pub layout-one : Layout (rowsOf 1) 26
-unfolding rowsOf beschaffungsanforderung kostenblatt elementNo numberIn names same parentOf required repeated roleOf formOf collapsed
-layout-one =
+all-at : (ts : List Bool) → all ts ≡ true → (i : ℕ) → getD ts i true ≡ true
+all-at [] h i = refl
+all-at (t ∷ ts) h zero = both-true t h .0
+all-at (t ∷ ts) h (suc i) = all-at ts (both-true t h .1) i
+
+abbrev tests : ℕ → ℕ → List Bool
+tests kind p =
+    let rows = rowsOf kind in
+    eqb (length rows) (p + 6) ∷ ltb 20 p ∷ wherever rows (λ q. ltb 0 q) (λ q. eqb (parentOf (getD rows q 0)) (home p q))
+    ∷ soleTest rows roleOf 1 1 ∷ soleTest rows roleOf 2 12 ∷ soleTest rows roleOf 3 p ∷ soleTest rows roleOf 4 (p + 3)
+    ∷ wherever rows (λ q. eqb (roleOf (getD rows q 0)) 5) (λ q. cond (ltb 18 q) (ltb q p) false)
+    ∷ soleTest rows roleOf 6 18 ∷ soleTest rows roleOf 7 14 ∷ soleTest rows roleOf 8 13 ∷ soleTest rows roleOf 9 (p + 4) ∷ soleTest rows roleOf 10 (p + 5)
+    ∷ soleTest rows formOf 6 11 ∷ soleTest rows formOf 7 (p + 1) ∷ soleTest rows formOf 9 (p + 4)
+    ∷ not (collapsed (getD rows 11 0)) ∷ collapsed (getD rows (p + 4) 0)
+    ∷ required (getD rows 1 0) ∷ required (getD rows p 0) ∷ required (getD rows 18 0) ∷ required (getD rows 14 0) ∷ required (getD rows 13 0)
+    ∷ required (getD rows (p + 4) 0) ∷ required (getD rows (p + 5) 0)
+    ∷ wherever rows (λ q. repeated (getD rows q 0)) (λ q. cond (eqb q 12) true (eqb q (p + 3)))
+    ∷ wherever rows (λ q. leb 6 (roleOf (getD rows q 0))) (λ q. asksV (getD rows q 0))
+    ∷ not (endsAtOnce rows p) ∷ eqb (kindOf (nameOf (getD rows 1 0))) kind ∷ []
+
+-- the tests by their places in that list
+tested : (kind p : ℕ) → wellMade (rowsOf kind) ≡ true → all (tests kind p) ≡ true → Laid kind
+tested kind p well h =
+    let rows = rowsOf kind in
+    let t : (i : ℕ) → getD (tests kind p) i true ≡ true = all-at (tests kind p) h in
+    let root = sole rows roleOf 1 1 (t 3) in
+    let series = sole rows roleOf 2 12 (t 4) in
+    let period = sole rows roleOf 3 p (t 5) in
+    let interval = sole rows roleOf 4 (p + 3) (t 6) in
+    let object = sole rows roleOf 6 18 (t 8) in
+    let business = sole rows roleOf 7 14 (t 9) in
+    let id = sole rows roleOf 8 13 (t 10) in
+    let pos = sole rows roleOf 9 (p + 4) (t 11) in
+    let qty = sole rows roleOf 10 (p + 5) (t 12) in
+    let pos-form = sole rows formOf 9 (p + 4) (t 15) in
     record {
-      size = refl;
-      wide = omega arith;
-      well = one-well-made;
-      stands = standing (rowsOf 1) 26 refl;
-      root = refl;
-      series = refl;
-      period = refl;
-      interval = refl;
-      object = refl;
-      business = refl;
-      id = refl;
-      pos = refl;
-      qty = refl;
-      only-root = only (rowsOf 1) roleOf 1 1 refl;
-      only-series = only (rowsOf 1) roleOf 2 12 refl;
-      only-period = only (rowsOf 1) roleOf 3 26 refl;
-      only-interval = only (rowsOf 1) roleOf 4 29 refl;
-      only-originals = onlyBetween (rowsOf 1) 5 18 26 refl;
-      only-object = only (rowsOf 1) roleOf 6 18 refl;
-      only-business = only (rowsOf 1) roleOf 7 14 refl;
-      only-id = only (rowsOf 1) roleOf 8 13 refl;
-      only-pos = only (rowsOf 1) roleOf 9 30 refl;
-      only-qty = only (rowsOf 1) roleOf 10 31 refl;
-      covered-form = only (rowsOf 1) formOf 6 11 refl;
-      time-form = only (rowsOf 1) formOf 7 27 refl;
-      only-pos-form = only (rowsOf 1) formOf 9 30 refl;
-      pos-form = refl;
-      covered-kept = refl;
-      pos-collapsed = refl;
-      must-root = refl;
-      must-period = refl;
-      must-object = refl;
-      must-business = refl;
-      must-id = refl;
-      must-pos = refl;
-      must-qty = refl;
-      once = single (rowsOf 1) 12 29 refl;
+      period = p;
+      layout =
+          record {
+            size = eqb-true (length rows) (p + 6) (t 0);
+            wide = ltb-true 20 p (t 1);
+            well = well;
+            stands = λ q a l. eqb-true (parentOf (getD rows q 0)) (home p q)
+                (at-row rows (λ q. ltb 0 q) (λ q. eqb (parentOf (getD rows q 0)) (home p q)) (t 2) q l (lt-ltb 0 q a));
+            root = root .0;
+            series = series .0;
+            period = period .0;
+            interval = interval .0;
+            object = object .0;
+            business = business .0;
+            id = id .0;
+            pos = pos .0;
+            qty = qty .0;
+            only-root = root .1;
+            only-series = series .1;
+            only-period = period .1;
+            only-interval = interval .1;
+            only-originals = between rows 5 18 p (t 7);
+            only-object = object .1;
+            only-business = business .1;
+            only-id = id .1;
+            only-pos = pos .1;
+            only-qty = qty .1;
+            covered-form = sole rows formOf 6 11 (t 13) .1;
+            time-form = sole rows formOf 7 (p + 1) (t 14) .1;
+            only-pos-form = pos-form .1;
+            pos-form = pos-form .0;
+            covered-kept = not-true (collapsed (getD rows 11 0)) (t 16);
+            pos-collapsed = t 17;
+            must-root = t 18;
+            must-period = t 19;
+            must-object = t 20;
+            must-business = t 21;
+            must-id = t 22;
+            must-pos = t 23;
+            must-qty = t 24;
+            once = single rows 12 (p + 3) (t 25);
+          };
+      valued = λ q l e. at-row rows (λ q. leb 6 (roleOf (getD rows q 0))) (λ q. asksV (getD rows q 0)) (t 26) q l (le-leb 6 (roleOf (getD rows q 0)) e);
+      filled = not-true (endsAtOnce rows p) (t 27);
+      told = eqb-true (kindOf (nameOf (getD rows 1 0))) kind (t 28);
     }
 
-pub layout-two : Layout (rowsOf 2) 28
-unfolding rowsOf beschaffungsanforderung kostenblatt elementNo numberIn names same parentOf required repeated roleOf formOf collapsed
-layout-two =
-    record {
-      size = refl;
-      wide = omega arith;
-      well = two-well-made;
-      stands = standing (rowsOf 2) 28 refl;
-      root = refl;
-      series = refl;
-      period = refl;
-      interval = refl;
-      object = refl;
-      business = refl;
-      id = refl;
-      pos = refl;
-      qty = refl;
-      only-root = only (rowsOf 2) roleOf 1 1 refl;
-      only-series = only (rowsOf 2) roleOf 2 12 refl;
-      only-period = only (rowsOf 2) roleOf 3 28 refl;
-      only-interval = only (rowsOf 2) roleOf 4 31 refl;
-      only-originals = onlyBetween (rowsOf 2) 5 18 28 refl;
-      only-object = only (rowsOf 2) roleOf 6 18 refl;
-      only-business = only (rowsOf 2) roleOf 7 14 refl;
-      only-id = only (rowsOf 2) roleOf 8 13 refl;
-      only-pos = only (rowsOf 2) roleOf 9 32 refl;
-      only-qty = only (rowsOf 2) roleOf 10 33 refl;
-      covered-form = only (rowsOf 2) formOf 6 11 refl;
-      time-form = only (rowsOf 2) formOf 7 29 refl;
-      only-pos-form = only (rowsOf 2) formOf 9 32 refl;
-      pos-form = refl;
-      covered-kept = refl;
-      pos-collapsed = refl;
-      must-root = refl;
-      must-period = refl;
-      must-object = refl;
-      must-business = refl;
-      must-id = refl;
-      must-pos = refl;
-      must-qty = refl;
-      once = single (rowsOf 2) 12 31 refl;
-    }
+laid-one : Laid 1
+unfolding rowsOf beschaffungsanforderung kostenblatt elementNo numberIn names same parentOf required repeated roleOf formOf collapsed asksV nameOf kindOf endsAtOnce endsIn
+laid-one = tested 1 26 one-well-made refl
+
+laid-two : Laid 2
+unfolding rowsOf beschaffungsanforderung kostenblatt elementNo numberIn names same parentOf required repeated roleOf formOf collapsed asksV nameOf kindOf endsAtOnce endsIn
+laid-two = tested 2 28 two-well-made refl
+
+pub laid : (kind : ℕ) → Known kind → Laid kind
+laid kind k = ⊎-elim (λ e. rw e laid-one) (λ e. rw e laid-two) k

@@ -2,28 +2,30 @@
 -- Assumes nothing.
 use Prim.Native.Nat.{ℕ, _+_, _-_, _≤_, _<_}
 use mathlib.Core.Path.{_≡_, refl, sym, ap, subst, _∙_}
-use mathlib.Core.List.{List, [], _∷_, _++_, map, append-nil, append-assoc}
-use mathlib.Core.Logic.{_⊎_, inl, inr, ⊎-elim}
-use mathlib.Core.Bool.{Bool, true, false, cond, _&&_}
+use mathlib.Core.List.{List, [], _++_, map, append-nil}
+use mathlib.Core.Logic.{_⊎_, inl, inr, ⊎-elim, _↔_}
+use mathlib.Core.Bool.{true, false, cond, _&&_}
 use native.Mathlib.Omega.{arith}
 use lib.Dec.{eqb, leb}
-use lib.ListN.{length, getD, length-append}
-use borrow.Author.Tests.{eq-eqb, ne-eqb, eqb-true, le-leb, leb-true}
-use Rattle.lists.proofs.Cases.{bool-cases, eqb-cases, leb-cases, zero-not-one}
-use Rattle.rules.specs.Rules.{judge, refused}
+use lib.ListN.{length, getD}
+use borrow.Author.Tests.{eq-eqb, ne-eqb, le-leb, leb-true}
+use Rattle.lists.proofs.Cases.{bool-cases, eqb-cases, leb-cases}
+use Rattle.rules.specs.Rules.{judge}
 use Rattle.rules.specs.declared.Held.{Held}
 use Rattle.guideline.specs.Columns.{formOf, roleOf}
 use Rattle.guideline.specs.Kinds.{hasEnough}
 use Rattle.states.specs.Moves.{countRefusal}
 use Rattle.states.specs.declared.Room.{Room}
-use Rattle.trees.specs.Trees.{Trees, none, element, Conforms}
+use Rattle.trees.specs.Trees.{Trees, none, element}
 use Rattle.contents.specs.Said.{Said}
-use Rattle.contents.specs.Legal.{hasRole, hasForm, those, inEach, Period, periodIn, periodOf, quartersOf, positionOf, valueFits, elementFits, Each, inTurn, countFits, SeriesFits, All}
+use Rattle.contents.specs.Legal.{hasRole, those, Period, quartersOf, positionOf, valueFits, elementFits, Each, inTurn, countFits, SeriesFits}
+use Rattle.contents.proofs.Tests.{chosen, other, and-parts, parts-and}
 use Rattle.contents.proofs.Laid.{Layout}
-use Rattle.contents.proofs.Walk.{Tally, nothing, opened, walked, quartersIn, Taken, Ended, Passes}
-use Rattle.contents.proofs.Tallies.{chosen, other, Within, within-more, beside, none-there, no-role, those-beside, each-beside, each-parts, walked-beside, unchanged, intervals-walked, series-walked, originals-walked, first-walked, period-walked}
-use Rattle.contents.proofs.Segments.{Holds, Plain, Segment, unit, length-element, passes-fit, fit-passes}
-use Rattle.contents.proofs.Splits.{SeriesShape, AllSeries, RootShape, DocumentShape, document-shape}
+use Rattle.contents.proofs.Elements.{Within, within-more, beside, no-role, those-beside, each-beside, each-parts, last-those}
+use Rattle.contents.proofs.Shape.{SeriesShape}
+use Rattle.contents.proofs.Walk.{Tally, opened, walked, quartersIn, Passes}
+use Rattle.contents.proofs.Tallies.{unchanged, intervals-walked, originals-walked, first-walked}
+use Rattle.contents.proofs.Segments.{Holds, Plain, Segment, passes-segment}
 
 -- ---- the rule of one element, and the period
 
@@ -60,34 +62,6 @@ module _ (kind : ℕ) (room : Room) (rows : List ℕ) where
   passes-beside (element q s inner after) d y a b =
       (a .0, a .1, a .2, passes-beside after d (walked rows inner (opened (getD rows q 0) s y)) (a .3) b)
 
-pub within-beside : {A : Type 0} (R : ℕ → Type 0) (c d : Trees A) → Within R c → Within R d → Within R (beside c d)
-unfolding Within beside
-within-beside R none d a b = b
-within-beside R (element q s inner after) d a b = (a .0, a .1, within-beside R after d (a .2) b)
-
-module _ (rows : List ℕ) where
-  pub each-none : {A : Type 0} (test : ℕ → Bool) (c : Trees A) → Within (λ q. test (getD rows q 0) ≡ false) c → inEach test rows c ≡ []
-  unfolding inEach Within
-  each-none test none h = refl
-  each-none test (element q s inner after) h = rw (h .0, each-none test inner (h .1), each-none test after (h .2)) refl
-
-  pub in-beside : {A : Type 0} (test : ℕ → Bool) (c d : Trees A) → inEach test rows (beside c d) ≡ inEach test rows c ++ inEach test rows d
-  unfolding inEach beside
-  in-beside test none d = refl
-  in-beside test (element q s inner after) d =
-      let e = ap (λ l. inEach test rows inner ++ l) (in-beside test after d)
-      ∙ sym (append-assoc (inEach test rows inner) (inEach test rows after) (inEach test rows d)) in
-      ⊎-elim
-      (λ (y : test (getD rows q 0) ≡ true). rw y (ap (λ l. inner ∷ l) e))
-      (λ (y : test (getD rows q 0) ≡ false). rw y e)
-      (bool-cases (test (getD rows q 0)))
-
-  -- an element that does not pass the test itself, with nothing after it
-  pub last-those : {A : Type 0} (test : ℕ → Bool) (q : ℕ) (s : A) (inner : Trees A) → test (getD rows q 0) ≡ false
-      → those test rows (element q s inner none) ≡ those test rows inner
-  unfolding those
-  last-those test q s inner e = rw e (append-nil (those test rows inner))
-
 -- ---- how many Intervals
 
 counts : (kind n quarters : ℕ) → countRefusal kind quarters n ≡ 0 → (kind ≡ 1 → n ≤ 100) → countFits kind quarters n ≡ true
@@ -101,7 +75,8 @@ counts kind n quarters e f =
     (λ (a : (92 ≤ n) × (leb 92 n ≡ true)).
     let g : _≡_ {A = ℕ} (cond (eqb n quarters) 0 8) 0 = rw (a .1) at h in
     ⊎-elim
-    (λ (b : eqb n quarters ≡ true). rw (a .1, le-leb n 100 (f (y .0)), b) refl)
+    (λ (b : eqb n quarters ≡ true).
+    parts-and (leb 92 n && leb n 100) (eqb n quarters) (parts-and (leb 92 n) (leb n 100) (a .1) (le-leb n 100 (f (y .0)))) b)
     (λ (b : eqb n quarters ≡ false). let z : _≡_ {A = ℕ} 8 0 = rw b at g in absurd (omega (arith, z)))
     (bool-cases (eqb n quarters)))
     (λ (a : (n < 92) × (leb 92 n ≡ false)). let z : _≡_ {A = ℕ} 3 0 = rw (a .1) at h in absurd (omega (arith, z)))
@@ -115,27 +90,22 @@ counts kind n quarters e f =
     (bool-cases (leb 1 n))))
     (eqb-cases kind 1)
 
-three-true : (a b c : Bool) → a && b && c ≡ true → (a ≡ true) × (b ≡ true) × (c ≡ true)
-three-true true true true e = (refl, refl, refl)
-three-true true true false e = absurd (zero-not-one (cc))
-three-true true false c e = absurd (zero-not-one (cc))
-three-true false b c e = absurd (zero-not-one (cc))
-
 counted-back : (kind n quarters : ℕ) → countFits kind quarters n ≡ true → (countRefusal kind quarters n ≡ 0) × (kind ≡ 1 → n ≤ 100)
 unfolding countRefusal countFits hasEnough
 counted-back kind n quarters e =
     ⊎-elim
     (λ (y : (kind ≡ 1) × (eqb kind 1 ≡ true)).
     let h : leb 92 n && leb n 100 && eqb n quarters ≡ true = rw (y .1) at e in
-    let t = three-true (leb 92 n) (leb n 100) (eqb n quarters) h in
-    (rw (y .1, t .0, t .2) refl, λ _. leb-true n 100 (t .1)))
+    let t = and-parts (leb 92 n && leb n 100) (eqb n quarters) h in
+    let u = and-parts (leb 92 n) (leb n 100) (t .0) in
+    (rw (y .1, u .0, t .1) refl, λ _. leb-true n 100 (u .1)))
     (λ (y : (kind ≡ 1 → ⊥) × (eqb kind 1 ≡ false)).
     let h : leb 1 n ≡ true = rw (y .1) at e in
     (rw (y .1, h) refl, λ k. absurd (y .0 k)))
     (eqb-cases kind 1)
 
 module _ (kind : ℕ) (room : Room) (rows : List ℕ) (p : ℕ) (L : Layout rows p) (p₀ : Period) where
-  abbrev pub quarters : ℕ
+  abbrev quarters : ℕ
   quarters = quartersOf p₀
 
   pub short : (q : ℕ) → q < p → q < length rows
@@ -177,34 +147,21 @@ module _ (kind : ℕ) (room : Room) (rows : List ℕ) (p : ℕ) (L : Layout rows
   abbrev InPeriod : ℕ → Type 0
   InPeriod q = (p < q) × (q < length rows)
 
-  abbrev pub InRoot : ℕ → Type 0
+  abbrev InRoot : ℕ → Type 0
   InRoot q = (1 < q) × (q < 12)
 
   -- the values of a series
-  head-fit : (c : Trees Said) → Within InHead c → (y : Tally) → Now y → Holds kind room y → Passes kind room rows c y → Segment kind room rows p₀ c y
-  head-fit =
-      passes-fit kind room rows p₀ InHead Now (λ q r. head-plain q (λ e. omega (arith, e, r .0)) (r .1))
-      (λ q s y r i. now-kept q s y (short q (r .1)) (λ e. omega (arith, e, r .0)) i)
-      (λ q s y r i. now-fits q s y i) (λ q y r i e. i)
-
-  head-passes : (c : Trees Said) → Within InHead c → (y : Tally) → Now y → Holds kind room y → Segment kind room rows p₀ c y → Passes kind room rows c y
-  head-passes =
-      fit-passes kind room rows p₀ InHead Now (λ q r. head-plain q (λ e. omega (arith, e, r .0)) (r .1))
+  head-segment : (c : Trees Said) → Within InHead c → (y : Tally) → Now y → Holds kind room y → Passes kind room rows c y ↔ Segment kind room rows p₀ c y
+  head-segment =
+      passes-segment kind room rows p₀ InHead Now (λ q r. head-plain q (λ e. omega (arith, e, r .0)) (r .1))
       (λ q s y r i. now-kept q s y (short q (r .1)) (λ e. omega (arith, e, r .0)) i)
       (λ q s y r i. now-fits q s y i) (λ q y r i e. i)
 
   -- what stands in a Period
-  deep-fit : (c : Trees Said) → Within InPeriod c → (y : Tally) → Now y → Holds kind room y → Passes kind room rows c y → Segment kind room rows p₀ c y
-  deep-fit =
+  deep-segment : (c : Trees Said) → Within InPeriod c → (y : Tally) → Now y → Holds kind room y → Passes kind room rows c y ↔ Segment kind room rows p₀ c y
+  deep-segment =
       let w = L .wide in
-      passes-fit kind room rows p₀ InPeriod Now deep-plain
-      (λ q s y r i. now-kept q s y (r .1) (λ e. omega (arith, e, r .0, w)) i)
-      (λ q s y r i. now-fits q s y i) (λ q y r i e. i)
-
-  deep-passes : (c : Trees Said) → Within InPeriod c → (y : Tally) → Now y → Holds kind room y → Segment kind room rows p₀ c y → Passes kind room rows c y
-  deep-passes =
-      let w = L .wide in
-      fit-passes kind room rows p₀ InPeriod Now deep-plain
+      passes-segment kind room rows p₀ InPeriod Now deep-plain
       (λ q s y r i. now-kept q s y (r .1) (λ e. omega (arith, e, r .0, w)) i)
       (λ q s y r i. now-fits q s y i) (λ q y r i e. i)
 
@@ -224,11 +181,8 @@ module _ (kind : ℕ) (room : Room) (rows : List ℕ) (p : ℕ) (L : Layout rows
       let z = L .only-pos-form q (short q (omega (arith, r .1, w))) e in
       absurd (omega (arith, z, r .1, w))
 
-  pub root-fit : (c : Trees Said) → Within InRoot c → (y : Tally) → Unit {0} → Holds kind room y → Passes kind room rows c y → Segment kind room rows p₀ c y
-  root-fit = passes-fit kind room rows p₀ InRoot (λ y. Unit {0}) root-plain (λ q s y r i. tt) root-any root-now
-
-  pub root-passes : (c : Trees Said) → Within InRoot c → (y : Tally) → Unit {0} → Holds kind room y → Segment kind room rows p₀ c y → Passes kind room rows c y
-  root-passes = fit-passes kind room rows p₀ InRoot (λ y. Unit {0}) root-plain (λ q s y r i. tt) root-any root-now
+  pub root-segment : (c : Trees Said) → Within InRoot c → (y : Tally) → Holds kind room y → Passes kind room rows c y ↔ Segment kind room rows p₀ c y
+  root-segment c h y a = passes-segment kind room rows p₀ InRoot (λ y. Unit {0}) root-plain (λ q s y r i. tt) root-any root-now c h y tt a
 
   -- ---- a series
 
@@ -374,13 +328,13 @@ module _ (kind : ℕ) (room : Room) (rows : List ℕ) (p : ℕ) (L : Layout rows
     unfolding quartersOf
     quarters-there = ap quartersOf deep-now
 
-    passes-rules-at : Passes kind room rows (beside head period) y → SeriesRules (beside head period) y
+    series-rules-at : Passes kind room rows (beside head period) y → SeriesRules (beside head period) y
     unfolding Passes Each
-    passes-rules-at t =
+    series-rules-at t =
         let u = passes-parts kind room rows head period y t in
         let b = u .1 in
-        let g = head-fit head (sh .heads) y (f .now) holds (u .0) in
-        let d = deep-fit inner (sh .deep) yp period-now period-holds (b .1) in
+        let g = head-segment head (sh .heads) y (f .now) holds .0 (u .0) in
+        let d = deep-segment inner (sh .deep) yp period-now period-holds .0 (b .1) in
         let n : length (those (hasRole 4) rows (beside head period)) ≡ length (those (hasRole 4) rows inner) = ap length intervals-there in
         let a = period-intervals in
         let c = period-first in
@@ -406,9 +360,9 @@ module _ (kind : ℕ) (room : Room) (rows : List ℕ) (p : ℕ) (L : Layout rows
           fit = let z = d .fit in omega (arith, z, a, n);
         }
 
-    rules-passes-at : SeriesRules (beside head period) y → Passes kind room rows (beside head period) y
+    series-passes-at : SeriesRules (beside head period) y → Passes kind room rows (beside head period) y
     unfolding Passes Each inTurn
-    rules-passes-at r =
+    series-passes-at r =
         let e = each-parts rows (elementFits kind p₀) head period (r .each) in
         let n : length (those (hasRole 4) rows (beside head period)) ≡ length (those (hasRole 4) rows inner) = ap length intervals-there in
         let a = period-intervals in
@@ -436,7 +390,7 @@ module _ (kind : ℕ) (room : Room) (rows : List ℕ) (p : ℕ) (L : Layout rows
           few = λ o. let z = k .1 o in omega (arith, z, a, c);
           fit = let z = r .fit in omega (arith, z, a, n);
         } in
-        passes-beside kind room rows head period y (head-passes head (sh .heads) y (f .now) holds g) (
+        passes-beside kind room rows head period y (head-segment head (sh .heads) y (f .now) holds .1 g) (
           record {
             fits = now-fits p (sh .tag) yh head-now ∙ e .1 .0;
             turn = λ z. let u = L .only-pos-form p inside z in absurd (omega (arith, u));
@@ -447,16 +401,16 @@ module _ (kind : ℕ) (room : Room) (rows : List ℕ) (p : ℕ) (L : Layout rows
                 let o : yh .originals ≡ length (those (hasRole 5) rows (beside head period)) = head-originals ∙ ap length (sym originals-there) in
                 ⊎-elim (λ z. inl (o ∙ z)) (λ z. inr (o ∙ z)) (r .fits .originals);
           },
-          deep-passes inner (sh .deep) yp period-now period-holds d,
+          deep-segment inner (sh .deep) yp period-now period-holds .1 d,
           (λ _.
-          ap (λ m. countRefusal kind m (walked rows inner yp .intervals - walked rows inner yp .first)) quarters-there
-          ∙ ap (λ m. countRefusal kind quarters m) count-there
-          ∙ k .0),
+              ap (λ m. countRefusal kind m (walked rows inner yp .intervals - walked rows inner yp .first)) quarters-there
+              ∙ ap (λ m. countRefusal kind quarters m) count-there
+              ∙ k .0),
           tt,
         )
 
-    pub passes-rules : Passes kind room rows c y → SeriesRules c y
-    passes-rules t = subst (λ d. SeriesRules d y) (sym (sh .is)) (passes-rules-at (subst (λ d. Passes kind room rows d y) (sh .is) t))
+    pub series-rules : Passes kind room rows c y → SeriesRules c y
+    series-rules t = subst (λ d. SeriesRules d y) (sym (sh .is)) (series-rules-at (subst (λ d. Passes kind room rows d y) (sh .is) t))
 
-    pub rules-passes : SeriesRules c y → Passes kind room rows c y
-    rules-passes r = subst (λ d. Passes kind room rows d y) (sym (sh .is)) (rules-passes-at (subst (λ d. SeriesRules d y) (sh .is) r))
+    pub series-passes : SeriesRules c y → Passes kind room rows c y
+    series-passes r = subst (λ d. Passes kind room rows d y) (sym (sh .is)) (series-passes-at (subst (λ d. SeriesRules d y) (sh .is) r))

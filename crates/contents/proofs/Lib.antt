@@ -1,8 +1,13 @@
+pub mod Tests
+pub mod Lists
 pub mod Laid
+pub mod Elements
+pub mod Shape
 pub mod Walk
 pub mod Fill
 pub mod Lifted
 pub mod Signs
+pub mod Values
 pub mod Steps
 pub mod Rooted
 pub mod Moved
@@ -10,10 +15,8 @@ pub mod Items
 pub mod Bridge
 pub mod Tallies
 pub mod Segments
-pub mod Splits
 pub mod Levels
 pub mod Rules
-pub mod Shapes
 pub mod Views
 pub mod Roles
 pub mod Intervals

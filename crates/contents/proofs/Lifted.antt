@@ -1,11 +1,9 @@
 -- The order of tags does not look at what else they say: a content over what the tags say is a content over the items that say it. Assumes nothing.
 use Prim.Native.Nat.{ℕ, zero, suc, pred}
 use mathlib.Core.Path.{_≡_, refl, sym, ap, _∙_}
-use mathlib.Core.List.{List, [], _∷_, _++_, map}
+use mathlib.Core.List.{List, [], _∷_, _++_, map, map-append}
 use mathlib.Core.Bool.{Bool, true, false}
-use mathlib.Core.Logic.{_⊎_, ⊎-elim}
 use lib.ListN.{getD, drop}
-use Rattle.lists.proofs.Cases.{zero-not-one}
 use Rattle.structure.specs.Rows.{nameOf, startOf, endOf}
 use Rattle.structure.specs.declared.Due.{Due}
 use Rattle.structure.specs.declared.Due.the-variants.{Row, NotDue}
@@ -14,21 +12,14 @@ use Rattle.items.specs.Item.{item, itemEnd}
 use Rattle.items.specs.declared.Item.{Item}
 use Rattle.items.specs.declared.Item.the-variants.{Start, Empty, End, Text, Comment, Refused}
 use Rattle.reader.specs.Items.{Placed, itemsAfter, itemsFrom}
-use Rattle.trees.specs.Trees.{Sign, Opens, Closes, Trees, none, element, rowsTaken, spell, EachConforms, Conforms, wellMade}
+use Rattle.trees.specs.Trees.{Sign, Opens, Closes, Trees, none, element, rowsTaken, spell, EachConforms, Conforms}
 use Rattle.trees.specs.Cursor.{onRow, follows}
-use Rattle.trees.proofs.Made.{one-well-made, two-well-made}
 use Rattle.trees.proofs.Theorems.{complete, sound, one-tree}
 use Rattle.contents.specs.Said.{Said}
 use Rattle.contents.specs.Spelled.{signsBy, signsOf}
+use Rattle.contents.proofs.Lists.{drop-next}
+use Rattle.contents.proofs.Laid.{laid, Known}
 use Rattle.contents.proofs.Fill.{saidByItem, saidOf, placedBy, placedSigns, saying, isTag, Stands}
-
--- ---- what the rows are
-
-abbrev pub Known : ℕ → Type 0
-Known kind = (kind ≡ 1) ⊎ (kind ≡ 2)
-
-pub known-made : (kind : ℕ) → Known kind → wellMade (rowsOf kind) ≡ true
-known-made kind k = ⊎-elim (λ e. rw e one-well-made) (λ e. rw e two-well-made) k
 
 -- ---- signs with other labels
 
@@ -36,16 +27,12 @@ unfoldable pub relabelled : Sign Placed → Sign Said
 relabelled (Opens x name) = Opens (saidOf x) name
 relabelled (Closes name) = Closes name
 
-map-append : (a b : List (Sign Placed)) → map relabelled (a ++ b) ≡ map relabelled a ++ map relabelled b
-map-append [] b = refl
-map-append (x ∷ a) b = ap (λ (l : List (Sign Said)). relabelled x ∷ l) (map-append a b)
-
 on-same : (d : Due) (f g : ℕ → Bool) → ((q : ℕ) → f q ≡ g q) → onRow d f ≡ onRow d g
 unfolding onRow
 on-same (Row q) f g h = h q
 on-same NotDue f g h = refl
 
-pub follows-said : (rows : List ℕ) (s : List (Sign Placed)) (r : ℕ) (o : Bool) → follows rows r o (map relabelled s) ≡ follows rows r o s
+follows-said : (rows : List ℕ) (s : List (Sign Placed)) (r : ℕ) (o : Bool) → follows rows r o (map relabelled s) ≡ follows rows r o s
 unfolding follows relabelled
 follows-said rows [] r o = refl
 follows-said rows (Opens x name ∷ s) r o =
@@ -68,7 +55,7 @@ signs-said [] = refl
 signs-said (x ∷ xs) =
     ap (λ (l : List (Sign Said)). l ++ signsOf xs) (by-said x (x .item) refl)
     ∙ ap (λ (l : List (Sign Said)). map relabelled (placedBy x (x .item)) ++ l) (signs-said xs)
-    ∙ sym (map-append (placedBy x (x .item)) (placedSigns xs))
+    ∙ sym (map-append relabelled (placedBy x (x .item)) (placedSigns xs))
 
 pub spell-said : (rows : List ℕ) (kids : Trees Placed) → spell rows (saying kids) ≡ map relabelled (spell rows kids)
 unfolding spell saying relabelled
@@ -78,7 +65,7 @@ spell-said rows (element q x inner after) =
     ap (λ (l : List (Sign Said)). Opens (saidOf x) name ∷ l)
     (ap (λ (l : List (Sign Said)). l ++ (Closes name ∷ spell rows (saying after))) (spell-said rows inner)
     ∙ ap (λ (l : List (Sign Said)). map relabelled (spell rows inner) ++ (Closes name ∷ l)) (spell-said rows after)
-    ∙ sym (map-append (spell rows inner) (Closes name ∷ spell rows after)))
+    ∙ sym (map-append relabelled (spell rows inner) (Closes name ∷ spell rows after)))
 
 -- ---- to conform
 
@@ -87,34 +74,20 @@ unfolding rowsTaken saying
 taken-said none = refl
 taken-said (element q x inner after) = ap (λ (l : List ℕ). q ∷ l) (taken-said after)
 
-each-said : (rows : List ℕ) (kids : Trees Placed) → EachConforms rows kids → EachConforms rows (saying kids)
+pub each-said : (rows : List ℕ) (kids : Trees Placed) → EachConforms rows kids → EachConforms rows (saying kids)
 unfolding EachConforms saying
 each-said rows none c = tt
 each-said rows (element q x inner after) c = (rw (taken-said inner) (c .0), each-said rows inner (c .1), each-said rows after (c .2))
 
-each-placed : (rows : List ℕ) (kids : Trees Placed) → EachConforms rows (saying kids) → EachConforms rows kids
-unfolding EachConforms saying
-each-placed rows none c = tt
-each-placed rows (element q x inner after) c = (rw (taken-said inner) at (c .0), each-placed rows inner (c .1), each-placed rows after (c .2))
-
 pub conforms-said : (rows : List ℕ) (p : ℕ) (kids : Trees Placed) → Conforms rows p kids → Conforms rows p (saying kids)
 conforms-said rows p kids c = record { fits = rw (taken-said kids) (c .fits); each = each-said rows kids (c .each) }
-
-pub conforms-placed : (rows : List ℕ) (p : ℕ) (kids : Trees Placed) → Conforms rows p (saying kids) → Conforms rows p kids
-conforms-placed rows p kids c = record { fits = rw (taken-said kids) at (c .fits); each = each-placed rows kids (c .each) }
 
 -- ---- where the items stand
 
 -- each item stands in the document
-abbrev pub Standing : List ℕ → List Placed → Type 0
+abbrev Standing : List ℕ → List Placed → Type 0
 Standing doc [] = Unit {0}
 Standing doc (x ∷ xs) = (x .rest ≡ drop (x .at) doc) × Standing doc xs
-
-drop-next : (doc : List ℕ) (at b : ℕ) (l : List ℕ) → b ∷ l ≡ drop at doc → l ≡ drop (suc at) doc
-drop-next [] zero b l e = absurd (zero-not-one (cc))
-drop-next (c ∷ doc) zero b l e = cc
-drop-next [] (suc at) b l e = absurd (zero-not-one (cc))
-drop-next (c ∷ doc) (suc at) b l e = drop-next doc at b l e
 
 after-standing : (doc : List ℕ) (k at : ℕ) (l : List ℕ) → l ≡ drop at doc → Standing doc (itemsAfter k at l)
 unfolding itemsAfter
@@ -123,7 +96,7 @@ after-standing doc (suc k) at (b ∷ t) e = after-standing doc k (suc at) t (dro
 after-standing doc zero at (b ∷ t) e =
     (e, after-standing doc (pred (itemEnd (item at (b ∷ t)))) (suc at) t (drop-next doc at b t e))
 
-pub items-standing : (doc : List ℕ) (n : ℕ) → Standing doc (itemsFrom doc n)
+items-standing : (doc : List ℕ) (n : ℕ) → Standing doc (itemsFrom doc n)
 unfolding itemsFrom
 items-standing doc n = after-standing doc 0 n (drop n doc) refl
 
@@ -170,7 +143,7 @@ pub lift : (doc : List ℕ) (n kind : ℕ) (c : Trees Said) → Known kind → s
 lift doc n kind c known e conforms =
     let rows = rowsOf kind in
     let xs = itemsFrom doc n in
-    let w = known-made kind known in
+    let w = laid kind known .layout .well in
     let f : follows rows 0 true (placedSigns xs) ≡ true =
     sym (follows-said rows (placedSigns xs) 0 true)
     ∙ ap (λ (s : List (Sign Said)). follows rows 0 true s) (sym (signs-said xs) ∙ e)

@@ -31,10 +31,9 @@ use Rattle.reader.specs.Reading.{endedAt as overAt}
 use Rattle.contents.specs.Said.{Said}
 use Rattle.contents.specs.Spelled.{saidBy}
 use Rattle.contents.specs.Legal.{positionOf}
-use Rattle.contents.proofs.Laid.{Layout}
+use Rattle.contents.proofs.Laid.{Layout, Known}
 use Rattle.contents.proofs.Walk.{Tally, opened, Taken, Ended}
 use Rattle.contents.proofs.Fill.{saidOf, stateOf}
-use Rattle.contents.proofs.Lifted.{Known}
 use Rattle.contents.proofs.Signs.{after, bringing, New}
 use Rattle.contents.proofs.Steps.{judged-taken, taken-judged, entered-opened, entry-same, ended-taken, taken-ended, closed-same}
 use Rattle.contents.proofs.Rooted.{row-within}

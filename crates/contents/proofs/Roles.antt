@@ -1,25 +1,13 @@
--- What a row is to the reader, case by case; what the content's lists have of one element; and that an element that has to bring a value brings it.
--- Assumes nothing.
-use Prim.Native.Nat.{ℕ, _≤_, _<_}
-use mathlib.Core.Path.{_≡_, refl, _∙_}
-use mathlib.Core.List.{List, [], _∷_, _++_, map, map-append}
-use mathlib.Core.Bool.{Bool, true, false, cond}
+-- What a row is to the tables, case by case. Assumes nothing.
+use Prim.Native.Nat.{ℕ}
+use mathlib.Core.Path.{_≡_}
+use mathlib.Core.Bool.{false}
 use mathlib.Core.Logic.{⊎-elim}
-use native.Mathlib.Omega.{arith}
-use lib.Dec.{eqb, leb}
-use lib.ListN.{length, getD}
-use borrow.Author.Tests.{le-leb}
+use lib.Dec.{eqb}
 use Rattle.lists.proofs.Cases.{eqb-cases}
-use Rattle.slices.specs.Same.{same}
-use Rattle.elements.specs.Names.{names, numberIn, elementNo}
-use Rattle.guideline.specs.Columns.{formOf, roleOf}
-use Rattle.guideline.specs.Rows.{beschaffungsanforderung, kostenblatt, rowsOf}
-use Rattle.blindness.proofs.Tables.{allBelow, below, where-true}
-use Rattle.states.specs.Attributes.{there, asksV}
-use Rattle.reader.specs.Items.{Placed}
-use Rattle.reader.specs.Rows.{spanOf}
-use Rattle.trees.specs.Trees.{Trees, none, element}
-use Rattle.contents.specs.Legal.{those}
+use Rattle.states.specs.Moves.{entryOf}
+use Rattle.states.specs.declared.Entry.{Entry}
+use Rattle.states.specs.declared.Entry.the-variants.{Nothing, Series, Identification, Object, BusinessType, Interval, Position, Amount}
 
 -- the roles that bring something into the tables
 pub data Role (r : ℕ) : Type 0 where
@@ -43,51 +31,18 @@ role-cases r =
     ⊎-elim (λ g. is-qty (g .0)) (λ g. is-other (a .1) (b .1) (c .1) (d .1) (e .1) (f .1) (g .1))
     (eqb-cases r 10)) (eqb-cases r 9)) (eqb-cases r 8)) (eqb-cases r 7)) (eqb-cases r 6)) (eqb-cases r 4)) (eqb-cases r 2)
 
--- ---- the lists of a content
-
--- an element's own part of them
-abbrev pub own : {A : Type 0} → Bool → A → List A
-own t a = cond t (a ∷ []) []
-
-own-first : {A : Type 0} (t : Bool) (a : A) (l : List A) → cond t (a ∷ l) l ≡ own t a ++ l
-own-first true a l = refl
-own-first false a l = refl
-
-pub those-parts : {A : Type 0} (test : ℕ → Bool) (rows : List ℕ) (q : ℕ) (s : A) (inner after : Trees A)
-    → those test rows (element q s inner after) ≡ own (test (getD rows q 0)) s ++ (those test rows inner ++ those test rows after)
-unfolding those
-those-parts test rows q s inner after = own-first (test (getD rows q 0)) s (those test rows inner ++ those test rows after)
-
-pub mapped-parts : {A B : Type 0} (f : A → B) (test : ℕ → Bool) (rows : List ℕ) (q : ℕ) (s : A) (inner after : Trees A)
-    → map f (those test rows (element q s inner after))
-    ≡ map f (own (test (getD rows q 0)) s) ++ (map f (those test rows inner) ++ map f (those test rows after))
-mapped-parts f test rows q s inner after =
-    let a = own (test (getD rows q 0)) s in
-    let b = those test rows inner in
-    let c = those test rows after in
-    rw (those-parts test rows q s inner after, map-append f a (b ++ c), map-append f b c)
-
--- ---- values that have to be there
-
--- each element whose row asks for `v` has it
-unfoldable pub Given : List ℕ → Trees Placed → Type 0
-Given rows none = Unit {0}
-Given rows (element q x inner after) =
-    (asksV (getD rows q 0) ≡ true → there (spanOf (x .item)) ≡ true) × Given rows inner × Given rows after
-
--- what the tables show has a value
-abbrev pub Valued : List ℕ → Type 0
-Valued rows = (q : ℕ) → q < length rows → 6 ≤ roleOf (getD rows q 0) → asksV (getD rows q 0) ≡ true
-
-valued : (rows : List ℕ) → allBelow (length rows) (λ q. cond (leb 6 (roleOf (getD rows q 0))) (asksV (getD rows q 0)) true) ≡ true → Valued rows
-valued rows t q l h =
-    where-true (leb 6 (roleOf (getD rows q 0))) (below (length rows) (λ q. cond (leb 6 (roleOf (getD rows q 0))) (asksV (getD rows q 0)) true) t q l)
-    (le-leb 6 (roleOf (getD rows q 0)) h)
-
-pub valued-one : Valued (rowsOf 1)
-unfolding rowsOf beschaffungsanforderung kostenblatt elementNo numberIn names same roleOf formOf asksV
-valued-one = valued (rowsOf 1) refl
-
-pub valued-two : Valued (rowsOf 2)
-unfolding rowsOf beschaffungsanforderung kostenblatt elementNo numberIn names same roleOf formOf asksV
-valued-two = valued (rowsOf 2) refl
+-- what holds of the entry that each role brings
+pub by-entry : (P : Entry → Type 0) (r n : ℕ) → P Nothing → (r ≡ 2 → P Series) → (r ≡ 4 → P Interval) → (r ≡ 6 → P Object) → (r ≡ 7 → P BusinessType)
+    → (r ≡ 8 → P Identification) → (r ≡ 9 → P (Position n)) → (r ≡ 10 → P Amount) → P (entryOf r n)
+unfolding entryOf
+by-entry P r n nothing series interval object business id position amount = by (role-cases r)
+  where
+    by : Role r → P (entryOf r n)
+    by (is-series e) = rw e (series e)
+    by (is-interval e) = rw e (interval e)
+    by (is-object e) = rw e (object e)
+    by (is-business e) = rw e (business e)
+    by (is-id e) = rw e (id e)
+    by (is-pos e) = rw e (position e)
+    by (is-qty e) = rw e (amount e)
+    by (is-other a b c d e f g) = simp (a, b, c, d, e, f, g) nothing

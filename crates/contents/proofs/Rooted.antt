@@ -1,5 +1,5 @@
 -- Where a document begins: its first tag starts the root, which tells the kind, and nothing may end before it. Assumes nothing.
-use Prim.Native.Nat.{ℕ, _+_, _<_, _≤_}
+use Prim.Native.Nat.{ℕ, _<_}
 use mathlib.Core.Path.{_≡_, refl, sym, ap, _∙_}
 use mathlib.Core.List.{List}
 use mathlib.Core.Bool.{Bool, true, false}
@@ -7,42 +7,22 @@ use mathlib.Core.Logic.{_⊎_, inl, inr, ⊎-elim}
 use native.Mathlib.Omega.{arith}
 use lib.Dec.{eqb}
 use lib.ListN.{length, getD}
-use Rattle.lists.proofs.Cases.{bool-cases, leb-cases, zero-not-one}
-use Rattle.slices.specs.Same.{same}
+use Rattle.lists.proofs.Cases.{bool-cases, zero-not-one}
 use Rattle.slices.specs.Text.{text}
-use Rattle.elements.specs.Names.{names, numberIn, elementNo}
-use Rattle.structure.specs.Rows.{nameOf, parentOf, required, startOf, endOf, endsIn, endsAtOnce, overOf}
+use Rattle.elements.specs.Names.{elementNo}
+use Rattle.structure.specs.Rows.{nameOf, parentOf, startOf, endOf, endsAtOnce, overOf}
 use Rattle.structure.specs.Means.{EndDue}
 use Rattle.structure.specs.declared.Due.the-variants.{Row}
 use Rattle.structure.proofs.Means.{start-means, end-means}
 use Rattle.guideline.specs.Kinds.{kindOf}
-use Rattle.guideline.specs.Rows.{beschaffungsanforderung, kostenblatt, rowsOf}
 use Rattle.states.specs.Moves.{cutShort}
 use Rattle.trees.specs.Trees.{none}
 use Rattle.trees.specs.Cursor.{follows, rowAfter, openAfter}
 use Rattle.trees.proofs.Made.{made}
 use Rattle.trees.proofs.Along.{over-means, along-conforms, due-within, due-named}
 use Rattle.trees.proofs.Theorems.{may-close, empty-ends, empty-conforms}
-use Rattle.contents.proofs.Laid.{home, Layout, layout-one, layout-two}
-use Rattle.contents.proofs.Lifted.{Known}
-
--- what is known of the rows of a kind; a Period has to have something in it
-pub record Laid (kind : ℕ) : Type 0 where
-  pub period : ℕ
-  pub layout : Layout (rowsOf kind) period
-  pub filled : endsAtOnce (rowsOf kind) period ≡ false
-  pub told : kindOf (nameOf (getD (rowsOf kind) 1 0)) ≡ kind
-
-laid-one : Laid 1
-unfolding rowsOf beschaffungsanforderung kostenblatt elementNo numberIn names same parentOf required nameOf kindOf endsAtOnce endsIn
-laid-one = record { period = 26; layout = layout-one; filled = refl; told = refl }
-
-laid-two : Laid 2
-unfolding rowsOf beschaffungsanforderung kostenblatt elementNo numberIn names same parentOf required nameOf kindOf endsAtOnce endsIn
-laid-two = record { period = 28; layout = layout-two; filled = refl; told = refl }
-
-pub laid : (kind : ℕ) → Known kind → Laid kind
-laid kind k = ⊎-elim (λ e. rw e laid-one) (λ e. rw e laid-two) k
+use Rattle.contents.proofs.Laid.{Layout, Known}
+use Rattle.contents.proofs.Shape.{under-document}
 
 pub kind-cases : (name : ℕ) → (kindOf name ≡ 0) ⊎ Known (kindOf name)
 unfolding kindOf
@@ -56,25 +36,6 @@ kind-cases name =
     (bool-cases (eqb name (elementNo (text "Kostenblatt")))))
     (bool-cases (eqb name (elementNo (text "Beschaffungsanforderung"))))
 
-home-zero : (p q : ℕ) → 20 < p → home p q ≡ 0 → q ≤ 1
-home-zero p q w e =
-    ⊎-elim
-    (λ a. a .0)
-    (λ a.
-    ⊎-elim
-    (λ b. let z : 1 ≡ 0 = rw (a .1, b .1) at e in absurd (omega (arith, z)))
-    (λ b.
-    ⊎-elim
-    (λ c. let z : 12 ≡ 0 = rw (a .1, b .1, c .1) at e in absurd (omega (arith, z)))
-    (λ c.
-    ⊎-elim
-    (λ d. let z : p ≡ 0 = rw (a .1, b .1, c .1, d .1) at e in absurd (omega (arith, z, w)))
-    (λ d. let z : p + 3 ≡ 0 = rw (a .1, b .1, c .1, d .1) at e in absurd (omega (arith, z)))
-    (leb-cases q (p + 3)))
-    (leb-cases q p))
-    (leb-cases q 12))
-    (leb-cases q 1)
-
 module _ (rows : List ℕ) (p : ℕ) (L : Layout rows p) where
   long : 1 < length rows
   long = let s = L .size in let w = L .wide in omega (arith, s, w)
@@ -86,10 +47,7 @@ module _ (rows : List ℕ) (p : ℕ) (L : Layout rows p) where
   pub first-row : (name q : ℕ) → startOf rows 0 true name ≡ Row q → nameOf (getD rows 1 0) ≡ name
   first-row name q e =
       let d = start-means rows 0 name q true e .1 in
-      let a = d .after in
-      let h = home-zero p q (L .wide) (sym (L .stands q a (d .within)) ∙ d .stands) in
-      let z : 1 ≡ q = omega (arith, a, h) in
-      ap (λ (i : ℕ). nameOf (getD rows i 0)) z ∙ d .named
+      ap (λ (i : ℕ). nameOf (getD rows i 0)) (sym (under-document rows p L q (d .within) (d .stands))) ∙ d .named
 
   none-due : (name q : ℕ) → EndDue rows 0 true name q → ⊥
   none-due name q d =

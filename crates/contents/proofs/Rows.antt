@@ -2,35 +2,39 @@
 -- Assumes nothing.
 use Prim.Native.Nat.{ℕ, zero, suc, _+_, _-_, _*_, _≤_, _<_}
 use mathlib.Core.Path.{_≡_, refl, sym, ap, _∙_}
-use mathlib.Core.List.{List, [], _∷_, _++_, map, map-append}
-use mathlib.Core.Bool.{Bool, true, false, cond}
+use mathlib.Core.List.{List, [], _∷_, map, _++_}
+use mathlib.Core.Bool.{true, false, Bool}
 use mathlib.Core.Logic.{inl, inr, ⊎-elim}
 use native.Mathlib.Omega.{arith}
 use lib.Dec.{eqb}
 use lib.ListN.{length, getD, take, set, length-set}
 use lib.Seq.{getD-set-same, getD-set-other}
 use borrow.Author.Tests.{ne-eqb}
-use Rattle.lists.proofs.Cases.{eqb-cases, zero-not-one}
+use Rattle.lists.proofs.Cases.{eqb-cases}
 use Rattle.tags.specs.declared.Span.{Span}
 use Rattle.structure.specs.Rows.{parentOf, required}
 use Rattle.guideline.specs.Columns.{roleOf}
 use Rattle.states.specs.Moves.{entryOf}
 use Rattle.states.specs.declared.State.{State}
 use Rattle.reader.specs.Items.{Placed}
-use Rattle.reader.specs.Rows.{spanOf, cell, seriesAfter}
+use Rattle.reader.specs.Rows.{spanOf, seriesAfter}
 use Rattle.reader.specs.Reading.{Tables, tablesAfter}
-use Rattle.trees.specs.Trees.{Trees, none, element, rowsTaken, Stand, InOrder, Fits, EachConforms}
+use Rattle.trees.specs.Trees.{Trees, none, element, rowsTaken, Stand, Fits, EachConforms}
 use Rattle.contents.specs.Said.{Said}
 use Rattle.contents.specs.Legal.{hasRole, those, inEach, positionOf, identifications}
 use Rattle.contents.specs.Shown.{sum, view, objects, businessTypes, intervalCounts}
-use Rattle.contents.proofs.Laid.{Layout}
+use Rattle.contents.proofs.Lists.{lastOf}
+use Rattle.contents.proofs.Laid.{Layout, Valued}
+use Rattle.contents.proofs.Elements.{in-of, own, those-of, Within, none-in, none-there, within-more}
+use Rattle.contents.proofs.Shape.{in-series-row, series-in, under-root, leaf, elsewhere, comes-once}
 use Rattle.contents.proofs.Walk.{Tally, opened, walked}
-use Rattle.contents.proofs.Fill.{saidOf, saying, stateOf, entered, filled, Stands}
-use Rattle.contents.proofs.Shapes.{in-series-row, series-in, in-root-row, leaf, absent, absent-each, comes-once}
+use Rattle.contents.proofs.Fill.{saidOf, saying, stateOf, tablesWith, filled, Stands}
+use Rattle.contents.proofs.Lifted.{each-said, taken-said}
+use Rattle.contents.proofs.Values.{HasValues}
 use Rattle.contents.proofs.Views.{same-view}
-use Rattle.contents.proofs.Roles.{Role, is-series, is-interval, is-object, is-business, is-id, is-pos, is-qty, is-other, role-cases, Given, Valued}
-use Rattle.contents.proofs.Intervals.{Puts, puts}
-use Rattle.contents.proofs.Series.{valueBytes, trimmedBytes, lastOf, Effect, cell-at, inside}
+use Rattle.contents.proofs.Roles.{by-entry}
+use Rattle.contents.proofs.Intervals.{puts}
+use Rattle.contents.proofs.Series.{valueBytes, trimmedBytes, Effect, cell-at, inside}
 
 -- row n of the series table shows a series
 pub record RowOf (doc cells : List ℕ) (n : ℕ) (id object business : List ℕ) (first count : ℕ) : Type 0 where
@@ -56,7 +60,7 @@ pub row-moved : {doc cells : List ℕ} {n m : ℕ} {id object business : List �
 row-moved e d r = rw (e, d) at r
 
 -- m rows from n on show these series, of which the first has its first interval at f
-abbrev pub RowsFrom : List ℕ → List ℕ → ℕ → ℕ → ℕ → List (List ℕ) → List (List ℕ) → List (List ℕ) → List ℕ → Type 0
+abbrev RowsFrom : List ℕ → List ℕ → ℕ → ℕ → ℕ → List (List ℕ) → List (List ℕ) → List (List ℕ) → List ℕ → Type 0
 RowsFrom doc cells n f m ids objs kinds counts =
     (i : ℕ) → i < m → RowOf doc cells (n + i) (getD ids i []) (getD objs i []) (getD kinds i []) (f + sum (take i counts)) (getD counts i 0)
 
@@ -79,19 +83,37 @@ pub filled-as : {doc : List ℕ} {n n₁ f f₁ : ℕ} {t t₁ u : List ℕ} {m 
     → Filled doc n f t u m ids objs kinds counts → Filled doc n₁ f₁ t₁ u m₁ ids₁ objs₁ kinds₁ counts₁
 filled-as a b c d e g h i k = rw (a, b, c, d, e, g, h, i) at k
 
+-- ---- the lists of a content with one element more
+
+module _ (rows : List ℕ) (role q : ℕ) (x : Placed) (inner after : Trees Placed) where
+  pub those-after : {t : Bool} {l : List Said} → eqb (roleOf (getD rows q 0)) role ≡ t → those (hasRole role) rows (saying inner) ≡ l
+      → own t (saidOf x) ++ (l ++ those (hasRole role) rows (saying after)) ≡ those (hasRole role) rows (saying (element q x inner after))
+  unfolding saying
+  those-after e f = sym (those-of rows (hasRole role) q (saidOf x) (saying inner) (saying after) e f)
+
+  each-after : {t : Bool} {l : List (Trees Said)} → eqb (roleOf (getD rows q 0)) role ≡ t → inEach (hasRole role) rows (saying inner) ≡ l
+      → own t (saying inner) ++ (l ++ inEach (hasRole role) rows (saying after)) ≡ inEach (hasRole role) rows (saying (element q x inner after))
+  unfolding saying
+  each-after e f = sym (in-of rows (hasRole role) q (saidOf x) (saying inner) (saying after) e f)
+
+  -- an element that adds nothing to them
+  module _ (bare : inner ≡ none) (n : eqb (roleOf (getD rows q 0)) role ≡ false) where
+    pub those-plain : those (hasRole role) rows (saying after) ≡ those (hasRole role) rows (saying (element q x inner after))
+    unfolding those saying
+    those-plain = those-after {l = []} n (rw bare refl)
+
+    each-plain : inEach (hasRole role) rows (saying after) ≡ inEach (hasRole role) rows (saying (element q x inner after))
+    unfolding inEach saying
+    each-plain = each-after {l = []} n (rw bare refl)
+
 -- ---- what stands beside the series changes nothing
 
-pub series-kept : (r n at : ℕ) (v : Span) (s : List ℕ) (st : State) (l : List ℕ) → Role r → (r ≡ 2 → ⊥) → (r ≡ 4 → ⊥) → (r ≡ 6 → ⊥) → (r ≡ 7 → ⊥) → (r ≡ 8 → ⊥)
+pub series-kept : (r n at : ℕ) (v : Span) (s : List ℕ) (st : State) (l : List ℕ) → (r ≡ 2 → ⊥) → (r ≡ 4 → ⊥) → (r ≡ 6 → ⊥) → (r ≡ 7 → ⊥) → (r ≡ 8 → ⊥)
     → seriesAfter at v s st (entryOf r n) l ≡ l
-unfolding seriesAfter entryOf
-series-kept r n at v s st l (is-series e) a b c d f = absurd (a e)
-series-kept r n at v s st l (is-interval e) a b c d f = absurd (b e)
-series-kept r n at v s st l (is-object e) a b c d f = absurd (c e)
-series-kept r n at v s st l (is-business e) a b c d f = absurd (d e)
-series-kept r n at v s st l (is-id e) a b c d f = absurd (f e)
-series-kept r n at v s st l (is-pos e) a b c d f = rw e
-series-kept r n at v s st l (is-qty e) a b c d f = rw e
-series-kept r n at v s st l (is-other a₁ a₂ a₃ a₄ a₅ a₆ a₇) a b c d f = simp (a₁, a₂, a₃, a₄, a₅, a₆, a₇)
+unfolding seriesAfter
+series-kept r n at v s st l a b c d f =
+    by-entry (λ e. seriesAfter at v s st e l ≡ l) r n refl (λ e. absurd (a e)) (λ e. absurd (b e)) (λ e. absurd (c e)) (λ e. absurd (d e)) (λ e. absurd (f e))
+    (λ e. refl) (λ e. refl)
 
 module _ (kind : ℕ) (rows : List ℕ) (p : ℕ) (L : Layout rows p) (W : Valued rows) (doc : List ℕ) where
   -- the tally and the tables after the start tag of an element, and after what stands in it
@@ -99,7 +121,7 @@ module _ (kind : ℕ) (rows : List ℕ) (p : ℕ) (L : Layout rows p) (W : Value
   tallyIn q x y = opened (getD rows q 0) (saidOf x) y
 
   abbrev pub tablesIn : ℕ → Placed → Tally → Tables → Tables
-  tablesIn q x y t = entered kind rows q x (tallyIn q x y) t
+  tablesIn q x y t = tablesWith kind rows q x (tallyIn q x y) t
 
   abbrev pub tallyOut : ℕ → Placed → Trees Placed → Tally → Tally
   tallyOut q x inner y = walked rows (saying inner) (tallyIn q x y)
@@ -116,8 +138,10 @@ module _ (kind : ℕ) (rows : List ℕ) (p : ℕ) (L : Layout rows p) (W : Value
   one-said role k only a b r m inner f c =
       let s = L .size in
       let e = in-series-row rows p L k a (omega (arith, b)) in
-      comes-once rows p L role k only inner (omega (arith, s, b)) (λ d. omega (arith, d, a)) (λ d. omega (arith, d, b)) r (rw e (omega (arith, s, a)))
-      (rw e (f .stand)) (f .ordered) c (f .complete k (omega (arith, s, b)) e m)
+      let once = L .once k (omega (arith, s, b)) (λ d. omega (arith, d, a)) (λ d. omega (arith, d, b)) in
+      let g = rw (← taken-said inner) at f in
+      comes-once rows p L k once (rw e (omega (arith, s, a))) role only r (saying inner) (rw e (g .stand)) (g .ordered) (each-said rows inner c)
+      (g .complete k (omega (arith, s, b)) e m)
 
   -- a series' element brings its row
   pub record Rowed (y y′ : Tally) (t t′ : List ℕ) (id object business : List ℕ) (count : ℕ) : Type 0 where
@@ -148,12 +172,12 @@ module _ (kind : ℕ) (rows : List ℕ) (p : ℕ) (L : Layout rows p) (W : Value
     pub opened-size : length (tablesIn q x y t .series) ≡ length (t .series)
     opened-size = rw opened-cells (length-set (t .series) (8 * y .series + 6) (y .intervals))
 
-    module _ (f : Fits rows q (rowsTaken inner)) (c : EachConforms rows inner) (d : Stands doc inner) (g : Given rows inner)
+    module _ (f : Fits rows q (rowsTaken inner)) (c : EachConforms rows inner) (d : Stands doc inner) (g : HasValues rows inner)
         (room : 8 * (y .series + 1) ≤ length (t .series)) where
       within : q < length rows
       within = let s = L .size in omega (arith, s, e)
 
-      pub series-effect : Effect doc (y .series) (tallyIn q x y) (tablesIn q x y t .series) (tallyOut q x inner y) (tablesOut q x inner y t .series)
+      series-effect : Effect doc (y .series) (tallyIn q x y) (tablesIn q x y t .series) (tallyOut q x inner y) (tablesOut q x inner y t .series)
           (identifications rows (saying inner)) (objects rows (saying inner)) (businessTypes rows (saying inner))
       series-effect =
           let o = opened-series .0 in
@@ -209,7 +233,7 @@ module _ (kind : ℕ) (rows : List ℕ) (p : ℕ) (L : Layout rows p) (W : Value
   -- ---- beside the series
 
   -- what a row of the root that is no series leaves as it is
-  pub record Plain (q : ℕ) (x : Placed) (inner : Trees Placed) (y : Tally) (t : Tables) : Type 0 where
+  pub record Untouched (q : ℕ) (x : Placed) (inner : Trees Placed) (y : Tally) (t : Tables) : Type 0 where
     pub bare : inner ≡ none
     pub series : tallyIn q x y .series ≡ y .series
     pub intervals : tallyIn q x y .intervals ≡ y .intervals
@@ -219,11 +243,11 @@ module _ (kind : ℕ) (rows : List ℕ) (p : ℕ) (L : Layout rows p) (W : Value
     pub not-seven : eqb (roleOf (getD rows q 0)) 7 ≡ false
     pub not-eight : eqb (roleOf (getD rows q 0)) 8 ≡ false
 
-  pub plain : (q : ℕ) (x : Placed) (inner : Trees Placed) (y : Tally) (t : Tables) → (q ≡ 12 → ⊥) → q < length rows → parentOf (getD rows q 0) ≡ 1
-      → Stand rows q (rowsTaken inner) → Plain q x inner y t
+  pub untouched : (q : ℕ) (x : Placed) (inner : Trees Placed) (y : Tally) (t : Tables) → (q ≡ 12 → ⊥) → q < length rows → parentOf (getD rows q 0) ≡ 1
+      → Stand rows q (rowsTaken inner) → Untouched q x inner y t
   unfolding tablesAfter
-  plain q x inner y t n l e s =
-      let b = in-root-row rows p L q l e in
+  untouched q x inner y t n l e s =
+      let b = under-root rows p L q l e in
       let b₀ = b .0 in
       let b₁ = b .1 in
       let w = L .wide in
@@ -239,40 +263,12 @@ module _ (kind : ℕ) (rows : List ℕ) (p : ℕ) (L : Layout rows p) (W : Value
             leaf rows p L q inner l (λ d. omega (arith, d, b₀)) (λ d. omega (arith, d, b₀)) n (λ d. omega (arith, d, b₁, w)) (λ d. omega (arith, d, b₁, w)) s;
         series = rw (ne-eqb r 2 n₂);
         intervals = rw (ne-eqb r 4 n₄);
-        cells = series-kept r (positionOf (saidOf x)) (x .at) (spanOf (x .item)) (x .rest) st (t .series) (role-cases r) n₂ n₄ n₆ n₇ n₈;
+        cells = series-kept r (positionOf (saidOf x)) (x .at) (spanOf (x .item)) (x .rest) st (t .series) n₂ n₄ n₆ n₇ n₈;
         not-two = ne-eqb r 2 n₂;
         not-six = ne-eqb r 6 n₆;
         not-seven = ne-eqb r 7 n₇;
         not-eight = ne-eqb r 8 n₈;
       }
-
-  -- the lists of a content after an element that adds nothing to them
-  pub those-plain : (role q : ℕ) (x : Placed) (inner after : Trees Placed) → inner ≡ none → eqb (roleOf (getD rows q 0)) role ≡ false
-      → those (hasRole role) rows (saying after) ≡ those (hasRole role) rows (saying (element q x inner after))
-  unfolding those saying
-  those-plain role q x inner after e n = rw (n, e)
-
-  each-plain : (role q : ℕ) (x : Placed) (inner after : Trees Placed) → inner ≡ none → eqb (roleOf (getD rows q 0)) role ≡ false
-      → inEach (hasRole role) rows (saying after) ≡ inEach (hasRole role) rows (saying (element q x inner after))
-  unfolding inEach saying
-  each-plain role q x inner after e n = rw (n, e)
-
-  -- and after a series
-  pub those-series : (role q : ℕ) (x : Placed) (inner after : Trees Placed) (s : Said) → eqb (roleOf (getD rows q 0)) role ≡ false
-      → those (hasRole role) rows (saying inner) ≡ s ∷ []
-      → s ∷ those (hasRole role) rows (saying after) ≡ those (hasRole role) rows (saying (element q x inner after))
-  unfolding those saying
-  those-series role q x inner after s n e = rw (n, e)
-
-  those-of-series : (q : ℕ) (x : Placed) (inner after : Trees Placed) → eqb (roleOf (getD rows q 0)) 2 ≡ true → those (hasRole 2) rows (saying inner) ≡ []
-      → saidOf x ∷ those (hasRole 2) rows (saying after) ≡ those (hasRole 2) rows (saying (element q x inner after))
-  unfolding those saying
-  those-of-series q x inner after n e = rw (n, e)
-
-  each-series : (q : ℕ) (x : Placed) (inner after : Trees Placed) → eqb (roleOf (getD rows q 0)) 2 ≡ true → inEach (hasRole 2) rows (saying inner) ≡ []
-      → saying inner ∷ inEach (hasRole 2) rows (saying after) ≡ inEach (hasRole 2) rows (saying (element q x inner after))
-  unfolding inEach saying
-  each-series q x inner after n e = rw (n, e)
 
   -- what is said once in a series
   pub record Once (inner : Trees Placed) : Type 0 where
@@ -293,6 +289,10 @@ module _ (kind : ℕ) (rows : List ℕ) (p : ℕ) (L : Layout rows p) (W : Value
       let o = one-said 6 18 (L .only-object) (omega arith) (omega (arith, w)) (L .object) (L .must-object) inner f c in
       let b = one-said 7 14 (L .only-business) (omega arith) (omega (arith, w)) (L .business) (L .must-business) inner f c in
       let before : parentOf (getD rows 12 0) < 12 = rw (series-in rows p L) (omega arith) in
+      let g = rw (← taken-said inner) at f in
+      let others : Within (λ q. hasRole 2 (getD rows q 0) ≡ false) (saying inner) =
+      within-more (λ q d. ne-eqb (roleOf (getD rows q 0)) 2 (λ e. d .1 (L .only-series q (d .0) e))) (saying inner)
+      (elsewhere rows p L 12 (saying inner) 12 (omega (arith, s)) before (g .stand) (each-said rows inner c)) in
       record {
         id = i .0;
         object = o .0;
@@ -300,27 +300,27 @@ module _ (kind : ℕ) (rows : List ℕ) (p : ℕ) (L : Layout rows p) (W : Value
         id-once = i .1;
         object-once = o .1;
         business-once = b .1;
-        no-series = absent rows p L 2 12 (L .only-series) inner 12 (omega (arith, s)) before (f .stand) c;
-        no-series-each = absent-each rows p L 2 12 (L .only-series) inner 12 (omega (arith, s)) before (f .stand) c;
+        no-series = none-there rows (hasRole 2) (saying inner) others;
+        no-series-each = none-in rows (hasRole 2) (saying inner) others;
       }
 
   abbrev pub seriesIn : Trees Placed → ℕ
   seriesIn kids = length (those (hasRole 2) rows (saying kids))
 
-  abbrev pub FilledBy : Trees Placed → Tally → Tables → Type 0
+  abbrev FilledBy : Trees Placed → Tally → Tables → Type 0
   FilledBy kids y t =
       Filled doc (y .series) (y .intervals) (t .series) (filled kind rows kids y t .series) (seriesIn kids) (identifications rows (saying kids)) (objects rows (saying kids))
       (businessTypes rows (saying kids)) (intervalCounts rows (saying kids))
 
-  filled-plain : (q : ℕ) (x : Placed) (inner after : Trees Placed) (y : Tally) (t : Tables) → Plain q x inner y t
+  filled-plain : (q : ℕ) (x : Placed) (inner after : Trees Placed) (y : Tally) (t : Tables) → Untouched q x inner y t
       → FilledBy after (tallyIn q x y) (tablesIn q x y t) → FilledBy (element q x inner after) y t
   unfolding filled walked saying identifications objects businessTypes intervalCounts
   filled-plain q x inner after y t e h =
-      let k = filled-as (e .series) (e .intervals) (e .cells) (ap length (those-plain 2 q x inner after (e .bare) (e .not-two)))
-      (ap (map valueBytes) (those-plain 8 q x inner after (e .bare) (e .not-eight)))
-      (ap (map valueBytes) (those-plain 6 q x inner after (e .bare) (e .not-six)))
-      (ap (map trimmedBytes) (those-plain 7 q x inner after (e .bare) (e .not-seven)))
-      (ap (map (λ (s : Trees Said). length (those (hasRole 4) rows s))) (each-plain 2 q x inner after (e .bare) (e .not-two))) h in
+      let k = filled-as (e .series) (e .intervals) (e .cells) (ap length (those-plain rows 2 q x inner after (e .bare) (e .not-two)))
+      (ap (map valueBytes) (those-plain rows 8 q x inner after (e .bare) (e .not-eight)))
+      (ap (map valueBytes) (those-plain rows 6 q x inner after (e .bare) (e .not-six)))
+      (ap (map trimmedBytes) (those-plain rows 7 q x inner after (e .bare) (e .not-seven)))
+      (ap (map (λ (s : Trees Said). length (those (hasRole 4) rows s))) (each-plain rows 2 q x inner after (e .bare) (e .not-two))) h in
       rw (e .bare) (rw (e .bare) at k)
 
   filled-series : (q : ℕ) (x : Placed) (inner after : Trees Placed) (y : Tally) (t : Tables) → q ≡ 12 → (o : Once inner)
@@ -339,11 +339,11 @@ module _ (kind : ℕ) (rows : List ℕ) (p : ℕ) (L : Layout rows p) (W : Value
       let seven : eqb (roleOf (getD rows q 0)) 7 ≡ false = rw role in
       let eight : eqb (roleOf (getD rows q 0)) 8 ≡ false = rw role in
       let k = filled-as (r .series) (r .intervals) refl refl refl refl refl refl h in
-      filled-as refl refl refl (ap length (those-of-series q x inner after two (o .no-series)))
-      (ap (map valueBytes) (those-series 8 q x inner after (o .id) eight (o .id-once)))
-      (ap (map valueBytes) (those-series 6 q x inner after (o .object) six (o .object-once)))
-      (ap (map trimmedBytes) (those-series 7 q x inner after (o .business) seven (o .business-once)))
-      (ap (map (λ (s : Trees Said). length (those (hasRole 4) rows s))) (each-series q x inner after two (o .no-series-each)))
+      filled-as refl refl refl (ap length (those-after rows 2 q x inner after two (o .no-series)))
+      (ap (map valueBytes) (those-after rows 8 q x inner after eight (o .id-once)))
+      (ap (map valueBytes) (those-after rows 6 q x inner after six (o .object-once)))
+      (ap (map trimmedBytes) (those-after rows 7 q x inner after seven (o .business-once)))
+      (ap (map (λ (s : Trees Said). length (those (hasRole 4) rows s))) (each-after rows 2 q x inner after two (o .no-series-each)))
       (record {
         size = k .size ∙ r .size;
         before = λ j l. k .before j (omega (arith, l)) ∙ r .before j l;
@@ -357,11 +357,11 @@ module _ (kind : ℕ) (rows : List ℕ) (p : ℕ) (L : Layout rows p) (W : Value
   more-series q x inner after e o =
       let role = ap (λ (i : ℕ). roleOf (getD rows i 0)) e ∙ L .series in
       let two : eqb (roleOf (getD rows q 0)) 2 ≡ true = rw role in
-      sym (ap length (those-of-series q x inner after two (o .no-series)))
+      sym (ap length (those-after rows 2 q x inner after two (o .no-series)))
 
-  pub series-filled : (kids : Trees Placed) (y : Tally) (t : Tables) → Stand rows 1 (rowsTaken kids) → EachConforms rows kids → Stands doc kids → Given rows kids
+  pub series-filled : (kids : Trees Placed) (y : Tally) (t : Tables) → Stand rows 1 (rowsTaken kids) → EachConforms rows kids → Stands doc kids → HasValues rows kids
       → 8 * (y .series + seriesIn kids) ≤ length (t .series) → ((j : ℕ) → 8 * y .series ≤ j → getD (t .series) j 0 ≡ 0) → FilledBy kids y t
-  unfolding rowsTaken Stand EachConforms Stands Given filled saying those
+  unfolding rowsTaken Stand EachConforms Stands HasValues filled saying those
   series-filled none y t s c d g room blank = record { size = refl; before = λ j l. refl; rows = λ i l. absurd (omega (arith, l)) }
   series-filled (element q x inner after) y t s c d g room blank =
       ⊎-elim
@@ -376,8 +376,8 @@ module _ (kind : ℕ) (rows : List ℕ) (p : ℕ) (L : Layout rows p) (W : Value
       (series-filled after (tallyOut q x inner y) (tablesOut q x inner y t) (s .2) (c .2) (d .3) (g .2) (omega (arith, m, room, u, v))
       (λ j l. r .beyond j (omega (arith, l, u)) ∙ blank j (omega (arith, l, u)))))
       (λ e.
-      let k = plain q x inner y t (e .0) (s .0) (s .1) (c .0 .stand) in
-      let m : seriesIn (element q x inner after) ≡ seriesIn after = sym (ap length (those-plain 2 q x inner after (k .bare) (k .not-two))) in
+      let k = untouched q x inner y t (e .0) (s .0) (s .1) (c .0 .stand) in
+      let m : seriesIn (element q x inner after) ≡ seriesIn after = sym (ap length (those-plain rows 2 q x inner after (k .bare) (k .not-two))) in
       let u = k .series in
       let v = ap length (k .cells) in
       filled-plain q x inner after y t k

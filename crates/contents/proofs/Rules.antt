@@ -1,9 +1,8 @@
 -- The whole: a walk over a content that conforms passes exactly where the content meets the rules, and what it comes to. Assumes nothing.
 use Prim.Native.Nat.{ℕ, _+_, _≤_, _<_}
-use mathlib.Core.Path.{_≡_, refl, sym, ap, subst, _∙_}
+use mathlib.Core.Path.{_≡_, sym, ap, subst, _∙_}
 use mathlib.Core.List.{List, [], _∷_, _++_, map, append-nil}
-use mathlib.Core.Logic.{⊎-elim}
-use mathlib.Core.Bool.{Bool, true, false, cond}
+use mathlib.Core.Bool.{false, cond}
 use native.Mathlib.Omega.{arith}
 use lib.Dec.{eqb}
 use lib.ListN.{length, getD}
@@ -13,13 +12,14 @@ use Rattle.states.specs.declared.Room.{Room}
 use Rattle.trees.specs.Trees.{Trees, none, element, Conforms}
 use Rattle.contents.specs.Said.{Said}
 use Rattle.contents.specs.Legal.{hasRole, hasForm, those, inEach, Period, periodIn, periodOf, quartersOf, positionOf, elementFits, Each, inTurn, SeriesFits, All}
+use Rattle.contents.proofs.Tests.{chosen, other}
 use Rattle.contents.proofs.Laid.{Layout}
-use Rattle.contents.proofs.Walk.{Tally, nothing, opened, walked, Taken, Passes}
-use Rattle.contents.proofs.Tallies.{chosen, other, Within, within-more, beside, none-there, no-role, those-beside, each-beside, each-parts, walked-beside, unchanged, intervals-walked, series-walked, first-walked, period-walked}
-use Rattle.contents.proofs.Segments.{Holds, Segment, length-element}
-use Rattle.contents.proofs.Splits.{SeriesShape, AllSeries, RootShape, DocumentShape, document-shape}
-use Rattle.contents.proofs.Levels.{fits-any, passes-parts, passes-beside, within-beside, each-none, in-beside, last-those, short, Now, now-kept, now-fits, InRoot, root-fit, root-passes, SeriesRules, Fresh}
-use Rattle.contents.proofs.Levels.{passes-rules as series-rules, rules-passes as series-passes}
+use Rattle.contents.proofs.Elements.{Within, within-more, beside, none-there, no-role, those-beside, each-beside, each-parts, length-element, within-beside, in-beside, last-those, in-of, last-in, none-in}
+use Rattle.contents.proofs.Shape.{SeriesShape, AllSeries, RootShape, DocumentShape, document-shape}
+use Rattle.contents.proofs.Walk.{Tally, nothing, opened, walked, Passes}
+use Rattle.contents.proofs.Tallies.{unchanged, intervals-walked, series-walked, period-walked}
+use Rattle.contents.proofs.Segments.{Holds, Segment}
+use Rattle.contents.proofs.Levels.{fits-any, passes-parts, passes-beside, short, Now, now-kept, now-fits, root-segment, SeriesRules, Fresh, series-rules, series-passes}
 
 module _ (kind : ℕ) (room : Room) (rows : List ℕ) (p : ℕ) (L : Layout rows p) (p₀ : Period) where
   -- series side by side
@@ -74,19 +74,17 @@ module _ (kind : ℕ) (room : Room) (rows : List ℕ) (p : ℕ) (L : Layout rows
           originals = chosen 0 _ (eq-eqb (roleOf w) 2 is-series);
         }
 
-    none-in : those (hasRole 2) rows inner ≡ []
-    none-in = no-role rows 2 inner (within-more (λ q r z. let u = L .only-series q (r .1) z in omega (arith, u, r .0)) inner (in-series inner sh))
+    no-series-in : those (hasRole 2) rows inner ≡ []
+    no-series-in = no-role rows 2 inner (within-more (λ q r z. let u = L .only-series q (r .1) z in omega (arith, u, r .0)) inner (in-series inner sh))
 
     none-each : inEach (hasRole 2) rows inner ≡ []
     none-each =
-        each-none rows (hasRole 2) inner
+        none-in rows (hasRole 2) inner
         (within-more (λ q r. ne-eqb (roleOf (getD rows q 0)) 2 (λ z. let u = L .only-series q (r .1) z in omega (arith, u, r .0))) inner (in-series inner sh))
 
     -- what stands in the series, and then what stands in those after it
     each-is : inEach (hasRole 2) rows (element q s inner after) ≡ inner ∷ inEach (hasRole 2) rows after
-    unfolding inEach
-    each-is =
-        chosen _ _ (eq-eqb (roleOf w) 2 is-series) ∙ ap (λ l. inner ∷ (l ++ inEach (hasRole 2) rows after)) none-each
+    each-is = in-of rows (hasRole 2) q s inner after (eq-eqb (roleOf w) 2 is-series) none-each
 
     later-now : Now kind room rows p L p₀ y₂
     later-now =
@@ -102,14 +100,14 @@ module _ (kind : ℕ) (room : Room) (rows : List ℕ) (p : ℕ) (L : Layout rows
     later-series =
         let a = series-walked rows inner y₁ in
         let b = one-series in
-        let z : length (those (hasRole 2) rows inner) ≡ 0 = ap length none-in in
+        let z : length (those (hasRole 2) rows inner) ≡ 0 = ap length no-series-in in
         omega (arith, a, b, z)
 
     how-many : length (those (hasRole 2) rows (element q s inner after)) ≡ 1 + length (those (hasRole 2) rows after)
     how-many =
         let l = length-element rows 2 q s inner after in
         let u : _≡_ {A = ℕ} (cond (eqb (roleOf w) 2) 1 0) 1 = chosen 1 0 (eq-eqb (roleOf w) 2 is-series) in
-        let z : length (those (hasRole 2) rows inner) ≡ 0 = ap length none-in in
+        let z : length (those (hasRole 2) rows inner) ≡ 0 = ap length no-series-in in
         omega (arith, l, u, z)
 
     how-many-intervals : length (those (hasRole 4) rows (element q s inner after)) ≡ length (those (hasRole 4) rows inner) + length (those (hasRole 4) rows after)
@@ -269,13 +267,11 @@ module _ (kind : ℕ) (room : Room) (rows : List ℕ) (p : ℕ) (L : Layout rows
       ∙ ap (λ l. l ++ those (hasRole n) rows tail) (no-role rows n head h)
 
   each-later : inEach (hasRole 2) rows whole ≡ inEach (hasRole 2) rows tail
-  unfolding inEach
   each-later =
-      other _ _ (root-not 2 (λ e. omega (arith, e)))
-      ∙ append-nil (inEach (hasRole 2) rows (beside head tail))
+      last-in rows (hasRole 2) 1 tag (beside head tail) (root-not 2 (λ e. omega (arith, e)))
       ∙ in-beside rows (hasRole 2) head tail
       ∙ ap (λ l. l ++ inEach (hasRole 2) rows tail)
-      (each-none rows (hasRole 2) head (within-more (λ q f. ne-eqb (roleOf (getD rows q 0)) 2 f) head no-series))
+      (none-in rows (hasRole 2) head (within-more (λ q f. ne-eqb (roleOf (getD rows q 0)) 2 f) head no-series))
 
   root-intervals : yr .intervals ≡ 0
   unfolding nothing
@@ -316,7 +312,7 @@ module _ (kind : ℕ) (room : Room) (rows : List ℕ) (p : ℕ) (L : Layout rows
   unfolding Passes Each
   passes-whole t =
       let u = passes-parts kind room rows head tail yr (t .1) in
-      let g = root-fit kind room rows p L p₀ head (sh .heads) yr tt holds (u .0) in
+      let g = root-segment kind room rows p L p₀ head (sh .heads) yr holds .0 (u .0) in
       let i = head-intervals in
       let n = head-series in
       let a = all-rules kind room rows p L p₀ tail (sh .all) yh head-now (omega (arith, i)) (omega (arith, n)) (u .1) in
@@ -371,16 +367,11 @@ module _ (kind : ℕ) (room : Room) (rows : List ℕ) (p : ℕ) (L : Layout rows
           another = λ o. absurd (omega (arith, o, root));
           originals = λ o. absurd (omega (arith, o, root));
         },
-        passes-beside kind room rows head tail yr (root-passes kind room rows p L p₀ head (sh .heads) yr tt holds g)
+        passes-beside kind room rows head tail yr (root-segment kind room rows p L p₀ head (sh .heads) yr holds .1 g)
             (all-passes kind room rows p L p₀ tail (sh .all) yh head-now (omega (arith, i)) (omega (arith, n)) a),
         (λ o. absurd (omega (arith, o, root))),
         tt,
       )
-
-  -- the walk comes to the content's own period
-  whole-period : walked rows whole nothing .period ≡ p₀
-  unfolding periodOf nothing
-  whole-period = period-walked rows whole nothing
 
 module _ (kind : ℕ) (room : Room) (rows : List ℕ) (p : ℕ) (L : Layout rows p) (c : Trees Said) (conforms : Conforms rows 0 c) where
   whole-is : (d : DocumentShape rows p L c) → c ≡ element 1 (d .tag) (beside (d .shape .head) (d .shape .tail)) none

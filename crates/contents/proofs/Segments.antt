@@ -2,14 +2,14 @@
 -- Assumes nothing.
 use Prim.Native.Nat.{ℕ, _+_, _-_, _≤_, _<_}
 use mathlib.Core.Path.{_≡_, refl, sym, ap, _∙_}
-use mathlib.Core.List.{List, [], _∷_, _++_, map}
-use mathlib.Core.Bool.{Bool, true, false, cond, _&&_}
-use mathlib.Core.Logic.{⊎-elim}
+use mathlib.Core.List.{List, _∷_, _++_, map, map-append}
+use mathlib.Core.Bool.{true, false, cond, _&&_}
+use mathlib.Core.Logic.{⊎-elim, _↔_}
 use native.Mathlib.Omega.{arith}
 use lib.Dec.{eqb, ltb}
-use lib.ListN.{length, getD, length-append}
+use lib.ListN.{length, getD}
 use borrow.Author.Tests.{eq-eqb, ne-eqb, lt-ltb, ltb-true}
-use Rattle.lists.proofs.Cases.{bool-cases, eqb-cases, zero-not-one}
+use Rattle.lists.proofs.Cases.{eqb-cases}
 use Rattle.rules.specs.Rules.{positionFits}
 use Rattle.guideline.specs.Columns.{formOf, roleOf}
 use Rattle.guideline.specs.Kinds.{takesAnother}
@@ -17,25 +17,20 @@ use Rattle.states.specs.declared.Room.{Room}
 use Rattle.trees.specs.Trees.{Trees, none, element}
 use Rattle.contents.specs.Said.{Said}
 use Rattle.contents.specs.Legal.{hasRole, those, Period, quartersOf, positionOf, elementFits, inTurn, Each}
-use Rattle.contents.proofs.Walk.{Tally, opened, walked, quartersIn, Taken, Ended, Passes}
-use Rattle.contents.proofs.Tallies.{chosen, other, lastOf, last-append, map-append, turn-append, Within, within-more, invariant, intervals-walked, first-walked, last-walked}
+use Rattle.contents.proofs.Tests.{chosen, other, parts-and, and-parts}
+use Rattle.contents.proofs.Elements.{Within, within-more, length-element, unit}
+use Rattle.contents.proofs.Walk.{Tally, opened, walked, Taken, Passes}
+use Rattle.contents.proofs.Tallies.{turn-append, invariant, intervals-walked, first-walked, last-walked, one-or-none}
 
-pub and-true : (a b : Bool) → a && b ≡ true → (a ≡ true) × (b ≡ true)
-and-true true b e = (refl, e)
-and-true false b e = absurd (zero-not-one (cc))
-
-pub true-and : (a b : Bool) → a ≡ true → b ≡ true → a && b ≡ true
-true-and a b e f = rw (e, f) refl
-
-pub takes-few : (kind n : ℕ) → takesAnother kind n ≡ true → kind ≡ 1 → n < 100
+takes-few : (kind n : ℕ) → takesAnother kind n ≡ true → kind ≡ 1 → n < 100
 unfolding takesAnother
 takes-few kind n e k = let h : ltb n 100 ≡ true = rw (eq-eqb kind 1 k) at e in ltb-true n 100 h
 
-pub few-takes : (kind n : ℕ) → (kind ≡ 1 → n < 100) → takesAnother kind n ≡ true
+few-takes : (kind n : ℕ) → (kind ≡ 1 → n < 100) → takesAnother kind n ≡ true
 unfolding takesAnother
 few-takes kind n f = ⊎-elim (λ y. rw (y .1) (lt-ltb n 100 (f (y .0)))) (λ y. rw (y .1) refl) (eqb-cases kind 1)
 
--- what goes before: the tables' room and the limit of a Period are kept
+-- so far the tables' room and the limit of a Period are kept
 pub record Holds (kind : ℕ) (room : Room) (y : Tally) : Type 0 where
   pub begins : y .first ≤ y .intervals
   pub fit : y .intervals ≤ room .intervals
@@ -48,30 +43,15 @@ pub record Plain (rows : List ℕ) (q : ℕ) : Type 0 where
   pub turn : formOf (getD rows q 0) ≡ 9 → roleOf (getD rows q 0) ≡ 9
   pub back : roleOf (getD rows q 0) ≡ 9 → formOf (getD rows q 0) ≡ 9
 
+-- what elements that open no series and no Period have to meet, walked over from the tally y on
 pub record Segment (kind : ℕ) (room : Room) (rows : List ℕ) (p₀ : Period) (c : Trees Said) (y : Tally) : Type 0 where
   pub each : Each (elementFits kind p₀) rows c
   pub turns : inTurn kind (quartersOf p₀) (y .last) (map positionOf (those (hasRole 9) rows c)) ≡ true
   pub few : kind ≡ 1 → y .intervals - y .first + length (those (hasRole 4) rows c) ≤ 100
   pub fit : y .intervals + length (those (hasRole 4) rows c) ≤ room .intervals
 
--- one for a row of this role
-abbrev pub unit : ℕ → ℕ → ℕ
-unit n w = cond (eqb (roleOf w) n) 1 0
-
-pub length-element : {A : Type 0} (rows : List ℕ) (n q : ℕ) (s : A) (inner after : Trees A)
-    → length (those (hasRole n) rows (element q s inner after))
-    ≡ unit n (getD rows q 0) + length (those (hasRole n) rows inner) + length (those (hasRole n) rows after)
-unfolding those
-length-element rows n q s inner after =
-    let l = length-append (those (hasRole n) rows inner) (those (hasRole n) rows after) in
-    ⊎-elim
-    (λ (z : eqb (roleOf (getD rows q 0)) n ≡ true). rw z (omega (arith, l)))
-    (λ (z : eqb (roleOf (getD rows q 0)) n ≡ false). rw z (omega (arith, l)))
-    (bool-cases (eqb (roleOf (getD rows q 0)) n))
-
 one-interval : (w : ℕ) (s : Said) (y : Tally) → opened w s y .intervals ≡ y .intervals + unit 4 w
-one-interval w s y =
-    ⊎-elim (λ (z : eqb (roleOf w) 4 ≡ true). rw z refl) (λ (z : eqb (roleOf w) 4 ≡ false). rw z (omega arith)) (bool-cases (eqb (roleOf w) 4))
+one-interval w s y = one-or-none (eqb (roleOf w) 4) (y .intervals)
 
 module _ (rows : List ℕ) (kind n : ℕ) (q : ℕ) (s : Said) (inner after : Trees Said) (y : Tally) (not : roleOf (getD rows q 0) ≡ 3 → ⊥)
     (inside : Within (λ q. roleOf (getD rows q 0) ≡ 3 → ⊥) inner) where
@@ -107,15 +87,15 @@ module _ (rows : List ℕ) (kind n : ℕ) (q : ℕ) (s : Said) (inner after : Tr
       ⊎-elim
       (λ (z : (roleOf w ≡ 9) × (eqb (roleOf w) 9 ≡ true)).
       let f = ap (λ l. inTurn kind n (y .last) (map positionOf l)) (sym (chosen (s ∷ (is ++ js)) (is ++ js) (z .1))) ∙ e in
-      let g = and-true (positionFits kind n (y .last) (positionOf s)) (inTurn kind n (positionOf s) (map positionOf (is ++ js))) f in
+      let g = and-parts (positionFits kind n (y .last) (positionOf s)) (inTurn kind n (positionOf s) (map positionOf (is ++ js))) f in
       let u : y₁ .last ≡ positionOf s = last-opened ∙ chosen (positionOf s) (y .last) (z .1) in
-      let h = and-true (inTurn kind n (y₁ .last) (map positionOf is)) (inTurn kind n (walked rows inner y₁ .last) (map positionOf js))
+      let h = and-parts (inTurn kind n (y₁ .last) (map positionOf is)) (inTurn kind n (walked rows inner y₁ .last) (map positionOf js))
       (sym after-own ∙ ap (λ l. inTurn kind n l (map positionOf (is ++ js))) u ∙ g .1) in
       ((λ _. g .0), h .0, h .1))
       (λ (z : (roleOf w ≡ 9 → ⊥) × (eqb (roleOf w) 9 ≡ false)).
       let f = ap (λ l. inTurn kind n (y .last) (map positionOf l)) (sym (other (s ∷ (is ++ js)) (is ++ js) (z .1))) ∙ e in
       let u : y₁ .last ≡ y .last = last-opened ∙ other (positionOf s) (y .last) (z .1) in
-      let h = and-true (inTurn kind n (y₁ .last) (map positionOf is)) (inTurn kind n (walked rows inner y₁ .last) (map positionOf js))
+      let h = and-parts (inTurn kind n (y₁ .last) (map positionOf is)) (inTurn kind n (walked rows inner y₁ .last) (map positionOf js))
       (sym after-own ∙ ap (λ l. inTurn kind n l (map positionOf (is ++ js))) u ∙ f) in
       ((λ r. absurd (z .0 r)), h .0, h .1))
       (eqb-cases (roleOf w) 9)
@@ -126,12 +106,12 @@ module _ (rows : List ℕ) (kind n : ℕ) (q : ℕ) (s : Said) (inner after : Tr
       → inTurn kind n (y .last) (map positionOf (those (hasRole 9) rows (element q s inner after))) ≡ true
   unfolding those inTurn
   turn-whole a b c =
-      let h = after-own ∙ true-and _ _ b c in
+      let h = after-own ∙ parts-and _ _ b c in
       ⊎-elim
       (λ (z : (roleOf w ≡ 9) × (eqb (roleOf w) 9 ≡ true)).
       let u : y₁ .last ≡ positionOf s = last-opened ∙ chosen (positionOf s) (y .last) (z .1) in
       ap (λ l. inTurn kind n (y .last) (map positionOf l)) (chosen (s ∷ (is ++ js)) (is ++ js) (z .1))
-      ∙ true-and (positionFits kind n (y .last) (positionOf s)) (inTurn kind n (positionOf s) (map positionOf (is ++ js))) (a (z .0))
+      ∙ parts-and (positionFits kind n (y .last) (positionOf s)) (inTurn kind n (positionOf s) (map positionOf (is ++ js))) (a (z .0))
       (ap (λ l. inTurn kind n l (map positionOf (is ++ js))) (sym u) ∙ h))
       (λ (z : (roleOf w ≡ 9 → ⊥) × (eqb (roleOf w) 9 ≡ false)).
       let u : y₁ .last ≡ y .last = last-opened ∙ other (positionOf s) (y .last) (z .1) in
@@ -187,7 +167,7 @@ module _ (kind : ℕ) (room : Room) (rows : List ℕ) (p₀ : Period) (R : ℕ �
       (omega (arith, u, a .fit), λ k. omega (arith, u, a .few k)))
       (eqb-cases (roleOf w) 4)
 
-  pub passes-fit : (c : Trees Said) → Within R c → (y : Tally) → I y → Holds kind room y → Passes kind room rows c y → Segment kind room rows p₀ c y
+  passes-fit : (c : Trees Said) → Within R c → (y : Tally) → I y → Holds kind room y → Passes kind room rows c y → Segment kind room rows p₀ c y
   unfolding Within Passes Each inTurn those walked quartersOf
   passes-fit none h y i a t =
       record { each = tt; turns = refl; few = λ k. let u = a .few k in omega (arith, u); fit = let u = a .fit in omega (arith, u) }
@@ -217,7 +197,7 @@ module _ (kind : ℕ) (room : Room) (rows : List ℕ) (p₀ : Period) (R : ℕ �
         fit = let u = g₂ .fit in omega (arith, l, n₁, n₂, u);
       }
 
-  pub fit-passes : (c : Trees Said) → Within R c → (y : Tally) → I y → Holds kind room y → Segment kind room rows p₀ c y → Passes kind room rows c y
+  fit-passes : (c : Trees Said) → Within R c → (y : Tally) → I y → Holds kind room y → Segment kind room rows p₀ c y → Passes kind room rows c y
   unfolding Within Passes Each inTurn those walked quartersOf
   fit-passes none h y i a g = tt
   fit-passes (element q s inner after) h y i a g =
@@ -263,3 +243,6 @@ module _ (kind : ℕ) (room : Room) (rows : List ℕ) (p₀ : Period) (R : ℕ �
         (λ e. absurd (plain q (h .0) .not-period e)),
         fit-passes after (h .2) y₂ (invariant rows I R keep inner (h .1) y₁ i₁) (after-holds inner (h .1) y₁ a₁ g₁) g₂,
       )
+
+  pub passes-segment : (c : Trees Said) → Within R c → (y : Tally) → I y → Holds kind room y → Passes kind room rows c y ↔ Segment kind room rows p₀ c y
+  passes-segment c h y i a = (passes-fit c h y i a, fit-passes c h y i a)

@@ -2,8 +2,8 @@
 -- Assumes nothing.
 use Prim.Native.Nat.{ℕ, suc, _+_, _-_, _*_, _≤_, _<_}
 use mathlib.Core.Path.{_≡_, refl, sym, ap, _∙_}
-use mathlib.Core.List.{List, [], _∷_, _++_, map, append-assoc}
-use mathlib.Core.Bool.{Bool, true, false, cond}
+use mathlib.Core.List.{List, [], _∷_, _++_, map}
+use mathlib.Core.Bool.{true}
 use mathlib.Core.Logic.{_⊎_, ⊎-elim}
 use native.Mathlib.Omega.{arith}
 use lib.ListN.{length, getD, set, drop, length-set}
@@ -20,21 +20,15 @@ use Rattle.trees.specs.Trees.{Trees, none, element, rowsTaken, Stand, EachConfo
 use Rattle.contents.specs.Said.{Said, bytes}
 use Rattle.contents.specs.Legal.{hasRole, those, positionOf, identifications}
 use Rattle.contents.specs.Shown.{view, objects, businessTypes}
-use Rattle.contents.proofs.Laid.{Layout}
+use Rattle.contents.proofs.Lists.{last-append, lastOf}
+use Rattle.contents.proofs.Laid.{Layout, Valued}
+use Rattle.contents.proofs.Elements.{own, mapped-parts}
+use Rattle.contents.proofs.Shape.{later}
 use Rattle.contents.proofs.Walk.{Tally, opened, walked}
-use Rattle.contents.proofs.Fill.{saidOf, saying, stateOf, entered, filled, Stands}
-use Rattle.contents.proofs.Shapes.{later}
+use Rattle.contents.proofs.Fill.{saidOf, saying, stateOf, tablesWith, filled, Stands}
+use Rattle.contents.proofs.Values.{HasValues}
 use Rattle.contents.proofs.Views.{same-view, whole-view, trimmed-view}
-use Rattle.contents.proofs.Roles.{Role, is-series, is-interval, is-object, is-business, is-id, is-pos, is-qty, is-other, role-cases, own, mapped-parts, Given, Valued}
-
--- the last of a list, or d
-abbrev pub lastOf : {A : Type 0} → A → List A → A
-lastOf d [] = d
-lastOf d (a ∷ l) = lastOf a l
-
-last-append : {A : Type 0} (d : A) (a b : List A) → lastOf d (a ++ b) ≡ lastOf (lastOf d a) b
-last-append d [] b = refl
-last-append d (x ∷ a) b = last-append x a b
+use Rattle.contents.proofs.Roles.{Role, is-series, is-interval, is-object, is-business, is-id, is-pos, is-qty, is-other, role-cases}
 
 abbrev pub valueBytes : Said → List ℕ
 valueBytes s = bytes (s .v)
@@ -132,10 +126,14 @@ module _ {doc : List ℕ} {i : ℕ} {y : Tally} {t : List ℕ} where
             business = refl;
           }
 
-      module _ (a n : ℕ) {b : List ℕ} where
-        id-effect : view doc (withView t (8 * i) a n) (8 * i) ≡ b → Effect doc i y t y′ (withView t (8 * i) a n) (b ∷ []) [] []
-        id-effect v =
-            let c = 8 * i in
+      module _ (a n : ℕ) where
+        -- a view that is stored at one of the first cells of the row
+        view-effect : (c : ℕ) → 8 * i ≤ c → c ≤ 8 * i + 4 → {ids objs kinds : List (List ℕ)}
+            → view doc (withView t c a n) (8 * i) ≡ lastOf (view doc t (8 * i)) ids
+            → view doc (withView t c a n) (8 * i + 2) ≡ lastOf (view doc t (8 * i + 2)) objs
+            → view doc (withView t c a n) (8 * i + 4) ≡ lastOf (view doc t (8 * i + 4)) kinds
+            → Effect doc i y t y′ (withView t c a n) ids objs kinds
+        view-effect c lo hi u v w =
             record {
               series = es;
               first = ef;
@@ -144,42 +142,28 @@ module _ {doc : List ℕ} {i : ℕ} {y : Tally} {t : List ℕ} where
                   stored t c a n j (λ e. ⊎-elim (λ z. omega (arith, z, e)) (λ z. omega (arith, z, e)) o) (λ e. ⊎-elim (λ z. omega (arith, z, e)) (λ z. omega (arith, z, e)) o);
               start = stored t c a n (8 * i + 6) (λ e. omega (arith, e)) (λ e. omega (arith, e));
               count = λ e. still y y′ ei ef (getD (withView t c a n) (8 * i + 7) 0) (stored t c a n (8 * i + 7) (λ f. omega (arith, f)) (λ f. omega (arith, f)) ∙ e);
-              identification = v;
-              object = other-view doc t c a n (8 * i + 2) (λ e. omega (arith, e)) (λ e. omega (arith, e)) (λ e. omega (arith, e));
-              business = other-view doc t c a n (8 * i + 4) (λ e. omega (arith, e)) (λ e. omega (arith, e)) (λ e. omega (arith, e));
-            }
-
-        object-effect : view doc (withView t (8 * i + 2) a n) (8 * i + 2) ≡ b → Effect doc i y t y′ (withView t (8 * i + 2) a n) [] (b ∷ []) []
-        object-effect v =
-            let c = 8 * i + 2 in
-            record {
-              series = es;
-              first = ef;
-              size = stored-size t c a n;
-              others = λ j o.
-                  stored t c a n j (λ e. ⊎-elim (λ z. omega (arith, z, e)) (λ z. omega (arith, z, e)) o) (λ e. ⊎-elim (λ z. omega (arith, z, e)) (λ z. omega (arith, z, e)) o);
-              start = stored t c a n (8 * i + 6) (λ e. omega (arith, e)) (λ e. omega (arith, e));
-              count = λ e. still y y′ ei ef (getD (withView t c a n) (8 * i + 7) 0) (stored t c a n (8 * i + 7) (λ f. omega (arith, f)) (λ f. omega (arith, f)) ∙ e);
-              identification = other-view doc t c a n (8 * i) (λ e. omega (arith, e)) (λ e. omega (arith, e)) (λ e. omega (arith, e));
+              identification = u;
               object = v;
-              business = other-view doc t c a n (8 * i + 4) (λ e. omega (arith, e)) (λ e. omega (arith, e)) (λ e. omega (arith, e));
+              business = w;
             }
 
-        business-effect : view doc (withView t (8 * i + 4) a n) (8 * i + 4) ≡ b → Effect doc i y t y′ (withView t (8 * i + 4) a n) [] [] (b ∷ [])
-        business-effect v =
-            let c = 8 * i + 4 in
-            record {
-              series = es;
-              first = ef;
-              size = stored-size t c a n;
-              others = λ j o.
-                  stored t c a n j (λ e. ⊎-elim (λ z. omega (arith, z, e)) (λ z. omega (arith, z, e)) o) (λ e. ⊎-elim (λ z. omega (arith, z, e)) (λ z. omega (arith, z, e)) o);
-              start = stored t c a n (8 * i + 6) (λ e. omega (arith, e)) (λ e. omega (arith, e));
-              count = λ e. still y y′ ei ef (getD (withView t c a n) (8 * i + 7) 0) (stored t c a n (8 * i + 7) (λ f. omega (arith, f)) (λ f. omega (arith, f)) ∙ e);
-              identification = other-view doc t c a n (8 * i) (λ e. omega (arith, e)) (λ e. omega (arith, e)) (λ e. omega (arith, e));
-              object = other-view doc t c a n (8 * i + 2) (λ e. omega (arith, e)) (λ e. omega (arith, e)) (λ e. omega (arith, e));
-              business = v;
-            }
+        id-effect : {b : List ℕ} → view doc (withView t (8 * i) a n) (8 * i) ≡ b → Effect doc i y t y′ (withView t (8 * i) a n) (b ∷ []) [] []
+        id-effect {b} v =
+            view-effect (8 * i) (omega arith) (omega arith) {ids = b ∷ []} {objs = []} {kinds = []} v
+            (other-view doc t (8 * i) a n (8 * i + 2) (λ e. omega (arith, e)) (λ e. omega (arith, e)) (λ e. omega (arith, e)))
+            (other-view doc t (8 * i) a n (8 * i + 4) (λ e. omega (arith, e)) (λ e. omega (arith, e)) (λ e. omega (arith, e)))
+
+        object-effect : {b : List ℕ} → view doc (withView t (8 * i + 2) a n) (8 * i + 2) ≡ b → Effect doc i y t y′ (withView t (8 * i + 2) a n) [] (b ∷ []) []
+        object-effect {b} v =
+            view-effect (8 * i + 2) (omega arith) (omega arith) {ids = []} {objs = b ∷ []} {kinds = []}
+            (other-view doc t (8 * i + 2) a n (8 * i) (λ e. omega (arith, e)) (λ e. omega (arith, e)) (λ e. omega (arith, e))) v
+            (other-view doc t (8 * i + 2) a n (8 * i + 4) (λ e. omega (arith, e)) (λ e. omega (arith, e)) (λ e. omega (arith, e)))
+
+        business-effect : {b : List ℕ} → view doc (withView t (8 * i + 4) a n) (8 * i + 4) ≡ b → Effect doc i y t y′ (withView t (8 * i + 4) a n) [] [] (b ∷ [])
+        business-effect {b} v =
+            view-effect (8 * i + 4) (omega arith) (omega arith) {ids = []} {objs = []} {kinds = b ∷ []}
+            (other-view doc t (8 * i + 4) a n (8 * i) (λ e. omega (arith, e)) (λ e. omega (arith, e)) (λ e. omega (arith, e)))
+            (other-view doc t (8 * i + 4) a n (8 * i + 2) (λ e. omega (arith, e)) (λ e. omega (arith, e)) (λ e. omega (arith, e))) v
 
 pub cell-at : (n i k : ℕ) → n ≡ suc i → cell n k ≡ 8 * i + k
 unfolding cell
@@ -215,15 +199,15 @@ module _ (kind : ℕ) (rows : List ℕ) (p : ℕ) (L : Layout rows p) (W : Value
   no-series h q a b l e = let d = L .only-series q l e in omega (arith, a, b, d)
 
   pub inside : (kids : Trees Placed) (h i : ℕ) (y : Tally) (t : Tables) → 12 ≤ h → h < length rows → Stand rows h (rowsTaken kids) → EachConforms rows kids
-      → Stands doc kids → Given rows kids → y .series ≡ suc i → 8 * i + 8 ≤ length (t .series)
+      → Stands doc kids → HasValues rows kids → y .series ≡ suc i → 8 * i + 8 ≤ length (t .series)
       → Effect doc i y (t .series) (walked rows (saying kids) y) (filled kind rows kids y t .series)
       (identifications rows (saying kids)) (objects rows (saying kids)) (businessTypes rows (saying kids))
-  unfolding walked filled saying rowsTaken Stand EachConforms Given Stands tablesAfter identifications objects businessTypes those
+  unfolding walked filled saying rowsTaken Stand EachConforms HasValues Stands tablesAfter identifications objects businessTypes those
   inside none h i y t a l s c d g e m = kept-effect refl refl refl
   inside (element q x inner after) h i y t a l s c d g e m =
       let w = getD rows q 0 in
       let y₁ = opened w (saidOf x) y in
-      let t₁ = entered kind rows q x y₁ t in
+      let t₁ = tablesWith kind rows q x y₁ t in
       let b = later rows p L h q l (s .0) (s .1) in
       let one = step-effect kind doc w q i x y (t .series) (role-cases (roleOf w)) (no-series h q a b (s .0)) (λ r. g .0 (W q (s .0) r)) (d .1) e m in
       let e₁ = one .series ∙ e in
@@ -233,7 +217,7 @@ module _ (kind : ℕ) (rows : List ℕ) (p : ℕ) (L : Layout rows p) (W : Value
       let z₂ = two .size in
       let three = inside after h i (walked rows (saying inner) y₁) (filled kind rows inner y₁ t₁) a l (s .2) (c .2) (d .3) (g .2) e₂ (omega (arith, z₂, z₁, m)) in
       effect-lists
-      (sym (mapped-parts valueBytes (hasRole 8) rows q (saidOf x) (saying inner) (saying after)))
-      (sym (mapped-parts valueBytes (hasRole 6) rows q (saidOf x) (saying inner) (saying after)))
-      (sym (mapped-parts trimmedBytes (hasRole 7) rows q (saidOf x) (saying inner) (saying after)))
+      (sym (mapped-parts rows valueBytes (hasRole 8) q (saidOf x) (saying inner) (saying after)))
+      (sym (mapped-parts rows valueBytes (hasRole 6) q (saidOf x) (saying inner) (saying after)))
+      (sym (mapped-parts rows trimmedBytes (hasRole 7) q (saidOf x) (saying inner) (saying after)))
       (effect-on one (effect-on two three))

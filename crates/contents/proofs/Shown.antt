@@ -1,90 +1,62 @@
 -- The tables that a conforming content fills show it: a row for each series, and a position and an amount for each interval.
 -- Assumes nothing.
-use Prim.Native.Nat.{ℕ, _+_, _-_, _*_, _≤_, _<_}
+use Prim.Native.Nat.{ℕ, _+_, _*_, _≤_}
 use mathlib.Core.Path.{_≡_, refl, sym, ap, _∙_}
-use mathlib.Core.List.{List, [], _∷_, _++_, map, append-nil}
-use mathlib.Core.Bool.{Bool, true, false, cond}
-use mathlib.Core.Logic.{⊎-elim}
+use mathlib.Core.List.{List, map}
+use mathlib.Core.Bool.{true, false}
 use native.Mathlib.Omega.{arith}
 use lib.Dec.{eqb}
 use lib.IntN.{ℤ, pos}
-use lib.ListN.{length, getD, take, drop, replicate, length-replicate, getD-replicate, List·getD-eq-default, List·getD-append, length-append}
-use lib.Seq.{sets, sets-eq, getD-append-add, getD-drop}
-use Rattle.lists.proofs.Cases.{ltb-cases}
+use lib.ListN.{length, getD, take, length-replicate}
 use Rattle.lists.specs.Zeros.{zeros}
-use Rattle.tables.specs.Cells.{noAmounts}
 use Rattle.guideline.specs.Columns.{roleOf}
 use Rattle.reader.specs.Items.{Placed}
-use Rattle.reader.specs.Reading.{Tables, blank, tablesAfter}
-use Rattle.trees.specs.Trees.{Trees, none, element, rowsTaken, EachConforms, Conforms}
+use Rattle.reader.specs.Reading.{blank, tablesAfter}
+use Rattle.trees.specs.Trees.{Trees, none, element, EachConforms, Conforms}
 use Rattle.contents.specs.Said.{Said}
 use Rattle.contents.specs.Legal.{hasRole, those, inEach, positionOf, identifications}
-use Rattle.contents.specs.Shown.{amountIn, sum, objects, businessTypes, intervalCounts, RowShows, Shows}
-use Rattle.contents.proofs.Laid.{Layout}
-use Rattle.contents.proofs.Walk.{Tally, nothing, opened, walked}
-use Rattle.contents.proofs.Fill.{saidOf, saying, stateOf, entered, filled, Stands}
-use Rattle.contents.proofs.Shapes.{holds-root}
-use Rattle.contents.proofs.Roles.{role-cases, Given, Valued}
+use Rattle.contents.specs.Shown.{amountIn, sum, objects, businessTypes, intervalCounts, Shows}
+use Rattle.contents.proofs.Lists.{sets-shown, zero-all}
+use Rattle.contents.proofs.Laid.{Layout, Valued}
+use Rattle.contents.proofs.Elements.{last-in, last-those}
+use Rattle.contents.proofs.Shape.{document-shape}
+use Rattle.contents.proofs.Walk.{nothing, opened, walked}
+use Rattle.contents.proofs.Fill.{saidOf, saying, stateOf, tablesWith, filled, Stands}
+use Rattle.contents.proofs.Values.{HasValues}
 use Rattle.contents.proofs.Intervals.{Puts, puts}
 use Rattle.contents.proofs.Series.{valueBytes, trimmedBytes}
-use Rattle.contents.proofs.Rows.{RowOf, RowsFrom, Filled, filled-as, row-moved, series-kept, tallyIn, tablesIn, seriesIn, FilledBy, series-filled}
-
-pub zero-all : {A : Type 0} (z : A) (n j : ℕ) → getD (replicate n z) j z ≡ z
-zero-all z n j =
-    ⊎-elim
-    (λ y. getD-replicate n j z z (y .0))
-    (λ y. List·getD-eq-default (replicate n z) z (rw length-replicate (y .0)))
-    (ltb-cases j n)
-
--- stores from cell 0 on into cells that are z
-sets-shown : {A : Type 0} (z : A) (n : ℕ) (vs : List A) → length vs ≤ n → (j : ℕ) → getD (sets (replicate n z) 0 vs) j z ≡ getD vs j z
-sets-shown {A} z n vs h j =
-    let c = replicate n z in
-    let k = drop (0 + length vs) c in
-    let e : sets c 0 vs ≡ vs ++ k = sets-eq vs c 0 (rw (length-replicate n z) (omega (arith, h))) in
-    ap (λ (l : List A). getD l j z) e
-    ∙ ⊎-elim
-    (λ y. List·getD-append vs k z j (y .0))
-    (λ y.
-    let b = y .0 in
-    let d : j ≡ length vs + (j - length vs) = omega (arith, b) in
-    ap (λ (m : ℕ). getD (vs ++ k) m z) d
-    ∙ getD-append-add vs k (j - length vs) z
-    ∙ getD-drop (0 + length vs) c (j - length vs) z
-    ∙ zero-all z n (0 + length vs + (j - length vs))
-    ∙ sym (List·getD-eq-default vs z b))
-    (ltb-cases j (length vs))
+use Rattle.contents.proofs.Rows.{Filled, filled-as, row-moved, series-kept, seriesIn, series-filled}
 
 module _ (kind : ℕ) (rows : List ℕ) (p : ℕ) (L : Layout rows p) (W : Valued rows) (doc : List ℕ) (ns np na : ℕ) where
   -- ---- the root
 
-  pub those-root : (role : ℕ) (x : Placed) (inner : Trees Placed) → eqb (roleOf (getD rows 1 0)) role ≡ false
-      → those (hasRole role) rows (saying inner) ≡ those (hasRole role) rows (saying (element 1 x inner none))
-  unfolding those saying
-  those-root role x inner n = rw n (sym (append-nil (those (hasRole role) rows (saying inner))))
-
-  each-root : (role : ℕ) (x : Placed) (inner : Trees Placed) → eqb (roleOf (getD rows 1 0)) role ≡ false
-      → inEach (hasRole role) rows (saying inner) ≡ inEach (hasRole role) rows (saying (element 1 x inner none))
-  unfolding inEach saying
-  each-root role x inner n = rw n (sym (append-nil (inEach (hasRole role) rows (saying inner))))
-
   pub root-role : (role : ℕ) → eqb 1 role ≡ false → eqb (roleOf (getD rows 1 0)) role ≡ false
   root-role role e = rw (L .root) e
+
+  pub root-those : (role : ℕ) (x : Placed) (inner : Trees Placed) → eqb 1 role ≡ false
+      → those (hasRole role) rows (saying inner) ≡ those (hasRole role) rows (saying (element 1 x inner none))
+  unfolding saying
+  root-those role x inner e = sym (last-those rows (hasRole role) 1 (saidOf x) (saying inner) (root-role role e))
+
+  root-in-each : (role : ℕ) (x : Placed) (inner : Trees Placed) → eqb 1 role ≡ false
+      → inEach (hasRole role) rows (saying inner) ≡ inEach (hasRole role) rows (saying (element 1 x inner none))
+  unfolding saying
+  root-in-each role x inner e = sym (last-in rows (hasRole role) 1 (saidOf x) (saying inner) (root-role role e))
 
   pub root-tally : (x : Placed) → (opened (getD rows 1 0) (saidOf x) nothing .series ≡ 0) × (opened (getD rows 1 0) (saidOf x) nothing .intervals ≡ 0)
   unfolding nothing
   root-tally x = rw (L .root) (refl, refl)
 
-  pub root-cells : (x : Placed) → entered kind rows 1 x (opened (getD rows 1 0) (saidOf x) nothing) (blank ns np na) .series ≡ zeros ns
+  pub root-cells : (x : Placed) → tablesWith kind rows 1 x (opened (getD rows 1 0) (saidOf x) nothing) (blank ns np na) .series ≡ zeros ns
   unfolding tablesAfter blank
   root-cells x =
       let r = L .root in
       series-kept (roleOf (getD rows 1 0)) (positionOf (saidOf x)) (x .at) _ (x .rest) (stateOf kind 1 true (opened (getD rows 1 0) (saidOf x) nothing)) (zeros ns)
-      (role-cases (roleOf (getD rows 1 0))) (λ e. omega (arith, e, r)) (λ e. omega (arith, e, r)) (λ e. omega (arith, e, r)) (λ e. omega (arith, e, r)) (λ e. omega (arith, e, r))
+      (λ e. omega (arith, e, r)) (λ e. omega (arith, e, r)) (λ e. omega (arith, e, r)) (λ e. omega (arith, e, r)) (λ e. omega (arith, e, r))
 
   -- ---- a conforming content
 
-  module _ (kids : Trees Placed) (c : Conforms rows 0 kids) (g : Given rows kids) where
+  module _ (kids : Trees Placed) (c : Conforms rows 0 kids) (g : HasValues rows kids) where
     all-puts : Puts nothing (blank ns np na) (walked rows (saying kids) nothing) (filled kind rows kids nothing (blank ns np na))
         (those (hasRole 4) rows (saying kids)) (map positionOf (those (hasRole 9) rows (saying kids))) (map amountIn (those (hasRole 10) rows (saying kids)))
     all-puts =
@@ -108,35 +80,35 @@ module _ (kind : ℕ) (rows : List ℕ) (p : ℕ) (L : Layout rows p) (W : Value
         ap (λ (l : List ℤ). getD l j (pos 0)) (k .amounts) ∙ sets-shown (pos 0) na (map amountIn (those (hasRole 10) rows (saying kids))) (omega (arith, m, h)) j
 
   root-filled : (x : Placed) (inner : Trees Placed) → Conforms rows 0 (element 1 x inner none) → Stands doc (element 1 x inner none)
-      → Given rows (element 1 x inner none) → 8 * seriesIn kind rows p L W doc (element 1 x inner none) ≤ ns
+      → HasValues rows (element 1 x inner none) → 8 * seriesIn kind rows p L W doc (element 1 x inner none) ≤ ns
       → Filled doc 0 0 (zeros ns) (filled kind rows (element 1 x inner none) nothing (blank ns np na) .series) (length (those (hasRole 2) rows (saying (element 1 x inner none))))
       (identifications rows (saying (element 1 x inner none))) (objects rows (saying (element 1 x inner none))) (businessTypes rows (saying (element 1 x inner none)))
       (intervalCounts rows (saying (element 1 x inner none)))
-  unfolding EachConforms Stands Given filled identifications objects businessTypes intervalCounts
+  unfolding EachConforms Stands HasValues filled identifications objects businessTypes intervalCounts
   root-filled x inner c d g room =
       let y = opened (getD rows 1 0) (saidOf x) nothing in
-      let t = entered kind rows 1 x y (blank ns np na) in
+      let t = tablesWith kind rows 1 x y (blank ns np na) in
       let a = root-tally x in
       let a₀ = a .0 in
       let z = root-cells x in
-      let m = ap length (those-root 2 x inner (root-role 2 refl)) in
+      let m = ap length (root-those 2 x inner refl) in
       let len : length (t .series) ≡ ns = ap length z ∙ length-replicate ns 0 in
       filled-as (a .0) (a .1) z m
-      (ap (map valueBytes) (those-root 8 x inner (root-role 8 refl)))
-      (ap (map valueBytes) (those-root 6 x inner (root-role 6 refl)))
-      (ap (map trimmedBytes) (those-root 7 x inner (root-role 7 refl)))
-      (ap (map (λ (s : Trees Said). length (those (hasRole 4) rows s))) (each-root 2 x inner (root-role 2 refl)))
+      (ap (map valueBytes) (root-those 8 x inner refl))
+      (ap (map valueBytes) (root-those 6 x inner refl))
+      (ap (map trimmedBytes) (root-those 7 x inner refl))
+      (ap (map (λ (s : Trees Said). length (those (hasRole 4) rows s))) (root-in-each 2 x inner refl))
       (series-filled kind rows p L W doc inner y t (c .each .0 .stand) (c .each .1) (d .2) (g .1) (omega (arith, m, room, len, a₀))
       (λ j l. ap (λ (k : List ℕ). getD k j 0) z ∙ zero-all 0 ns j))
 
-  shown-series : (kids : Trees Placed) → Conforms rows 0 kids → Stands doc kids → Given rows kids → 8 * length (those (hasRole 2) rows (saying kids)) ≤ ns
+  shown-series : (kids : Trees Placed) → Conforms rows 0 kids → Stands doc kids → HasValues rows kids → 8 * length (those (hasRole 2) rows (saying kids)) ≤ ns
       → Filled doc 0 0 (zeros ns) (filled kind rows kids nothing (blank ns np na) .series) (length (those (hasRole 2) rows (saying kids)))
       (identifications rows (saying kids)) (objects rows (saying kids)) (businessTypes rows (saying kids)) (intervalCounts rows (saying kids))
   shown-series kids c d g room =
-      let h = holds-root rows p L kids c in
-      rw (h .2) (root-filled (h .0) (h .1) (rw (h .2) at c) (rw (h .2) at d) (rw (h .2) at g) (rw (h .2) at room))
+      let h = document-shape rows p L kids c in
+      rw (h .is) (root-filled (h .tag) (h .inner) (rw (h .is) at c) (rw (h .is) at d) (rw (h .is) at g) (rw (h .is) at room))
 
-  pub shows : (kids : Trees Placed) → Conforms rows 0 kids → Stands doc kids → Given rows kids → 8 * length (those (hasRole 2) rows (saying kids)) ≤ ns
+  pub shows : (kids : Trees Placed) → Conforms rows 0 kids → Stands doc kids → HasValues rows kids → 8 * length (those (hasRole 2) rows (saying kids)) ≤ ns
       → length (those (hasRole 4) rows (saying kids)) ≤ np → length (those (hasRole 4) rows (saying kids)) ≤ na
       → Shows doc (filled kind rows kids nothing (blank ns np na)) rows (saying kids)
   shows kids c d g a b e =

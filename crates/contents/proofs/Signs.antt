@@ -21,10 +21,10 @@ use Rattle.trees.specs.Cursor.{onRow, follows, rowAfter, openAfter}
 use Rattle.trees.proofs.Along.{Along, spell-on, closes-after, due-within}
 use Rattle.contents.specs.Legal.{positionOf}
 use Rattle.contents.proofs.Walk.{Tally, opened, walked, Taken, Ended, Passes}
-use Rattle.contents.proofs.Fill.{saidOf, saying, entered, filled, Unused}
+use Rattle.contents.proofs.Fill.{saidOf, saying, tablesWith, filled, Unused}
 
 -- a row is due, and this holds of it
-abbrev pub OnRow : Due → (ℕ → Type 0) → Type 0
+abbrev OnRow : Due → (ℕ → Type 0) → Type 0
 OnRow (Row q) P = P q
 OnRow NotDue P = ⊥
 
@@ -62,7 +62,7 @@ module _ (doc : List ℕ) (room : Room) (kind : ℕ) (rows : List ℕ) where
       (λ q.
       Taken kind room (getD rows q 0) (saidOf x) y
       × New doc rows q x (after rows q x y) t
-      × Runs goal s q true (after rows q x y) (entered kind rows q x (after rows q x y) t))
+      × Runs goal s q true (after rows q x y) (tablesWith kind rows q x (after rows q x y) t))
   Runs goal (Closes name ∷ s) r o y t =
       OnRow (endOf rows r o name) (λ q. Ended kind (getD rows q 0) y × Runs goal s q false y t)
 
@@ -71,7 +71,7 @@ module _ (doc : List ℕ) (room : Room) (kind : ℕ) (rows : List ℕ) where
   Opening goal x s y t q =
       Taken kind room (getD rows q 0) (saidOf x) y
       × New doc rows q x (after rows q x y) t
-      × Runs goal s q true (after rows q x y) (entered kind rows q x (after rows q x y) t)
+      × Runs goal s q true (after rows q x y) (tablesWith kind rows q x (after rows q x y) t)
 
   abbrev pub Closing : Goal → List (Sign Placed) → Tally → Tables → ℕ → Type 0
   Closing goal s y t q = Ended kind (getD rows q 0) y × Runs goal s q false y t
@@ -87,7 +87,7 @@ module _ (doc : List ℕ) (room : Room) (kind : ℕ) (rows : List ℕ) where
   runs-follow (Opens x name ∷ s) r o y t h =
       let k = on-row (startOf rows r o name) (Opening (λ r o y t. overOf rows r o ≡ true) x s y t) h in
       ap (λ (d : Due). onRow d (λ q. follows rows q true s)) (k .1)
-      ∙ runs-follow s (k .0) true (after rows (k .0) x y) (entered kind rows (k .0) x (after rows (k .0) x y) t) (k .2 .2)
+      ∙ runs-follow s (k .0) true (after rows (k .0) x y) (tablesWith kind rows (k .0) x (after rows (k .0) x y) t) (k .2 .2)
   runs-follow (Closes name ∷ s) r o y t h =
       let k = on-row (endOf rows r o name) (Closing (λ r o y t. overOf rows r o ≡ true) s y t) h in
       ap (λ (d : Due). onRow d (λ q. follows rows q false s)) (k .1) ∙ runs-follow s (k .0) false y t (k .2 .1)
@@ -106,7 +106,7 @@ module _ (doc : List ℕ) (room : Room) (kind : ℕ) (rows : List ℕ) where
         let name = nameOf (getD rows q 0) in
         let l = due-within rows r o name q (a .0) in
         let y1 = after rows q x y in
-        let t1 = entered kind rows q x y1 t in
+        let t1 = tablesWith kind rows q x y1 t in
         let y2 = walked rows (saying inner) y1 in
         let t2 = filled kind rows inner y1 t1 in
         let behind = spell rows inner ++ (Closes name ∷ (spell rows later ++ rest)) in
@@ -132,7 +132,7 @@ module _ (doc : List ℕ) (room : Room) (kind : ℕ) (rows : List ℕ) where
         let name = nameOf (getD rows q 0) in
         let l = due-within rows r o name q (a .0) in
         let y1 = after rows q x y in
-        let t1 = entered kind rows q x y1 t in
+        let t1 = tablesWith kind rows q x y1 t in
         let y2 = walked rows (saying inner) y1 in
         let t2 = filled kind rows inner y1 t1 in
         let behind = spell rows inner ++ (Closes name ∷ (spell rows later ++ rest)) in

@@ -9,9 +9,8 @@ use mathlib.Core.Bool.{Bool, true, false, cond, _&&_}
 use native.Mathlib.Omega.{arith}
 use lib.ListN.{length, getD}
 use lib.Dec.{leb, ltb, eqb}
-use borrow.Author.Tests.{eq-eqb, ne-eqb, lt-ltb, le-ltb, lt-leb, leb-false, eqb-true}
+use borrow.Author.Tests.{eq-eqb, ne-eqb, le-ltb, lt-leb, leb-false, eqb-true}
 use Rattle.lists.proofs.Cases.{bool-cases, by-cond, eqb-cases, zero-not-one, both-true}
-use Rattle.attributes.specs.Attribute.{partOf}
 use Rattle.characters.specs.Says.{says}
 use Rattle.trims.specs.Trim.{dropped}
 use Rattle.forms.specs.Forms.{fixedVersion}
@@ -21,7 +20,6 @@ use Rattle.numbers.specs.declared.Number.the-variants.{Is, NotNumber}
 use Rattle.times.specs.Times.{interval}
 use Rattle.times.specs.declared.Interval.{Interval}
 use Rattle.times.specs.declared.Interval.the-variants.{Minutes, NotInterval}
-use Rattle.tags.specs.declared.Span.{Span}
 use Rattle.items.specs.declared.Tag.{Tag}
 use Rattle.guideline.specs.Columns.{formOf, collapsed, schemeOf, roleOf}
 use Rattle.guideline.specs.Kinds.{takesAnother}
@@ -30,21 +28,20 @@ use Rattle.rules.specs.declared.Held.{Held}
 use Rattle.rules.specs.declared.Judged.{Judged}
 use Rattle.states.specs.Attributes.{there, agree, asksV, asksScheme, noOthers, valueOf, schemeRefusal, least, alsoScheme, judgeTag}
 use Rattle.states.specs.Attributes.{attributesFit as tagFits}
-use Rattle.states.specs.Moves.{oneMore, heldOf, cutShort, tooMany, noRoom, halfOriginals, valuesJudged, judgedAt, startJudged, placed, oneSeries, oneInterval, oneOriginal, lastPos, covering, kept, entered, entryOf, closedAt, endRefusal}
+use Rattle.states.specs.Moves.{heldOf, cutShort, tooMany, noRoom, halfOriginals, valuesJudged, judgedAt, startJudged, placed, oneSeries, oneInterval, oneOriginal, lastPos, covering, kept, entered, entryOf, closedAt, endRefusal}
 use Rattle.states.specs.declared.State.{State}
 use Rattle.states.specs.declared.Room.{Room}
-use Rattle.contents.specs.Said.{Absent, Given, Said, given, bytes}
-use Rattle.contents.specs.Spelled.{valueIn, saidBy}
+use Rattle.blindness.proofs.Counts.{one-more}
+use Rattle.contents.specs.Said.{Said, bytes}
+use Rattle.contents.specs.Spelled.{saidBy}
 use Rattle.contents.specs.Legal.{periodBy, quartersOf, positionBy, positionOf, sayings, attributesFit, schemeFits, valueFits, elementFits}
+use Rattle.contents.proofs.Tests.{and-parts}
 use Rattle.contents.proofs.Laid.{Layout}
 use Rattle.contents.proofs.Walk.{Tally, quartersIn, opened, Taken, Ended}
 use Rattle.contents.proofs.Fill.{stateOf}
+use Rattle.contents.proofs.Values.{asked-there, given-there, there-bytes}
 
 -- ---- tests
-
-both : (a b : Bool) → a && b ≡ true → (a ≡ true) × (b ≡ true)
-both true b h = (refl, h)
-both false b h = absurd (zero-not-one (cc))
 
 chained : (a b c d : Bool) → cond a (cond b (cond c d false) false) false ≡ (a && b && c && d)
 chained true true true d = refl
@@ -58,29 +55,12 @@ opposite false e = absurd (zero-not-one (cc))
 
 -- ---- the attributes of a tag, by where they stand and by what they are
 
-given-there : (x : Span) (s : List ℕ) → given (valueIn x s) ≡ there x
-unfolding valueIn given
-given-there x s = by (there x)
-  where
-    by : (t : Bool) → given (cond t (Given (partOf s (x .start) (x .len))) Absent) ≡ t
-    by true = refl
-    by false = refl
-
-there-bytes : (x : Span) (s : List ℕ) → there x ≡ true → bytes (valueIn x s) ≡ partOf s (x .start) (x .len)
-unfolding valueIn bytes
-there-bytes x s e = rw e
-
 attributes-same : (w : ℕ) (t : Tag) (s : List ℕ) → tagFits w t ≡ attributesFit w (saidBy t s)
 unfolding tagFits attributesFit saidBy
 attributes-same w t s =
     rw (given-there (t .v) s, given-there (t .coding) s, given-there (t .version) s)
     (chained (agree (asksV w) (there (t .v))) (agree (asksScheme w) (there (t .coding))) (agree (eqb (roleOf w) 1) (there (t .version)))
     (noOthers w (t .others) (t .passable)))
-
--- what a row asks for is there
-asked-there : (a g : Bool) → agree a g ≡ true → a ≡ true → g ≡ true
-unfolding agree
-asked-there a g h e = rw e at h
 
 -- ---- what the reader judges of a tag's values, by what the tag says
 
@@ -324,7 +304,7 @@ module _ (kind k₀ r : ℕ) (o : Bool) (y : Tally) (w : ℕ) (u : Said) where
         (λ (e : (formOf w ≡ 9) × (eqb (formOf w) 9 ≡ true)).
         let g = pos-row (e .0) in
         let f : formOf w ≡ 0 → ⊥ = λ z. omega (arith, z, e .0) in
-        let a = both (schemeFits w u) (eqb (valueJudged .number) 0) (sym (value-alone (eqb (valueJudged .number) 0) (g .1) f) ∙ h) in
+        let a = and-parts (schemeFits w u) (eqb (valueJudged .number) 0) (sym (value-alone (eqb (valueJudged .number) 0) (g .1) f) ∙ h) in
         (value-alone (valueFits kind (y .period) w u) (g .1) f ∙ rw (a .0, pos-fits (e .0)), λ z. sym (pos-turn (e .0) (g .0)) ∙ a .1))
         (λ (e : (formOf w ≡ 9 → ⊥) × (eqb (formOf w) 9 ≡ false)). (rw (other-fits (e .0)) h, λ z. absurd (e .0 z)))
         (eqb-cases (formOf w) 9)
@@ -337,16 +317,12 @@ module _ (kind k₀ r : ℕ) (o : Bool) (y : Tally) (w : ℕ) (u : Said) where
         (λ (e : (formOf w ≡ 9) × (eqb (formOf w) 9 ≡ true)).
         let g = pos-row (e .0) in
         let f : formOf w ≡ 0 → ⊥ = λ z. omega (arith, z, e .0) in
-        let a = both (schemeFits w u) (valueFits kind (y .period) w u) (sym (value-alone (valueFits kind (y .period) w u) (g .1) f) ∙ h) in
+        let a = and-parts (schemeFits w u) (valueFits kind (y .period) w u) (sym (value-alone (valueFits kind (y .period) w u) (g .1) f) ∙ h) in
         value-alone (eqb (valueJudged .number) 0) (g .1) f ∙ rw (a .0, pos-turn (e .0) (g .0)) (turn (e .0)))
         (λ (e : (formOf w ≡ 9 → ⊥) × (eqb (formOf w) 9 ≡ false)). rw (← other-fits (e .0)) h)
         (eqb-cases (formOf w) 9)
 
 -- ---- the state after a start tag
-
-one-more : (n : ℕ) → n < 4294967295 → oneMore n ≡ n + 1
-unfolding oneMore
-one-more n h = rw (lt-ltb n 4294967295 h)
 
 -- TimePeriodCovered is nothing else to the reader
 record Alone (role : ℕ) : Type 0 where
@@ -497,7 +473,7 @@ module _ (kind : ℕ) (rows : List ℕ) (p : ℕ) (L : Layout rows p) (room : Ro
     module _ (t : Taken kind room row said y) (whole : cutShort empty rows q ≡ false) where
       taken-fits : (attributesFit row said ≡ true) × (valuesFit row said (valueFits kind (y .period) row said) ≡ true)
       unfolding elementFits
-      taken-fits = both (attributesFit row said) (valuesFit row said (valueFits kind (y .period) row said)) (t .fits)
+      taken-fits = and-parts (attributesFit row said) (valuesFit row said (valueFits kind (y .period) row said)) (t .fits)
 
       taken-values : verdict ≡ values
       unfolding stateOf
@@ -530,7 +506,7 @@ module _ (kind : ℕ) (rows : List ℕ) (p : ℕ) (L : Layout rows p) (room : Ro
           let f : formOf row ≡ 0 → ⊥ = λ z. omega (arith, z, e) in
           let v = valueJudged kind k₀ r o y row said in
           let d = period-judged kind k₀ r o y row said e (g .0) in
-          let a = both (schemeFits row said) (eqb (v .number) 0) (sym (value-alone kind k₀ r o y row said (eqb (v .number) 0) (g .1 .root) f) ∙ taken-value) in
+          let a = and-parts (schemeFits row said) (eqb (v .number) 0) (sym (value-alone kind k₀ r o y row said (eqb (v .number) 0) (g .1 .root) f) ∙ taken-value) in
           let k = value-kept kind k₀ r o y row said (g .1 .root) f in
           let l = period-kept kind (interval (says (bytes (said .v)))) (ap (λ (j : Judged). j .number) (sym d) ∙ eqb-true (v .number) 0 (a .1)) in (
             ap (λ (j : Judged). j .first) taken-values ∙ k .0 ∙ ap (λ (j : Judged). j .first) d ∙ l .0,

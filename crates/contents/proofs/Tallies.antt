@@ -1,133 +1,50 @@
 -- What a walk over a content comes to: counts, the last Pos and the period, by what stands in the content. Assumes nothing.
-use Prim.Native.Nat.{ℕ, _+_, _≤_, _<_}
+use Prim.Native.Nat.{ℕ, _+_}
 use mathlib.Core.Path.{_≡_, refl, sym, ap, _∙_}
-use mathlib.Core.List.{List, [], _∷_, _++_, map, append-assoc}
-use mathlib.Core.Bool.{Bool, true, false, cond, _&&_}
-use mathlib.Core.Logic.{⊎-elim}
+use mathlib.Core.List.{List, [], _∷_, _++_, map}
+use mathlib.Core.Bool.{Bool, true, false, cond, _&&_, and-assoc}
 use native.Mathlib.Omega.{arith}
 use native.Mathlib.Nat.{add-zero}
 use lib.Dec.{eqb}
-use lib.ListN.{length, getD, length-append}
+use lib.ListN.{length, getD}
 use borrow.Author.Tests.{ne-eqb}
-use Rattle.lists.proofs.Cases.{bool-cases}
 use Rattle.rules.specs.Rules.{positionFits}
 use Rattle.characters.specs.Says.{says}
 use Rattle.times.specs.Times.{interval}
-use Rattle.guideline.specs.Columns.{formOf, roleOf}
+use Rattle.guideline.specs.Columns.{roleOf}
 use Rattle.trees.specs.Trees.{Trees, none, element}
 use Rattle.contents.specs.Said.{Said, bytes}
-use Rattle.contents.specs.Legal.{hasRole, hasForm, those, Period, periodBy, periodIn, positionOf, inTurn, Each}
+use Rattle.contents.specs.Legal.{hasRole, hasForm, those, Period, periodBy, periodIn, positionOf, inTurn}
+use Rattle.contents.proofs.Lists.{lastOf, last-append}
+use Rattle.contents.proofs.Elements.{always, Within, length-element, mapped-parts, own}
 use Rattle.contents.proofs.Walk.{Tally, opened, walked}
 
-pub chosen : {A : Type 0} (a b : A) {t : Bool} → t ≡ true → cond t a b ≡ a
-chosen a b e = ap (λ u. cond u a b) e
-
-pub other : {A : Type 0} (a b : A) {t : Bool} → t ≡ false → cond t a b ≡ b
-other a b e = ap (λ u. cond u a b) e
-
 -- ---- lists
-
--- the last of them; where there is none, l
-abbrev pub lastOf : ℕ → List ℕ → ℕ
-lastOf l [] = l
-lastOf l (p ∷ ps) = lastOf p ps
-
-pub last-append : (l : ℕ) (xs ys : List ℕ) → lastOf l (xs ++ ys) ≡ lastOf (lastOf l xs) ys
-last-append l [] ys = refl
-last-append l (x ∷ xs) ys = last-append x xs ys
-
-pub map-append : {A B : Type 0} (f : A → B) (xs ys : List A) → map f (xs ++ ys) ≡ map f xs ++ map f ys
-map-append f [] ys = refl
-map-append f (x ∷ xs) ys = ap (λ l. f x ∷ l) (map-append f xs ys)
-
-and-assoc : (a b c : Bool) → a && (b && c) ≡ (a && b) && c
-and-assoc true b c = refl
-and-assoc false b c = refl
 
 pub turn-append : (kind n l : ℕ) (xs ys : List ℕ) → inTurn kind n l (xs ++ ys) ≡ inTurn kind n l xs && inTurn kind n (lastOf l xs) ys
 unfolding inTurn
 turn-append kind n l [] ys = refl
 turn-append kind n l (x ∷ xs) ys =
     ap (λ (b : Bool). positionFits kind n l x && b) (turn-append kind n x xs ys)
-    ∙ and-assoc (positionFits kind n l x) (inTurn kind n x xs) (inTurn kind n (lastOf x xs) ys)
+    ∙ sym (and-assoc (positionFits kind n l x) (inTurn kind n x xs) (inTurn kind n (lastOf x xs) ys))
 
-period-append : (p : Period) (xs ys : List Said) → periodIn p (xs ++ ys) ≡ periodIn (periodIn p xs) ys
+-- the period is the last that is said
+period-last : (p : Period) (ss : List Said) → periodIn p ss ≡ lastOf p (map (λ (s : Said). periodBy (interval (says (bytes (s .v))))) ss)
 unfolding periodIn
-period-append p [] ys = refl
-period-append p (x ∷ xs) ys = period-append _ xs ys
+period-last p [] = refl
+period-last p (s ∷ ss) = period-last _ ss
 
--- ---- elements
+own-last : {A B : Type 0} (say : A → B) (t : Bool) (s : A) (d : B) → cond t (say s) d ≡ lastOf d (map say (own t s))
+own-last say true s d = refl
+own-last say false s d = refl
 
--- all their rows have this, at any depth
-unfoldable pub Within : {A : Type 0} → (ℕ → Type 0) → Trees A → Type 0
-Within R none = Unit {0}
-Within R (element q s inner after) = R q × Within R inner × Within R after
-
-pub within-more : {A : Type 0} {R S : ℕ → Type 0} → ((q : ℕ) → R q → S q) → (c : Trees A) → Within R c → Within S c
-unfolding Within
-within-more f none h = tt
-within-more f (element q s inner after) h = (f q (h .0), within-more f inner (h .1), within-more f after (h .2))
-
--- elements side by side, and then others
-unfoldable pub beside : {A : Type 0} → Trees A → Trees A → Trees A
-beside none d = d
-beside (element q s inner after) d = element q s inner (beside after d)
-
-always : {A : Type 0} (c : Trees A) → Within (λ q. Unit {0}) c
-unfolding Within
-always none = tt
-always (element q s inner after) = (tt, always inner, always after)
+pub one-or-none : (t : Bool) (m : ℕ) → cond t (m + 1) m ≡ m + cond t 1 0
+one-or-none true m = refl
+one-or-none false m = sym (add-zero m)
 
 module _ (rows : List ℕ) where
   abbrev at : ℕ → ℕ
   at q = getD rows q 0
-
-  -- none of them passes the test
-  pub none-there : {A : Type 0} (test : ℕ → Bool) (c : Trees A) → Within (λ q. test (at q) ≡ false) c → those test rows c ≡ []
-  unfolding those Within
-  none-there test none h = refl
-  none-there test (element q s inner after) h = rw (h .0, none-there test inner (h .1), none-there test after (h .2)) refl
-
-  pub no-role : {A : Type 0} (n : ℕ) (c : Trees A) → Within (λ q. roleOf (at q) ≡ n → ⊥) c → those (hasRole n) rows c ≡ []
-  no-role n c h = none-there (hasRole n) c (within-more (λ q f. ne-eqb (roleOf (at q)) n f) c h)
-
-  pub those-beside : {A : Type 0} (test : ℕ → Bool) (c d : Trees A) → those test rows (beside c d) ≡ those test rows c ++ those test rows d
-  unfolding those beside
-  those-beside test none d = refl
-  those-beside test (element q s inner after) d =
-      let e = ap (λ l. those test rows inner ++ l) (those-beside test after d)
-      ∙ sym (append-assoc (those test rows inner) (those test rows after) (those test rows d)) in
-      ⊎-elim
-      (λ (y : test (at q) ≡ true). rw y (ap (λ l. s ∷ l) e))
-      (λ (y : test (at q) ≡ false). rw y e)
-      (bool-cases (test (at q)))
-
-  pub each-beside : {A : Type 0} (test : ℕ → A → Bool) (c d : Trees A) → Each test rows c → Each test rows d → Each test rows (beside c d)
-  unfolding Each beside
-  each-beside test none d a b = b
-  each-beside test (element q s inner after) d a b = (a .0, a .1, each-beside test after d (a .2) b)
-
-  pub each-parts : {A : Type 0} (test : ℕ → A → Bool) (c d : Trees A) → Each test rows (beside c d) → Each test rows c × Each test rows d
-  unfolding Each beside
-  each-parts test none d a = (tt, a)
-  each-parts test (element q s inner after) d a =
-      let h = each-parts test after d (a .2) in
-      ((a .0, a .1, h .0), h .1)
-
-  -- ---- the walk
-
-  pub walked-beside : (c d : Trees Said) (y : Tally) → walked rows (beside c d) y ≡ walked rows d (walked rows c y)
-  unfolding walked beside
-  walked-beside none d y = refl
-  walked-beside (element q s inner after) d y = walked-beside after d (walked rows inner (opened (at q) s y))
-
-  -- what no start tag changes
-  pub unchanged : {B : Type 0} (f : Tally → B) (R : ℕ → Type 0) → ((q : ℕ) (s : Said) (y : Tally) → R q → f (opened (at q) s y) ≡ f y)
-      → (c : Trees Said) → Within R c → (y : Tally) → f (walked rows c y) ≡ f y
-  unfolding walked Within
-  unchanged f R g none h y = refl
-  unchanged f R g (element q s inner after) h y =
-      unchanged f R g after (h .2) (walked rows inner (opened (at q) s y)) ∙ unchanged f R g inner (h .1) (opened (at q) s y) ∙ g q s y (h .0)
 
   -- what an invariant is: kept by every start tag
   pub invariant : (I : Tally → Type 0) (R : ℕ → Type 0) → ((q : ℕ) (s : Said) (y : Tally) → R q → I y → I (opened (at q) s y))
@@ -137,8 +54,13 @@ module _ (rows : List ℕ) where
   invariant I R g (element q s inner after) h y i =
       invariant I R g after (h .2) (walked rows inner (opened (at q) s y)) (invariant I R g inner (h .1) (opened (at q) s y) (g q s y (h .0) i))
 
+  -- what no start tag changes
+  pub unchanged : {B : Type 0} (f : Tally → B) (R : ℕ → Type 0) → ((q : ℕ) (s : Said) (y : Tally) → R q → f (opened (at q) s y) ≡ f y)
+      → (c : Trees Said) → Within R c → (y : Tally) → f (walked rows c y) ≡ f y
+  unchanged f R g c h y = invariant (λ z. f z ≡ f y) R (λ q s z r e. g q s z r ∙ e) c h y refl
+
   -- what the start tags of a role count
-  pub counted : (f : Tally → ℕ) (n : ℕ) (R : ℕ → Type 0)
+  counted : (f : Tally → ℕ) (n : ℕ) (R : ℕ → Type 0)
       → ((q : ℕ) (s : Said) (y : Tally) → R q → f (opened (at q) s y) ≡ cond (eqb (roleOf (at q)) n) (f y + 1) (f y))
       → (c : Trees Said) → Within R c → (y : Tally) → f (walked rows c y) ≡ f y + length (those (hasRole n) rows c)
   unfolding walked Within those
@@ -147,12 +69,27 @@ module _ (rows : List ℕ) where
       let y₁ = opened (at q) s y in
       let a = counted f n R g after (h .2) (walked rows inner y₁) in
       let b = counted f n R g inner (h .1) y₁ in
-      let e = g q s y (h .0) in
-      let l = length-append (those (hasRole n) rows inner) (those (hasRole n) rows after) in
-      ⊎-elim
-      (λ (z : eqb (roleOf (at q)) n ≡ true). let u : f y₁ ≡ f y + 1 = rw z at e in rw z (omega (arith, a, b, u, l)))
-      (λ (z : eqb (roleOf (at q)) n ≡ false). let u : f y₁ ≡ f y = rw z at e in rw z (omega (arith, a, b, u, l)))
-      (bool-cases (eqb (roleOf (at q)) n))
+      let e = g q s y (h .0) ∙ one-or-none (eqb (roleOf (at q)) n) (f y) in
+      let l = length-element rows n q s inner after in
+      omega (arith, a, b, e, l)
+
+  -- what the start tags that pass a test set
+  kept : {B : Type 0} (f : Tally → B) (say : Said → B) (test : ℕ → Bool) (R : ℕ → Type 0)
+      → ((q : ℕ) (s : Said) (y : Tally) → R q → f (opened (at q) s y) ≡ cond (test (at q)) (say s) (f y))
+      → (c : Trees Said) → Within R c → (y : Tally) → f (walked rows c y) ≡ lastOf (f y) (map say (those test rows c))
+  unfolding walked Within those
+  kept f say test R g none h y = refl
+  kept f say test R g (element q s inner after) h y =
+      let y₁ = opened (at q) s y in
+      let a = map say (own (test (at q)) s) in
+      let b = map say (those test rows inner) in
+      let c = map say (those test rows after) in
+      let e : f y₁ ≡ lastOf (f y) a = g q s y (h .0) ∙ own-last say (test (at q)) s (f y) in
+      kept f say test R g after (h .2) (walked rows inner y₁)
+      ∙ ap (λ l. lastOf l c) (kept f say test R g inner (h .1) y₁ ∙ ap (λ l. lastOf l b) e)
+      ∙ sym (last-append (lastOf (f y) a) b c)
+      ∙ sym (last-append (f y) a (b ++ c))
+      ∙ ap (lastOf (f y)) (sym (mapped-parts rows say test q s inner after))
 
   pub intervals-walked : (c : Trees Said) (y : Tally) → walked rows c y .intervals ≡ y .intervals + length (those (hasRole 4) rows c)
   intervals-walked c y = counted (λ z. z .intervals) 4 (λ q. Unit {0}) (λ q s z h. refl) c (always c) y
@@ -169,31 +106,9 @@ module _ (rows : List ℕ) where
 
   pub last-walked : (c : Trees Said) → Within (λ q. roleOf (at q) ≡ 3 → ⊥) c → (y : Tally)
       → walked rows c y .last ≡ lastOf (y .last) (map positionOf (those (hasRole 9) rows c))
-  unfolding walked Within those
-  last-walked none h y = refl
-  last-walked (element q s inner after) h y =
-      let y₁ = opened (at q) s y in
-      let i = those (hasRole 9) rows inner in
-      let j = those (hasRole 9) rows after in
-      let a = last-walked after (h .2) (walked rows inner y₁) ∙ ap (λ l. lastOf l (map positionOf j)) (last-walked inner (h .1) y₁)
-      ∙ sym (last-append (y₁ .last) (map positionOf i) (map positionOf j)) ∙ ap (lastOf (y₁ .last)) (sym (map-append positionOf i j)) in
-      let e : y₁ .last ≡ cond (eqb (roleOf (at q)) 9) (positionOf s) (y .last) = rw (ne-eqb (roleOf (at q)) 3 (h .0)) refl in
-      ⊎-elim
-      (λ (z : eqb (roleOf (at q)) 9 ≡ true).
-      a ∙ ap (λ l. lastOf l (map positionOf (i ++ j))) (e ∙ chosen (positionOf s) (y .last) z) ∙ ap (λ l. lastOf (y .last) (map positionOf l)) (sym (chosen (s ∷ (i ++ j)) (i ++ j) z)))
-      (λ (z : eqb (roleOf (at q)) 9 ≡ false).
-      a ∙ ap (λ l. lastOf l (map positionOf (i ++ j))) (e ∙ other (positionOf s) (y .last) z) ∙ ap (λ l. lastOf (y .last) (map positionOf l)) (sym (other (s ∷ (i ++ j)) (i ++ j) z)))
-      (bool-cases (eqb (roleOf (at q)) 9))
+  last-walked c h y = kept (λ z. z .last) positionOf (hasRole 9) (λ q. roleOf (at q) ≡ 3 → ⊥) (λ q s z f. rw (ne-eqb (roleOf (at q)) 3 f) refl) c h y
 
   pub period-walked : (c : Trees Said) (y : Tally) → walked rows c y .period ≡ periodIn (y .period) (those (hasForm 6) rows c)
-  unfolding walked those periodIn
-  period-walked none y = refl
-  period-walked (element q s inner after) y =
-      let y₁ = opened (at q) s y in
-      let i = those (hasForm 6) rows inner in
-      let j = those (hasForm 6) rows after in
-      let a = period-walked after (walked rows inner y₁) ∙ ap (λ p. periodIn p j) (period-walked inner y₁) ∙ sym (period-append (y₁ .period) i j) in
-      ⊎-elim
-      (λ (z : eqb (formOf (at q)) 6 ≡ true). a ∙ ap (λ p. periodIn p (i ++ j)) (chosen (periodBy (interval (says (bytes (s .v))))) (y .period) z) ∙ ap (periodIn (y .period)) (sym (chosen (s ∷ (i ++ j)) (i ++ j) z)))
-      (λ (z : eqb (formOf (at q)) 6 ≡ false). a ∙ ap (λ p. periodIn p (i ++ j)) (other (periodBy (interval (says (bytes (s .v))))) (y .period) z) ∙ ap (periodIn (y .period)) (sym (other (s ∷ (i ++ j)) (i ++ j) z)))
-      (bool-cases (eqb (formOf (at q)) 6))
+  period-walked c y =
+      kept (λ z. z .period) (λ s. periodBy (interval (says (bytes (s .v))))) (hasForm 6) (λ q. Unit {0}) (λ q s z h. refl) c (always c) y
+      ∙ sym (period-last (y .period) (those (hasForm 6) rows c))

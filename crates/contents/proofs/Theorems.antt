@@ -2,101 +2,47 @@
 -- Assumes nothing.
 use Prim.Native.Nat.{ℕ, _+_, _*_, _/_, _≤_, _<_}
 use mathlib.Core.Path.{_≡_, refl, sym, ap, subst, _∙_}
-use mathlib.Core.List.{List, [], _∷_, map, head-eq-of-cons-eq}
+use mathlib.Core.List.{List, _∷_, map}
 use mathlib.Core.Logic.{_⊎_, inl, inr, ⊎-elim}
-use mathlib.Core.Bool.{Bool, true, false, cond, _&&_}
+use mathlib.Core.Bool.{true, false}
 use native.Mathlib.Omega.{arith}
 use native.Mathlib.Nat.{zero-add}
-use lib.Dec.{leb, ltb}
+use lib.Dec.{leb}
 use lib.ListN.{length, getD, length-replicate}
 use lib.IntN.{pos}
 use borrow.Author.Tests.{le-ltb}
-use Rattle.lists.specs.Zeros.{zeros}
-use Rattle.lists.proofs.Cases.{leb-cases, eqb-cases, zero-not-one}
+use Rattle.lists.proofs.Cases.{leb-cases}
 use Rattle.slices.specs.Same.{same}
 use Rattle.elements.specs.Names.{names, numberIn, elementNo}
 use Rattle.structure.specs.Rows.{nameOf}
-use Rattle.tables.specs.Cells.{noAmounts}
-use Rattle.items.specs.declared.Item.{Item}
-use Rattle.items.specs.declared.Item.the-variants.{Start, Empty, End, Text, Comment, Refused}
 use Rattle.prolog.specs.Prolog.{begin}
 use Rattle.prolog.specs.declared.Begin.{Begin}
 use Rattle.prolog.specs.declared.Begin.the-variants.{From, Unreadable}
 use Rattle.guideline.specs.Rows.{beschaffungsanforderung, kostenblatt, rowsOf}
-use Rattle.states.specs.Attributes.{agree, asksV, there}
 use Rattle.states.specs.Moves.{begun}
-use Rattle.states.specs.declared.State.{State}
 use Rattle.states.specs.declared.Room.{Room}
 use Rattle.reader.specs.Items.{Placed, itemsFrom}
-use Rattle.reader.specs.Rows.{spanOf}
 use Rattle.reader.specs.Reading.{Tables, Out, blank, roomOf, roomIn, refusedAt, acceptedAt, readItems, itemsRead, readAfter, readInto, orBlank, readSheet}
 use Rattle.reader.specs.Answer.{Outcome, answerOf, told, noted, readOf}
 use Rattle.reader.proofs.Sheets.{into-items, sheet-taken, read-noted}
-use Rattle.trees.specs.Trees.{Sign, Opens, Trees, none, element, spell, Conforms}
+use Rattle.trees.specs.Trees.{Sign, Opens, Trees, spell, Conforms}
 use Rattle.trees.specs.Cursor.{rowAfter, openAfter}
 use Rattle.trees.proofs.Theorems.{one-tree}
-use Rattle.contents.specs.Said.{Said, given}
-use Rattle.contents.specs.Spelled.{valueIn, saidBy, signsOf, AllAllowed, Spells, Alike}
-use Rattle.contents.specs.Legal.{hasRole, those, Period, periodOf, quartersOf, attributesFit, elementFits, Each, identifications, Legal, HasRoom}
+use Rattle.contents.specs.Said.{Said}
+use Rattle.contents.specs.Spelled.{signsOf, Spells, Alike}
+use Rattle.contents.specs.Legal.{periodOf, quartersOf, Legal, HasRoom}
 use Rattle.contents.specs.Shown.{Shows, RowShows, Tells, SameButPlaces, view}
-use Rattle.contents.proofs.Laid.{Layout, layout-one, layout-two}
+use Rattle.contents.proofs.Laid.{Known, laid}
+use Rattle.contents.proofs.Shape.{document-shape}
 use Rattle.contents.proofs.Walk.{nothing, walked}
-use Rattle.contents.proofs.Fill.{saidByItem, saidOf, saying, stateOf, filled}
-use Rattle.contents.proofs.Tallies.{series-walked, intervals-walked, period-walked}
-use Rattle.contents.proofs.Segments.{and-true}
-use Rattle.contents.proofs.Splits.{document-shape}
-use Rattle.contents.proofs.Rules.{Rules, passes-rules, rules-passes}
-use Rattle.contents.proofs.Lifted.{Known, known-made, relabelled, signs-said, spell-said, conforms-said, lift}
+use Rattle.contents.proofs.Fill.{saying, stateOf, filled}
+use Rattle.contents.proofs.Lifted.{relabelled, signs-said, spell-said, conforms-said, lift}
+use Rattle.contents.proofs.Values.{each-given}
 use Rattle.contents.proofs.Bridge.{Read, forth, back}
-use Rattle.contents.proofs.Roles.{Given, Valued, valued-one, valued-two}
+use Rattle.contents.proofs.Tallies.{series-walked, intervals-walked, period-walked}
+use Rattle.contents.proofs.Rules.{Rules, passes-rules, rules-passes}
 use Rattle.contents.proofs.Shown.{shows}
 use Rattle.contents.proofs.Unused.{unused-apart, apart-unused}
-
--- ---- the kinds
-
-laid : (kind : ℕ) → Known kind → (p : ℕ) × Layout (rowsOf kind) p × Valued (rowsOf kind)
-laid kind (inl e) = (26, subst (λ (k : ℕ). Layout (rowsOf k) 26) (sym e) layout-one, subst (λ (k : ℕ). Valued (rowsOf k)) (sym e) valued-one)
-laid kind (inr e) = (28, subst (λ (k : ℕ). Layout (rowsOf k) 28) (sym e) layout-two, subst (λ (k : ℕ). Valued (rowsOf k)) (sym e) valued-two)
-
--- ---- where a value is asked for, it is there
-
-four-first : (a b c d : Bool) → a && b && c && d ≡ true → a ≡ true
-four-first true b c d e = refl
-four-first false b c d e = absurd (zero-not-one (cc))
-
-agreed : (g : Bool) → agree true g ≡ true → g ≡ true
-unfolding agree
-agreed g e = e
-
-asked-given : (w : ℕ) (s : Said) → attributesFit w s ≡ true → asksV w ≡ true → given (s .v) ≡ true
-unfolding attributesFit
-asked-given w s e a = agreed (given (s .v)) (ap (λ (b : Bool). agree b (given (s .v))) (sym a) ∙ four-first (agree (asksV w) (given (s .v))) _ _ _ e)
-
-given-there : (x : Item) (s : List ℕ) → given (saidByItem x s .v) ≡ true → there (spanOf x) ≡ true
-unfolding saidByItem saidBy valueIn given spanOf
-given-there (Start t) s e = by (there (t .v)) refl e
-  where
-    by : (b : Bool) → there (t .v) ≡ b → given (valueIn (t .v) s) ≡ true → there (t .v) ≡ true
-    by true q h = q
-    by false q h = let z : _≡_ {A = Bool} false true = rw q at h in absurd (zero-not-one (cc))
-given-there (Empty t) s e = by (there (t .v)) refl e
-  where
-    by : (b : Bool) → there (t .v) ≡ b → given (valueIn (t .v) s) ≡ true → there (t .v) ≡ true
-    by true q h = q
-    by false q h = let z : _≡_ {A = Bool} false true = rw q at h in absurd (zero-not-one (cc))
-given-there (End n e) s h = absurd (zero-not-one (cc))
-given-there (Text w e) s h = absurd (zero-not-one (cc))
-given-there (Comment e) s h = absurd (zero-not-one (cc))
-given-there (Refused p) s h = absurd (zero-not-one (cc))
-
-each-given : (kind : ℕ) (q : Period) (rows : List ℕ) (kids : Trees Placed) → Each (elementFits kind q) rows (saying kids) → Given rows kids
-unfolding Each Given saying elementFits
-each-given kind q rows none e = tt
-each-given kind q rows (element r x inner after) e = (
-  (λ a. given-there (x .item) (x .rest) (asked-given (getD rows r 0) (saidOf x) (and-true (attributesFit (getD rows r 0) (saidOf x)) _ (e .0) .0) a)),
-  each-given kind q rows inner (e .1),
-  each-given kind q rows after (e .2),
-)
 
 -- ---- the whole document around its items
 
@@ -161,7 +107,7 @@ module _ (doc : List ℕ) (ns np na nb : ℕ) (wide : 16 ≤ nb) (small : length
       let rows = rowsOf kind in
       let l = laid kind (r .known) in
       let conforms = conforms-said rows 0 kids (r .conforms) in
-      let k = passes-rules kind room rows (l .0) (l .1) (saying kids) conforms (r .passes) in
+      let k = passes-rules kind room rows (l .period) (l .layout) (saying kids) conforms (r .passes) in
       let m = room-cells ns np na _ _ (k .series-room) (k .intervals-room) in (
         kind,
         saying kids,
@@ -177,7 +123,7 @@ module _ (doc : List ℕ) (ns np na nb : ℕ) (wide : 16 ≤ nb) (small : length
           elements = k .elements;
           series = k .series;
           apart =
-              unused-apart kind rows (l .0) (l .1) (l .2) doc ns np na kids (r .conforms) (r .stands) (each-given kind _ rows kids (k .elements)) (m .0)
+              unused-apart kind rows (l .period) (l .layout) (l .valued) doc ns np na kids (r .conforms) (r .stands) (each-given kind _ rows kids (k .elements)) (m .0)
               (r .unused);
         },
         record { series = k .series-room; intervals = k .intervals-room },
@@ -217,7 +163,7 @@ module _ (doc : List ℕ) (ns np na nb : ℕ) (wide : 16 ≤ nb) (small : length
           quarters = ap (λ (o : Outcome). o .answer .quarters) e ∙ ap quartersOf (period-walked rows (saying kids) nothing);
           tables =
               subst (λ (t : Tables). Shows doc t rows (saying kids)) (sym (ap (λ (o : Outcome). o .tables) e))
-              (shows kind rows (l .0) (l .1) (l .2) doc ns np na kids (r .conforms) (r .stands) (each-given kind _ rows kids (rules .elements)) (m .0) (m .1) (m .2));
+              (shows kind rows (l .period) (l .layout) (l .valued) doc ns np na kids (r .conforms) (r .stands) (each-given kind _ rows kids (rules .elements)) (m .0) (m .1) (m .2));
         }
 
   pub legal-accepted : (kind : ℕ) (c : Trees Said) → Spells doc kind c → Legal kind c → HasRoom room kind c → Tells doc (readOf doc ns np na nb) kind c
@@ -240,9 +186,9 @@ module _ (doc : List ℕ) (ns np na nb : ℕ) (wide : 16 ≤ nb) (small : length
         tags = k .2;
         conforms = k .3;
         stands = k .4;
-        passes = rules-passes kind room rows (l .0) (l .1) (saying kids) conforms own;
+        passes = rules-passes kind room rows (l .period) (l .layout) (saying kids) conforms own;
         unused =
-            apart-unused kind rows (l .0) (l .1) (l .2) doc ns np na kids (k .3) (k .4) (each-given kind _ rows kids (own .elements)) (m .0)
+            apart-unused kind rows (l .period) (l .layout) (l .valued) doc ns np na kids (k .3) (k .4) (each-given kind _ rows kids (own .elements)) (m .0)
             (subst (λ d. Legal kind d) (sym e) g .apart);
       } in
       subst (Tells doc (readOf doc ns np na nb) kind) e (tells kind kids n (s .begins) r own)
@@ -259,7 +205,7 @@ first-tag : (kind : ℕ) → Known kind → (c : Trees Said) → Conforms (rowsO
 unfolding spell
 first-tag kind known c conforms =
     let l = laid kind known in
-    let d = document-shape (rowsOf kind) (l .0) (l .1) c conforms in
+    let d = document-shape (rowsOf kind) (l .period) (l .layout) c conforms in
     (d .tag, _, ap (spell (rowsOf kind)) (d .is))
 
 opened-name : (s u : Said) (n m : ℕ) (l k : List (Sign Said)) → Opens s n ∷ l ≡ Opens u m ∷ k → n ≡ m
@@ -289,7 +235,7 @@ one-content doc kind other c d s u g h =
     let e : spell (rowsOf kind) c ≡ spell (rowsOf other) d = sym (s .tags) ∙ ap (λ n. signsOf (itemsFrom doc n)) f ∙ u .tags in
     let k = same-kind kind other (g .known) (h .known) (same-names kind other (g .known) (h .known) c d (g .conforms) (h .conforms) e) in (
       k,
-      one-tree Said (rowsOf other) (known-made other (h .known)) c d (subst (λ (i : ℕ). Conforms (rowsOf i) 0 c) k (g .conforms)) (h .conforms)
+      one-tree Said (rowsOf other) (laid other (h .known) .layout .well) c d (subst (λ (i : ℕ). Conforms (rowsOf i) 0 c) k (g .conforms)) (h .conforms)
           (ap (λ (i : ℕ). spell (rowsOf i) c) (sym k) ∙ e),
     )
 

@@ -3,16 +3,14 @@
 use Prim.Native.Nat.{ℕ, zero, suc, _+_, _-_, _*_, _≤_, _<_}
 use mathlib.Core.Path.{_≡_, refl, sym, ap, subst, _∙_}
 use mathlib.Core.List.{List, [], _∷_, _++_, map}
-use mathlib.Core.Bool.{Bool, true, false, cond}
-use mathlib.Core.Logic.{_↔_, inl, inr, ⊎-elim}
+use mathlib.Core.Bool.{true, false, true≢false}
+use mathlib.Core.Logic.{_↔_, inl, ⊎-elim}
 use native.Mathlib.Omega.{arith}
 use lib.Dec.{eqb}
 use lib.ListN.{length, getD, length-replicate}
-use borrow.Author.Tests.{eq-eqb, ne-eqb}
-use Rattle.lists.proofs.Cases.{eqb-cases, past-cond, zero-not-one}
-use Rattle.lists.specs.Zeros.{zeros}
+use borrow.Author.Tests.{eq-eqb, ne-eqb, eqb-false}
+use Rattle.lists.proofs.Cases.{eqb-cases, past-cond}
 use Rattle.slices.specs.Same.{same}
-use Rattle.attributes.specs.Attribute.{partOf}
 use Rattle.tags.specs.declared.Span.{Span}
 use Rattle.guideline.specs.Columns.{roleOf}
 use Rattle.states.specs.Attributes.{there}
@@ -24,48 +22,17 @@ use Rattle.trees.specs.Trees.{Trees, none, element, rowsTaken, Stand, Fits, Eac
 use Rattle.contents.specs.Said.{Said}
 use Rattle.contents.specs.Legal.{hasRole, those, positionOf, All, isAmong, Apart, identifications}
 use Rattle.contents.specs.Shown.{view}
-use Rattle.contents.proofs.Laid.{Layout}
+use Rattle.contents.proofs.Lists.{zero-all, all-both, joined, all-change}
+use Rattle.contents.proofs.Laid.{Layout, Valued}
+use Rattle.contents.proofs.Elements.{own, mapped-parts}
+use Rattle.contents.proofs.Shape.{later, document-shape}
 use Rattle.contents.proofs.Walk.{Tally, nothing, opened, walked}
-use Rattle.contents.proofs.Fill.{saidOf, saying, entered, filled, Unused, Stands}
-use Rattle.contents.proofs.Shapes.{later, holds-root}
-use Rattle.contents.proofs.Views.{said-bytes}
-use Rattle.contents.proofs.Roles.{Role, is-series, is-interval, is-object, is-business, is-id, is-pos, is-qty, is-other, role-cases, own, mapped-parts, Given, Valued}
+use Rattle.contents.proofs.Fill.{saidOf, saying, tablesWith, filled, Unused, Stands}
+use Rattle.contents.proofs.Values.{said-bytes, HasValues}
+use Rattle.contents.proofs.Roles.{Role, is-series, is-interval, is-object, is-business, is-id, is-pos, is-qty, is-other, role-cases, by-entry}
 use Rattle.contents.proofs.Series.{valueBytes, step-effect, no-series, inside}
-use Rattle.contents.proofs.Rows.{tallyIn, tablesIn, tallyOut, tablesOut, opened-series, opened-before, opened-size, rowed, plain, once-in, seriesIn, more-series, those-plain, those-series}
-use Rattle.contents.proofs.Shown.{zero-all, those-root, root-role, root-tally, root-cells}
-
--- ---- lists of which each passes
-
-module _ {A : Type 0} where
-  all-join : (P : A → Type 0) (a b : List A) → All P a → All P b → All P (a ++ b)
-  unfolding All
-  all-join P [] b h k = k
-  all-join P (x ∷ a) b h k = (h .0, all-join P a b (h .1) k)
-
-  all-split : (P : A → Type 0) (a b : List A) → All P (a ++ b) → All P a × All P b
-  unfolding All
-  all-split P [] b h = (tt, h)
-  all-split P (x ∷ a) b h = let k = all-split P a b (h .1) in ((h .0, k .0), k .1)
-
-  all-both : (P Q R : A → Type 0) (l : List A) → ((a : A) → P a → Q a → R a) → All P l → All Q l → All R l
-  unfolding All
-  all-both P Q R [] f h k = tt
-  all-both P Q R (x ∷ l) f h k = (f x (h .0) (k .0), all-both P Q R l f (h .1) (k .1))
-
-  all-change : (P Q : A → Type 0) (l : List A) → ((a : A) → P a → Q a) → All P l → All Q l
-  all-change P Q l f h = all-both P P Q l (λ a u v. f a u) h h
-
--- two parts and what comes before them, each by a test of its own
-joined : {A S U Z : Type 0} (P Q R : A → Type 0) (a b c l : List A) → l ≡ a ++ (b ++ c) → S ↔ All P a → U ↔ All Q b → Z ↔ All R c
-    → ((z : A) → Q z ↔ P z) → ((z : A) → R z ↔ P z) → (S × U × Z) ↔ All P l
-joined P Q R a b c l e s u z f g = (
-  (λ h. subst (All P) (sym e)
-  (all-join P a (b ++ c) (s .0 (h .0)) (all-join P b c (all-change Q P b (λ i k. f i .0 k) (u .0 (h .1))) (all-change R P c (λ i k. g i .0 k) (z .0 (h .2)))))),
-  (λ h.
-  let k = all-split P a (b ++ c) (subst (All P) e h) in
-  let m = all-split P b c (k .1) in
-  (s .1 (k .0), u .1 (all-change P Q b (λ i k. f i .1 k) (m .0)), z .1 (all-change P R c (λ i k. g i .1 k) (m .1)))),
-)
+use Rattle.contents.proofs.Rows.{tallyIn, tablesIn, tallyOut, tablesOut, opened-series, opened-before, opened-size, rowed, untouched, once-in, more-series, those-plain, those-after}
+use Rattle.contents.proofs.Shown.{root-those, root-role, root-tally, root-cells}
 
 -- ---- no two are the same
 
@@ -80,12 +47,9 @@ same-both [] (b ∷ y) = refl
 same-both (a ∷ x) [] = refl
 same-both (a ∷ x) (b ∷ y) = rw (eqb-both a b, same-both x y)
 
-true-not-false : true ≡ false → ⊥
-true-not-false e = zero-not-one (cc)
-
 among-none : (z x : List ℕ) (l : List (List ℕ)) → isAmong z (x ∷ l) ≡ false → (same z x ≡ false) × (isAmong z l ≡ false)
 unfolding isAmong
-among-none z x l h = past-cond (same z x) true-not-false h
+among-none z x l h = past-cond (same z x) true≢false h
 
 among-made : (z x : List ℕ) (l : List (List ℕ)) → same z x ≡ false → isAmong z l ≡ false → isAmong z (x ∷ l) ≡ false
 unfolding isAmong
@@ -102,26 +66,25 @@ same-none x [] h = tt
 same-none x (z ∷ l) h = let k = among-none x z l h in (same-both z x ∙ k .0, same-none x l (k .1))
 
 -- each is not among those before it
-abbrev pub Fresh : List (List ℕ) → List (List ℕ) → Type 0
-Fresh past [] = Unit {0}
-Fresh past (x ∷ xs) = (isAmong x past ≡ false) × Fresh (x ∷ past) xs
+abbrev NoneBefore : List (List ℕ) → List (List ℕ) → Type 0
+NoneBefore past [] = Unit {0}
+NoneBefore past (x ∷ xs) = (isAmong x past ≡ false) × NoneBefore (x ∷ past) xs
 
-fresh-apart : (ids past : List (List ℕ)) → Fresh past ids → Apart ids × All (λ x. isAmong x past ≡ false) ids
+before-apart : (ids past : List (List ℕ)) → NoneBefore past ids → Apart ids × All (λ x. isAmong x past ≡ false) ids
 unfolding Apart All
-fresh-apart [] past h = (tt, tt)
-fresh-apart (x ∷ xs) past h =
-    let k = fresh-apart xs (x ∷ past) (h .1) in
-    (
+before-apart [] past h = (tt, tt)
+before-apart (x ∷ xs) past h =
+    let k = before-apart xs (x ∷ past) (h .1) in (
       (none-same x xs (all-change (λ z. isAmong z (x ∷ past) ≡ false) (λ z. same z x ≡ false) xs (λ z e. among-none z x past e .0) (k .1)), k .0),
       (h .0, all-change (λ z. isAmong z (x ∷ past) ≡ false) (λ z. isAmong z past ≡ false) xs (λ z e. among-none z x past e .1) (k .1)),
     )
 
-apart-fresh : (ids past : List (List ℕ)) → Apart ids → All (λ x. isAmong x past ≡ false) ids → Fresh past ids
+apart-before : (ids past : List (List ℕ)) → Apart ids → All (λ x. isAmong x past ≡ false) ids → NoneBefore past ids
 unfolding Apart All
-apart-fresh [] past h k = tt
-apart-fresh (x ∷ xs) past h k = (
+apart-before [] past h k = tt
+apart-before (x ∷ xs) past h k = (
   k .0,
-  apart-fresh xs (x ∷ past) (h .1)
+  apart-before xs (x ∷ past) (h .1)
       (all-both (λ z. same z x ≡ false) (λ z. isAmong z past ≡ false) (λ z. isAmong z (x ∷ past) ≡ false) xs (λ z a b. among-made z x past a b)
       (same-none x xs (h .0)) (k .1)),
 )
@@ -140,7 +103,7 @@ module _ (doc : List ℕ) where
   used-kept t u (suc n) id k = rw (used-kept t u n id (λ j l. k j (omega (arith, l))), k (8 * n) (omega arith), k (8 * n + 1) (omega arith))
 
   -- the first n rows show these
-  abbrev pub Knows : List ℕ → ℕ → List (List ℕ) → Type 0
+  abbrev Knows : List ℕ → ℕ → List (List ℕ) → Type 0
   Knows t n past = (id : List ℕ) → used doc t n id ≡ isAmong id past
 
   knows-on : (t u : List ℕ) (n : ℕ) (past : List (List ℕ)) (x : List ℕ) → ((j : ℕ) → j < 8 * n → getD u j 0 ≡ getD t j 0) → view doc u (8 * n) ≡ x
@@ -149,16 +112,11 @@ module _ (doc : List ℕ) where
   knows-on t u n past x k e h id = rw (e, used-kept t u n id k ∙ h id, same-both x id)
 
   -- an element that brings no identification
-  not-used : (r n : ℕ) (t : List ℕ) (v : Span) (s : List ℕ) (m : ℕ) → Role r → eqb r 8 ≡ false → usedBefore doc t v s m (entryOf r n) ≡ false
-  unfolding usedBefore entryOf
-  not-used r n t v s m (is-series e) k = rw e
-  not-used r n t v s m (is-interval e) k = rw e
-  not-used r n t v s m (is-object e) k = rw e
-  not-used r n t v s m (is-business e) k = rw e
-  not-used r n t v s m (is-id e) k = let z : true ≡ false = rw e at k in absurd (true-not-false z)
-  not-used r n t v s m (is-pos e) k = rw e
-  not-used r n t v s m (is-qty e) k = rw e
-  not-used r n t v s m (is-other a b c d e f g) k = simp (a, b, c, d, e, f, g)
+  not-used : (r n : ℕ) (t : List ℕ) (v : Span) (s : List ℕ) (m : ℕ) → eqb r 8 ≡ false → usedBefore doc t v s m (entryOf r n) ≡ false
+  unfolding usedBefore
+  not-used r n t v s m k =
+      by-entry (λ e. usedBefore doc t v s m e ≡ false) r n refl (λ e. refl) (λ e. refl) (λ e. refl) (λ e. refl) (λ e. absurd (eqb-false r 8 k e)) (λ e. refl)
+      (λ e. refl)
 
   abbrev NotUsed : List ℕ → ℕ → List ℕ → Type 0
   NotUsed t i id = used doc t i id ≡ false
@@ -182,20 +140,20 @@ ids-parts : (rows : List ℕ) (q : ℕ) (x : Placed) (inner after : Trees Placed
     → identifications rows (saying (element q x inner after))
     ≡ map valueBytes (own (hasRole 8 (getD rows q 0)) (saidOf x)) ++ (identifications rows (saying inner) ++ identifications rows (saying after))
 unfolding identifications saying
-ids-parts rows q x inner after = mapped-parts valueBytes (hasRole 8) rows q (saidOf x) (saying inner) (saying after)
+ids-parts rows q x inner after = mapped-parts rows valueBytes (hasRole 8) q (saidOf x) (saying inner) (saying after)
 
 module _ (kind : ℕ) (rows : List ℕ) (p : ℕ) (L : Layout rows p) (W : Valued rows) (doc : List ℕ) where
   -- ---- in a series
 
   inside-unused : (kids : Trees Placed) (h i : ℕ) (y : Tally) (t : Tables) → 12 ≤ h → h < length rows → Stand rows h (rowsTaken kids) → EachConforms rows kids
-      → Stands doc kids → Given rows kids → y .series ≡ suc i → 8 * i + 8 ≤ length (t .series)
+      → Stands doc kids → HasValues rows kids → y .series ≡ suc i → 8 * i + 8 ≤ length (t .series)
       → Unused doc kind rows kids y t ↔ All (NotUsed doc (t .series) i) (identifications rows (saying kids))
-  unfolding Unused rowsTaken Stand EachConforms Stands Given saying identifications those All tablesAfter
+  unfolding Unused rowsTaken Stand EachConforms Stands HasValues saying identifications those All tablesAfter
   inside-unused none h i y t a l s c d g e m = ((λ u. tt), (λ u. tt))
   inside-unused (element q x inner after) h i y t a l s c d g e m =
       let w = getD rows q 0 in
       let y₁ = opened w (saidOf x) y in
-      let t₁ = entered kind rows q x y₁ t in
+      let t₁ = tablesWith kind rows q x y₁ t in
       let y₂ = walked rows (saying inner) y₁ in
       let t₂ = filled kind rows inner y₁ t₁ in
       let b = later rows p L h q l (s .0) (s .1) in
@@ -220,9 +178,9 @@ module _ (kind : ℕ) (rows : List ℕ) (p : ℕ) (L : Layout rows p) (W : Value
       (λ z. ((λ u. sym (keep₂ z ∙ keep z) ∙ u), (λ u. keep₂ z ∙ keep z ∙ u)))
 
   within-unused : (q : ℕ) (x : Placed) (inner : Trees Placed) (y : Tally) (t : Tables) (past : List (List ℕ)) (id : Said) → q ≡ 12 → q < length rows
-      → Fits rows q (rowsTaken inner) → EachConforms rows inner → Stands doc inner → Given rows inner → 8 * (y .series + 1) ≤ length (t .series)
+      → Fits rows q (rowsTaken inner) → EachConforms rows inner → Stands doc inner → HasValues rows inner → 8 * (y .series + 1) ≤ length (t .series)
       → those (hasRole 8) rows (saying inner) ≡ id ∷ [] → Knows doc (t .series) (y .series) past
-      → Unused doc kind rows inner (opened (getD rows q 0) (saidOf x) y) (entered kind rows q x (opened (getD rows q 0) (saidOf x) y) t) ↔ (isAmong (valueBytes id) past ≡ false)
+      → Unused doc kind rows inner (opened (getD rows q 0) (saidOf x) y) (tablesWith kind rows q x (opened (getD rows q 0) (saidOf x) y) t) ↔ (isAmong (valueBytes id) past ≡ false)
   unfolding identifications All
   within-unused q x inner y t past id e l f c d g room o k =
       let y₁ = tallyIn kind rows p L W doc q x y in
@@ -244,40 +202,40 @@ module _ (kind : ℕ) (rows : List ℕ) (p : ℕ) (L : Layout rows p) (W : Value
       → usedBefore doc t (spanOf (x .item)) (x .rest) (opened (getD rows q 0) (saidOf x) y .series) (entryOf (roleOf (getD rows q 0)) (positionOf (saidOf x))) ≡ false
   step-none q x y t n =
       let r = roleOf (getD rows q 0) in
-      not-used doc r (positionOf (saidOf x)) t (spanOf (x .item)) (x .rest) (opened (getD rows q 0) (saidOf x) y .series) (role-cases r) n
+      not-used doc r (positionOf (saidOf x)) t (spanOf (x .item)) (x .rest) (opened (getD rows q 0) (saidOf x) y .series) n
 
   plain-unused : (q : ℕ) (x : Placed) (inner after : Trees Placed) (y : Tally) (t : Tables) (past : List (List ℕ)) → inner ≡ none → eqb (roleOf (getD rows q 0)) 8 ≡ false
-      → Unused doc kind rows after (opened (getD rows q 0) (saidOf x) y) (entered kind rows q x (opened (getD rows q 0) (saidOf x) y) t)
-      ↔ Fresh past (identifications rows (saying after))
-      → Unused doc kind rows (element q x inner after) y t ↔ Fresh past (identifications rows (saying (element q x inner after)))
+      → Unused doc kind rows after (opened (getD rows q 0) (saidOf x) y) (tablesWith kind rows q x (opened (getD rows q 0) (saidOf x) y) t)
+      ↔ NoneBefore past (identifications rows (saying after))
+      → Unused doc kind rows (element q x inner after) y t ↔ NoneBefore past (identifications rows (saying (element q x inner after)))
   unfolding Unused walked filled saying identifications
   plain-unused q x inner after y t past e n h =
-      let l = ap (map valueBytes) (those-plain kind rows p L W doc 8 q x inner after e n) in
+      let l = ap (map valueBytes) (those-plain rows 8 q x inner after e n) in
       let none-used = step-none q x y (t .series) n in (
-        (λ u. subst (Fresh past) l (h .0 (rw e at (u .2)))),
-        (λ u. (none-used, rw e tt, rw e (h .1 (subst (Fresh past) (sym l) u)))),
+        (λ u. subst (NoneBefore past) l (h .0 (rw e at (u .2)))),
+        (λ u. (none-used, rw e tt, rw e (h .1 (subst (NoneBefore past) (sym l) u)))),
       )
 
   series-unused : (q : ℕ) (x : Placed) (inner after : Trees Placed) (y : Tally) (t : Tables) (past : List (List ℕ)) (id : Said) → eqb (roleOf (getD rows q 0)) 8 ≡ false
       → those (hasRole 8) rows (saying inner) ≡ id ∷ []
-      → Unused doc kind rows inner (opened (getD rows q 0) (saidOf x) y) (entered kind rows q x (opened (getD rows q 0) (saidOf x) y) t) ↔ (isAmong (valueBytes id) past ≡ false)
+      → Unused doc kind rows inner (opened (getD rows q 0) (saidOf x) y) (tablesWith kind rows q x (opened (getD rows q 0) (saidOf x) y) t) ↔ (isAmong (valueBytes id) past ≡ false)
       → Unused doc kind rows after (walked rows (saying inner) (opened (getD rows q 0) (saidOf x) y))
-      (filled kind rows inner (opened (getD rows q 0) (saidOf x) y) (entered kind rows q x (opened (getD rows q 0) (saidOf x) y) t))
-      ↔ Fresh (valueBytes id ∷ past) (identifications rows (saying after))
-      → Unused doc kind rows (element q x inner after) y t ↔ Fresh past (identifications rows (saying (element q x inner after)))
+      (filled kind rows inner (opened (getD rows q 0) (saidOf x) y) (tablesWith kind rows q x (opened (getD rows q 0) (saidOf x) y) t))
+      ↔ NoneBefore (valueBytes id ∷ past) (identifications rows (saying after))
+      → Unused doc kind rows (element q x inner after) y t ↔ NoneBefore past (identifications rows (saying (element q x inner after)))
   unfolding Unused saying identifications
   series-unused q x inner after y t past id n e h k =
-      let l = ap (map valueBytes) (those-series kind rows p L W doc 8 q x inner after id n e) in
+      let l = ap (map valueBytes) (those-after rows 8 q x inner after n e) in
       let none-used = step-none q x y (t .series) n in (
-        (λ u. subst (Fresh past) l (h .0 (u .1), k .0 (u .2))),
-        (λ u. let v : Fresh past (valueBytes id ∷ identifications rows (saying after)) = subst (Fresh past) (sym l) u in (none-used, h .1 (v .0), k .1 (v .1))),
+        (λ u. subst (NoneBefore past) l (h .0 (u .1), k .0 (u .2))),
+        (λ u. let v : NoneBefore past (valueBytes id ∷ identifications rows (saying after)) = subst (NoneBefore past) (sym l) u in (none-used, h .1 (v .0), k .1 (v .1))),
       )
 
-  beside-unused : (kids : Trees Placed) (y : Tally) (t : Tables) (past : List (List ℕ)) → Stand rows 1 (rowsTaken kids) → EachConforms rows kids → Stands doc kids → Given rows kids
+  beside-unused : (kids : Trees Placed) (y : Tally) (t : Tables) (past : List (List ℕ)) → Stand rows 1 (rowsTaken kids) → EachConforms rows kids → Stands doc kids → HasValues rows kids
       → 8 * (y .series + length (those (hasRole 2) rows (saying kids))) ≤ length (t .series) → ((j : ℕ) → 8 * y .series ≤ j → getD (t .series) j 0 ≡ 0)
       → Knows doc (t .series) (y .series) past
-      → Unused doc kind rows kids y t ↔ Fresh past (identifications rows (saying kids))
-  unfolding Unused rowsTaken Stand EachConforms Stands Given saying identifications those
+      → Unused doc kind rows kids y t ↔ NoneBefore past (identifications rows (saying kids))
+  unfolding Unused rowsTaken Stand EachConforms Stands HasValues saying identifications those
   beside-unused none y t past s c d g room blank k = ((λ u. tt), (λ u. tt))
   beside-unused (element q x inner after) y t past s c d g room blank k =
       ⊎-elim
@@ -305,8 +263,8 @@ module _ (kind : ℕ) (rows : List ℕ) (p : ℕ) (L : Layout rows p) (W : Value
       (λ e.
       let y₁ = tallyIn kind rows p L W doc q x y in
       let t₁ = tablesIn kind rows p L W doc q x y t in
-      let b = plain kind rows p L W doc q x inner y t (e .0) (s .0) (s .1) (c .0 .stand) in
-      let more = ap length (those-plain kind rows p L W doc 2 q x inner after (b .bare) (b .not-two)) in
+      let b = untouched kind rows p L W doc q x inner y t (e .0) (s .0) (s .1) (c .0 .stand) in
+      let more = ap length (those-plain rows 2 q x inner after (b .bare) (b .not-two)) in
       let u = b .series in
       let v = ap length (b .cells) in
       plain-unused q x inner after y t past (b .bare) (b .not-eight)
@@ -317,36 +275,36 @@ module _ (kind : ℕ) (rows : List ℕ) (p : ℕ) (L : Layout rows p) (W : Value
 
 module _ (kind : ℕ) (rows : List ℕ) (p : ℕ) (L : Layout rows p) (W : Valued rows) (doc : List ℕ) (ns np na : ℕ) where
   root-unused : (x : Placed) (inner : Trees Placed) → Conforms rows 0 (element 1 x inner none) → Stands doc (element 1 x inner none)
-      → Given rows (element 1 x inner none) → 8 * length (those (hasRole 2) rows (saying (element 1 x inner none))) ≤ ns
-      → Unused doc kind rows (element 1 x inner none) nothing (blank ns np na) ↔ Fresh [] (identifications rows (saying (element 1 x inner none)))
-  unfolding EachConforms Stands Given Unused identifications used isAmong
+      → HasValues rows (element 1 x inner none) → 8 * length (those (hasRole 2) rows (saying (element 1 x inner none))) ≤ ns
+      → Unused doc kind rows (element 1 x inner none) nothing (blank ns np na) ↔ NoneBefore [] (identifications rows (saying (element 1 x inner none)))
+  unfolding EachConforms Stands HasValues Unused identifications used isAmong
   root-unused x inner c d g room =
       let y = opened (getD rows 1 0) (saidOf x) nothing in
-      let t = entered kind rows 1 x y (blank ns np na) in
+      let t = tablesWith kind rows 1 x y (blank ns np na) in
       let a₀ = root-tally kind rows p L W doc ns np na x .0 in
       let z = root-cells kind rows p L W doc ns np na x in
-      let m = ap length (those-root kind rows p L W doc ns np na 2 x inner (root-role kind rows p L W doc ns np na 2 refl)) in
+      let m = ap length (root-those kind rows p L W doc ns np na 2 x inner refl) in
       let len : length (t .series) ≡ ns = ap length z ∙ length-replicate ns 0 in
-      let l = ap (map valueBytes) (those-root kind rows p L W doc ns np na 8 x inner (root-role kind rows p L W doc ns np na 8 refl)) in
+      let l = ap (map valueBytes) (root-those kind rows p L W doc ns np na 8 x inner refl) in
       let none-used = step-none kind rows p L W doc 1 x nothing (blank ns np na .series) (root-role kind rows p L W doc ns np na 8 refl) in
       let h = beside-unused kind rows p L W doc inner y t [] (c .each .0 .stand) (c .each .1) (d .2) (g .1) (omega (arith, m, room, len, a₀))
       (λ j b. ap (λ (k : List ℕ). getD k j 0) z ∙ zero-all 0 ns j)
       (λ i. ap (λ (k : ℕ). used doc (t .series) k i) a₀) in (
-        (λ u. subst (Fresh []) l (h .0 (u .1))),
-        (λ u. (none-used, h .1 (subst (Fresh []) (sym l) u), tt)),
+        (λ u. subst (NoneBefore []) l (h .0 (u .1))),
+        (λ u. (none-used, h .1 (subst (NoneBefore []) (sym l) u), tt)),
       )
 
-  all-unused : (kids : Trees Placed) → Conforms rows 0 kids → Stands doc kids → Given rows kids → 8 * length (those (hasRole 2) rows (saying kids)) ≤ ns
-      → Unused doc kind rows kids nothing (blank ns np na) ↔ Fresh [] (identifications rows (saying kids))
+  all-unused : (kids : Trees Placed) → Conforms rows 0 kids → Stands doc kids → HasValues rows kids → 8 * length (those (hasRole 2) rows (saying kids)) ≤ ns
+      → Unused doc kind rows kids nothing (blank ns np na) ↔ NoneBefore [] (identifications rows (saying kids))
   all-unused kids c d g room =
-      let h = holds-root rows p L kids c in
-      rw (h .2) (root-unused (h .0) (h .1) (rw (h .2) at c) (rw (h .2) at d) (rw (h .2) at g) (rw (h .2) at room))
+      let h = document-shape rows p L kids c in
+      rw (h .is) (root-unused (h .tag) (h .inner) (rw (h .is) at c) (rw (h .is) at d) (rw (h .is) at g) (rw (h .is) at room))
 
-  pub unused-apart : (kids : Trees Placed) → Conforms rows 0 kids → Stands doc kids → Given rows kids → 8 * length (those (hasRole 2) rows (saying kids)) ≤ ns
+  pub unused-apart : (kids : Trees Placed) → Conforms rows 0 kids → Stands doc kids → HasValues rows kids → 8 * length (those (hasRole 2) rows (saying kids)) ≤ ns
       → Unused doc kind rows kids nothing (blank ns np na) → Apart (identifications rows (saying kids))
-  unused-apart kids c d g room u = fresh-apart (identifications rows (saying kids)) [] (all-unused kids c d g room .0 u) .0
+  unused-apart kids c d g room u = before-apart (identifications rows (saying kids)) [] (all-unused kids c d g room .0 u) .0
 
-  pub apart-unused : (kids : Trees Placed) → Conforms rows 0 kids → Stands doc kids → Given rows kids → 8 * length (those (hasRole 2) rows (saying kids)) ≤ ns
+  pub apart-unused : (kids : Trees Placed) → Conforms rows 0 kids → Stands doc kids → HasValues rows kids → 8 * length (those (hasRole 2) rows (saying kids)) ≤ ns
       → Apart (identifications rows (saying kids)) → Unused doc kind rows kids nothing (blank ns np na)
   apart-unused kids c d g room a =
-      all-unused kids c d g room .1 (apart-fresh (identifications rows (saying kids)) [] a (none-past (identifications rows (saying kids))))
+      all-unused kids c d g room .1 (apart-before (identifications rows (saying kids)) [] a (none-past (identifications rows (saying kids))))

@@ -4,26 +4,22 @@ use Prim.Native.Nat.{ℕ, zero, suc, _+_, _≤_, _<_}
 use mathlib.Core.Path.{_≡_, refl, sym, ap, _∙_}
 use mathlib.Core.List.{List, [], _∷_}
 use mathlib.Core.Bool.{Bool, true, false, cond}
-use mathlib.Core.Logic.{⊎-elim}
 use native.Mathlib.Omega.{arith}
-use lib.ListN.{length, getD, take, drop, set, length-set, length-take}
+use lib.ListN.{length, getD, take, drop, set, length-set}
 use lib.Seq.{getD-set-same, getD-set-other, take-take, drop-drop}
-use Rattle.lists.proofs.Cases.{bool-cases, zero-not-one}
 use Rattle.slices.specs.Run.{run}
 use Rattle.attributes.specs.Attribute.{partOf}
 use Rattle.trims.specs.Trim.{space, dropped}
 use Rattle.trims.proofs.Trails.{part-place}
 use Rattle.tags.specs.declared.Span.{Span}
-use Rattle.items.specs.declared.Item.{Item}
-use Rattle.items.specs.declared.Item.the-variants.{Start, Empty, End, Text, Comment, Refused}
 use Rattle.states.specs.Attributes.{there}
 use Rattle.reader.specs.Items.{Placed}
 use Rattle.reader.specs.Rows.{spanOf, quoted, withView}
 use Rattle.reader.proofs.Spans.{dropped-in, quoted-le}
 use Rattle.contents.specs.Said.{bytes}
-use Rattle.contents.specs.Spelled.{valueIn, saidBy}
 use Rattle.contents.specs.Shown.{view}
-use Rattle.contents.proofs.Fill.{saidByItem, saidOf}
+use Rattle.contents.proofs.Fill.{saidOf}
+use Rattle.contents.proofs.Values.{as-quoted, said-bytes}
 
 -- ---- parts
 
@@ -53,32 +49,6 @@ trimmed-part v s =
     ap (take (length (dropped q))) (sym (drop-drop (run space q) (v .start) s))
     ∙ sym (front-part (length (dropped q)) (run space q) (v .len) (drop (v .start) s) h)
     ∙ part-place q
-
--- ---- what an item says
-
-as-quoted : (v : Span) (s : List ℕ) → partOf s (v .start) (v .len) ≡ quoted v s
-unfolding quoted
-as-quoted v s = refl
-
-not-there : there (record { start = 0; len = 0 }) ≡ true → ⊥
-unfolding there
-not-there e = zero-not-one (cc)
-
-value-bytes : (v : Span) (s : List ℕ) → there v ≡ true → bytes (valueIn v s) ≡ quoted v s
-unfolding valueIn bytes quoted
-value-bytes v s e = rw e
-
-item-bytes : (i : Item) (s : List ℕ) → there (spanOf i) ≡ true → bytes (saidByItem i s .v) ≡ quoted (spanOf i) s
-unfolding spanOf saidByItem saidBy
-item-bytes (Start t) s e = value-bytes (t .v) s e
-item-bytes (Empty t) s e = value-bytes (t .v) s e
-item-bytes (End n f) s e = absurd (not-there e)
-item-bytes (Text w f) s e = absurd (not-there e)
-item-bytes (Comment f) s e = absurd (not-there e)
-item-bytes (Refused q) s e = absurd (not-there e)
-
-pub said-bytes : (x : Placed) → there (spanOf (x .item)) ≡ true → bytes (saidOf x .v) ≡ quoted (spanOf (x .item)) (x .rest)
-said-bytes x e = item-bytes (x .item) (x .rest) e
 
 -- ---- what two cells tell
 

@@ -1,18 +1,18 @@
 -- A walk over a content, from its first tag to its last: what the reading state holds along it, and what each tag has to pass. Between the reader, which
--- keeps a state, and the rules of specs/Legal.antt, which have none.
-use Prim.Native.Nat.{ℕ, _+_, _-_, _≤_, _<_}
+-- keeps a state, and the rules of specs/Legal.antt, which have none. Assumes nothing.
+use Prim.Native.Nat.{ℕ, _+_, _-_, _<_}
 use mathlib.Core.Path.{_≡_}
-use mathlib.Core.List.{List, [], _∷_}
+use mathlib.Core.List.{List}
 use mathlib.Core.Logic.{_⊎_}
-use mathlib.Core.Bool.{Bool, true, cond}
-use lib.ListN.{length, getD}
+use mathlib.Core.Bool.{true, cond}
+use lib.ListN.{getD}
 use lib.Dec.{eqb}
 use Rattle.times.specs.Periods.{quarterHours}
 use Rattle.times.specs.Times.{interval}
 use Rattle.characters.specs.Says.{says}
 use Rattle.rules.specs.Rules.{positionFits}
 use Rattle.guideline.specs.Columns.{formOf, roleOf}
-use Rattle.guideline.specs.Kinds.{takesAnother, hasEnough}
+use Rattle.guideline.specs.Kinds.{takesAnother}
 use Rattle.states.specs.Moves.{countRefusal}
 use Rattle.states.specs.declared.Room.{Room}
 use Rattle.trees.specs.Trees.{Trees, none, element}

@@ -1,0 +1,390 @@
+-- The shape of a content that conforms: which row stands in which; one root, in it values and then series, in a series values and then one Period; an
+-- Interval with its Pos and Qty; and what comes once. Assumes nothing.
+use Prim.Native.Nat.{ℕ, _+_, _≤_, _<_}
+use mathlib.Core.Path.{_≡_, refl, sym, ap, subst, _∙_}
+use mathlib.Core.List.{List, [], _∷_}
+use mathlib.Core.Bool.{Bool, true, false, cond}
+use mathlib.Core.Logic.{⊎-elim}
+use native.Mathlib.Omega.{arith}
+use lib.Dec.{eqb}
+use lib.ListN.{length, getD}
+use borrow.Author.Tests.{eq-eqb, ne-eqb, le-leb, lt-leb}
+use Rattle.lists.proofs.Cases.{eqb-cases, leb-cases, ltb-cases, zero-not-one, up}
+use Rattle.structure.specs.Rows.{parentOf, repeated}
+use Rattle.guideline.specs.Columns.{roleOf}
+use Rattle.trees.specs.Trees.{Trees, none, element, rowsTaken, Stand, ComesAfter, InOrder, Among, Fits, EachConforms, Conforms}
+use Rattle.trees.proofs.Made.{made, child-after}
+use Rattle.contents.specs.Legal.{hasRole, those}
+use Rattle.contents.proofs.Laid.{home, Layout}
+use Rattle.contents.proofs.Elements.{Within, within-more, beside, those-of, no-role}
+
+-- where row q stands: in row h
+data Place (p h q : ℕ) : Type 0 where
+  in-document : h ≡ 0 → q ≡ 1 → Place p h q
+  in-root : h ≡ 1 → 1 < q → q ≤ 12 → Place p h q
+  in-series : h ≡ 12 → 12 < q → q ≤ p → Place p h q
+  in-period : h ≡ p → p < q → q ≤ p + 3 → Place p h q
+  in-interval : h ≡ p + 3 → p + 3 < q → Place p h q
+
+home-place : (p q : ℕ) → 0 < q → Place p (home p q) q
+home-place p q a =
+    ⊎-elim
+    (λ y. rw (y .1) (in-document refl (omega (arith, y .0, a))))
+    (λ y. rw (y .1)
+    (⊎-elim
+    (λ z. rw (z .1) (in-root refl (y .0) (z .0)))
+    (λ z. rw (z .1)
+    (⊎-elim
+    (λ u. rw (u .1) (in-series refl (z .0) (u .0)))
+    (λ u. rw (u .1)
+    (⊎-elim (λ v. rw (v .1) (in-period refl (u .0) (v .0))) (λ v. rw (v .1) (in-interval refl (v .0))) (leb-cases q (p + 3))))
+    (leb-cases q p)))
+    (leb-cases q 12)))
+    (leb-cases q 1)
+
+element-is : {A : Type 0} {q k : ℕ} {tag : A} {inner other after : Trees A} → q ≡ k → inner ≡ other → after ≡ none
+    → element q tag inner after ≡ element k tag other none
+element-is e f g = cc
+
+module _ (rows : List ℕ) (p : ℕ) (L : Layout rows p) where
+  -- ---- which row stands in which
+
+  -- what stands in a row comes after it
+  pub later : (h q : ℕ) → h < length rows → q < length rows → parentOf (getD rows q 0) ≡ h → h < q
+  later h q a b e = child-after rows (made rows (L .well)) h q a b e
+
+  place : (h q : ℕ) → h < length rows → q < length rows → parentOf (getD rows q 0) ≡ h → Place p h q
+  place h q a b e =
+      let l : 0 < q = omega (arith, later h q a b e) in
+      subst (λ (i : ℕ). Place p i q) (sym (L .stands q l b) ∙ e) (home-place p q l)
+
+  -- the last row that stands in the document, in the root and in a series
+  abbrev lastIn : ℕ → ℕ
+  lastIn h = cond (eqb h 0) 1 (cond (eqb h 1) 12 p)
+
+  not-past : (h q : ℕ) → h ≤ 12 → q < length rows → parentOf (getD rows q 0) ≡ h → q ≤ lastIn h
+  not-past h q a l e = by (place h q (let s = L .size in let w = L .wide in omega (arith, s, w, a)) l e)
+    where
+      by : Place p h q → q ≤ lastIn h
+      by (in-document f g) = rw f (omega (arith, g))
+      by (in-root f g k) = rw f k
+      by (in-series f g k) = rw f k
+      by (in-period f g k) = absurd (let w = L .wide in omega (arith, f, w, a))
+      by (in-interval f g) = absurd (let w = L .wide in omega (arith, f, w, a))
+
+  pub under-document : (q : ℕ) → q < length rows → parentOf (getD rows q 0) ≡ 0 → q ≡ 1
+  under-document q l e =
+      let s = L .size in
+      let a = later 0 q (omega (arith, s)) l e in
+      let b = not-past 0 q (omega arith) l e in
+      omega (arith, a, b)
+
+  pub under-root : (q : ℕ) → q < length rows → parentOf (getD rows q 0) ≡ 1 → (1 < q) × (q ≤ 12)
+  under-root q l e = let s = L .size in (later 1 q (omega (arith, s)) l e, not-past 1 q (omega arith) l e)
+
+  under-series : (q : ℕ) → q < length rows → parentOf (getD rows q 0) ≡ 12 → (12 < q) × (q ≤ p)
+  under-series q l e = let s = L .size in (later 12 q (omega (arith, s)) l e, not-past 12 q (omega arith) l e)
+
+  pub series-in : parentOf (getD rows 12 0) ≡ 1
+  series-in = let s = L .size in L .stands 12 (omega arith) (omega (arith, s))
+
+  pub in-series-row : (k : ℕ) → 12 < k → k ≤ p → parentOf (getD rows k 0) ≡ 12
+  in-series-row k a b =
+      let s = L .size in
+      L .stands k (omega (arith, a)) (omega (arith, s, b)) ∙ rw (lt-leb k 1 (omega (arith, a)), lt-leb k 12 a, le-leb k p b) refl
+
+  pub in-interval-row : (k : ℕ) → p + 3 < k → k < length rows → parentOf (getD rows k 0) ≡ p + 3
+  in-interval-row k a l =
+      let w = L .wide in
+      L .stands k (omega (arith, a)) l
+      ∙ rw (lt-leb k 1 (omega (arith, a)), lt-leb k 12 (omega (arith, a, w)), lt-leb k p (omega (arith, a)), lt-leb k (p + 3) a) refl
+
+  -- a row that no row stands in: its elements have nothing in them
+  pub leaf : {A : Type 0} (q : ℕ) (inner : Trees A) → q < length rows → (q ≡ 0 → ⊥) → (q ≡ 1 → ⊥) → (q ≡ 12 → ⊥) → (q ≡ p → ⊥) → (q ≡ p + 3 → ⊥)
+      → Stand rows q (rowsTaken inner) → inner ≡ none
+  unfolding rowsTaken Stand
+  leaf q none l a b c d e s = refl
+  leaf q (element r x inner after) l a b c d e s = absurd (by (place q r l (s .0) (s .1)))
+    where
+      by : Place p q r → ⊥
+      by (in-document f g) = a f
+      by (in-root f g h) = b f
+      by (in-series f g h) = c f
+      by (in-period f g h) = d f
+      by (in-interval f g) = e f
+
+  -- a value of the root or of a series
+  value-bare : {A : Type 0} (q : ℕ) (inner : Trees A) → 1 < q → (q ≡ 12 → ⊥) → q < p → Stand rows q (rowsTaken inner) → inner ≡ none
+  value-bare q inner a c b s =
+      let z = L .size in
+      leaf q inner (omega (arith, z, b)) (λ e. omega (arith, e, a)) (λ e. omega (arith, e, a)) c (λ e. omega (arith, e, b)) (λ e. omega (arith, e, b)) s
+
+  -- Pos and Qty
+  interval-bare : {A : Type 0} (q : ℕ) (inner : Trees A) → q < length rows → p + 3 < q → Stand rows q (rowsTaken inner) → inner ≡ none
+  interval-bare q inner l a s =
+      let w = L .wide in
+      leaf q inner l (λ e. omega (arith, e, a)) (λ e. omega (arith, e, a, w)) (λ e. omega (arith, e, a, w)) (λ e. omega (arith, e, a)) (λ e. omega (arith, e, a)) s
+
+  -- ---- in which order
+
+  root-once : repeated (getD rows 1 0) ≡ false
+  root-once = let z = L .size in L .once 1 (omega (arith, z)) (λ e. omega (arith, e)) (λ e. omega (arith, e))
+
+  period-once : repeated (getD rows p 0) ≡ false
+  period-once = let z = L .size in let w = L .wide in L .once p (omega (arith, z)) (λ e. omega (arith, e, w)) (λ e. omega (arith, e))
+
+  -- past a row that does not come again
+  further : (k r q : ℕ) (qs : List ℕ) → repeated (getD rows k 0) ≡ false → k ≤ r → ComesAfter rows r (q ∷ qs) → k < q
+  unfolding ComesAfter
+  further k r q qs o b c =
+      ⊎-elim
+      (λ (h : r < q). omega (arith, h, b))
+      (λ (h : (q ≡ r) × (repeated (getD rows r 0) ≡ true)).
+      ⊎-elim
+      (λ y. omega (arith, y .0, h .0))
+      (λ y.
+      let z : r ≡ k = omega (arith, y .0, b) in
+      let v : _≡_ {A = Bool} true false = sym (h .1) ∙ ap (λ (i : ℕ). repeated (getD rows i 0)) z ∙ o in
+      absurd (zero-not-one (cc)))
+      (ltb-cases k r))
+      c
+
+  module _ {A : Type 0} where
+    -- nothing comes after the last row that may stand in h, where that comes once
+    alone : (k h : ℕ) (c : Trees A) → repeated (getD rows k 0) ≡ false → ((q : ℕ) → q < length rows → parentOf (getD rows q 0) ≡ h → q ≤ k)
+        → ComesAfter rows k (rowsTaken c) → Stand rows h (rowsTaken c) → c ≡ none
+    unfolding rowsTaken Stand
+    alone k h none o u f s = refl
+    alone k h (element r tag inner after) o u f s =
+        let a = further k k r (rowsTaken after) o (omega arith) f in
+        let b = u r (s .0) (s .1) in
+        absurd (omega (arith, a, b))
+
+    -- what stands in a row comes after it in the table, at any depth
+    beyond : (b h : ℕ) (c : Trees A) → b ≤ h → h < length rows → Stand rows h (rowsTaken c) → EachConforms rows c
+        → Within (λ q. (b < q) × (q < length rows)) c
+    unfolding Stand rowsTaken EachConforms Within
+    beyond b h none l m s each = tt
+    beyond b h (element q tag inner after) l m s each =
+        let d = later h q m (s .0) (s .1) in (
+          (omega (arith, d, l), s .0),
+          beyond b q inner (omega (arith, d, l)) (s .0) (each .0 .stand) (each .1),
+          beyond b h after l m (s .2) (each .2),
+        )
+
+    -- ---- an Interval
+
+    two-made : (a b : ℕ) (x z : A) (i j c : Trees A) → a ≡ p + 4 → b ≡ p + 5 → i ≡ none → j ≡ none → c ≡ none
+        → element a x i (element b z j c) ≡ element (p + 4) x none (element (p + 5) z none none)
+    two-made a b x z i j c e f g h k = cc
+
+    -- it holds Pos and Qty
+    pub holds-two : (inner : Trees A) → Fits rows (p + 3) (rowsTaken inner) → EachConforms rows inner
+        → (x : A) × (z : A) × (inner ≡ element (p + 4) x none (element (p + 5) z none none))
+    unfolding rowsTaken Stand InOrder Among EachConforms
+    holds-two none f each =
+        let s = L .size in
+        absurd (f .complete (p + 4) (omega (arith, s)) (in-interval-row (p + 4) (omega arith) (omega (arith, s))) (L .must-pos))
+    holds-two (element a x i none) f each =
+        let s = L .size in
+        let u = f .complete (p + 4) (omega (arith, s)) (in-interval-row (p + 4) (omega arith) (omega (arith, s))) (L .must-pos) in
+        let v = f .complete (p + 5) (omega (arith, s)) (in-interval-row (p + 5) (omega arith) (omega (arith, s))) (L .must-qty) in
+        absurd (⊎-elim (λ (d : p + 4 ≡ a). ⊎-elim (λ (e : p + 5 ≡ a). omega (arith, d, e)) (λ e. e) v) (λ d. d) u)
+    holds-two (element a x i (element b z j c)) f each =
+        let s = L .size in
+        let w = L .wide in
+        let st = f .stand in
+        let k = later (p + 3) a (omega (arith, s)) (st .0) (st .1) in
+        let m = later (p + 3) b (omega (arith, s)) (st .2 .0) (st .2 .1) in
+        let once : (q : ℕ) → p + 3 < q → q < length rows → repeated (getD rows q 0) ≡ false =
+        λ q g l. L .once q l (λ e. omega (arith, e, g, w)) (λ e. omega (arith, e, g)) in
+        let lt = further a a b (rowsTaken c) (once a k (st .0)) (omega arith) (f .ordered .0) in
+        let lb = st .2 .0 in
+        let eb : b ≡ p + 5 = omega (arith, s, k, lt, lb) in
+        let n = alone b (p + 3) c (once b m lb) (λ q l e. omega (arith, s, l, eb)) (f .ordered .1 .0) (st .2 .2) in
+        (x, z, two-made a b x z i j c (omega (arith, k, lt, eb)) eb (interval-bare a i (st .0) k (each .0 .stand)) (interval-bare b j lb m (each .2 .0 .stand)) n)
+
+    -- ---- a series
+
+    -- in a series: values, and then its Period
+    pub record SeriesShape (c : Trees A) : Type 0 where
+      pub head : Trees A
+      pub tag : A
+      pub inner : Trees A
+      pub is : c ≡ beside head (element p tag inner none)
+      pub heads : Within (λ q. (12 < q) × (q < p)) head
+      pub deep : Within (λ q. (p < q) × (q < length rows)) inner
+
+    series-shape : (c : Trees A) → Stand rows 12 (rowsTaken c) → InOrder rows (rowsTaken c) → EachConforms rows c → Among p (rowsTaken c) → SeriesShape c
+    unfolding Stand rowsTaken InOrder EachConforms Among Within beside
+    series-shape none s o each m = absurd m
+    series-shape (element q tag inner after) s o each m =
+        ⊎-elim
+        (λ (y : (q ≡ p) × _).
+        let last = alone p 12 after period-once (λ r l e. under-series r l e .1) (subst (λ (i : ℕ). ComesAfter rows i (rowsTaken after)) (y .0) (o .0)) (s .2) in
+        record {
+          head = none;
+          tag = tag;
+          inner = inner;
+          is = element-is (y .0) refl last;
+          heads = tt;
+          deep = beyond p q inner (omega (arith, y .0)) (s .0) (each .0 .stand) (each .1);
+        })
+        (λ (y : (q ≡ p → ⊥) × _).
+        let u = under-series q (s .0) (s .1) in
+        let h : q < p = let z = up q (u .1) (λ e. y .0 (sym e)) in omega (arith, z) in
+        let t = series-shape after (s .2) (o .1) (each .2) (⊎-elim (λ (e : p ≡ q). absurd (y .0 (sym e))) (λ k. k) m) in
+        let n = value-bare q inner (omega (arith, u .0)) (λ (e : q ≡ 12). omega (arith, e, u .0)) h (each .0 .stand) in
+        record {
+          head = element q tag none (t .head);
+          tag = t .tag;
+          inner = t .inner;
+          is = ap (λ i. element q tag i after) n ∙ ap (λ a. element q tag none a) (t .is);
+          heads = ((u .0, h), tt, t .heads);
+          deep = t .deep;
+        })
+        (eqb-cases q p)
+
+    -- series side by side
+    unfoldable pub AllSeries : Trees A → Type 0
+    AllSeries none = Unit {0}
+    AllSeries (element q tag inner after) = (q ≡ 12) × SeriesShape inner × AllSeries after
+
+    inner-shape : (inner : Trees A) → Fits rows 12 (rowsTaken inner) → EachConforms rows inner → SeriesShape inner
+    inner-shape inner f each =
+        let s = L .size in
+        let w = L .wide in
+        series-shape inner (f .stand) (f .ordered) each (f .complete p (omega (arith, s)) (in-series-row p (omega (arith, w)) (omega arith)) (L .must-period))
+
+    series-follow : (c : Trees A) → ComesAfter rows 12 (rowsTaken c) → Stand rows 1 (rowsTaken c) → InOrder rows (rowsTaken c) → EachConforms rows c → AllSeries c
+    unfolding Stand rowsTaken ComesAfter InOrder EachConforms AllSeries
+    series-follow none f s o each = tt
+    series-follow (element q tag inner after) f s o each =
+        let u = under-root q (s .0) (s .1) in
+        let e : q ≡ 12 = ⊎-elim (λ (g : 12 < q). absurd (omega (arith, g, u .1))) (λ g. g .0) f in (
+          e,
+          inner-shape inner (subst (λ (i : ℕ). Fits rows i (rowsTaken inner)) e (each .0)) (each .1),
+          series-follow after (subst (λ (i : ℕ). ComesAfter rows i (rowsTaken after)) e (o .0)) (s .2) (o .1) (each .2),
+        )
+
+    -- ---- the root
+
+    -- in the root: values, and then series
+    pub record RootShape (c : Trees A) : Type 0 where
+      pub head : Trees A
+      pub tail : Trees A
+      pub is : c ≡ beside head tail
+      pub heads : Within (λ q. (1 < q) × (q < 12)) head
+      pub all : AllSeries tail
+
+    root-shape : (c : Trees A) → Stand rows 1 (rowsTaken c) → InOrder rows (rowsTaken c) → EachConforms rows c → RootShape c
+    unfolding Stand rowsTaken ComesAfter InOrder EachConforms Within beside AllSeries
+    root-shape none s o each = record { head = none; tail = none; is = refl; heads = tt; all = tt }
+    root-shape (element q tag inner after) s o each =
+        ⊎-elim
+        (λ (y : (q ≡ 12) × _).
+        record {
+          head = none;
+          tail = element q tag inner after;
+          is = refl;
+          heads = tt;
+          all = (
+            y .0,
+            inner-shape inner (subst (λ (i : ℕ). Fits rows i (rowsTaken inner)) (y .0) (each .0)) (each .1),
+            series-follow after (subst (λ (i : ℕ). ComesAfter rows i (rowsTaken after)) (y .0) (o .0)) (s .2) (o .1) (each .2),
+          );
+        })
+        (λ (y : (q ≡ 12 → ⊥) × _).
+        let u = under-root q (s .0) (s .1) in
+        let w = L .wide in
+        let h : q < 12 = let z = up q (u .1) (λ e. y .0 (sym e)) in omega (arith, z) in
+        let t = root-shape after (s .2) (o .1) (each .2) in
+        let n = value-bare q inner (u .0) (y .0) (omega (arith, h, w)) (each .0 .stand) in
+        record {
+          head = element q tag none (t .head);
+          tail = t .tail;
+          is = ap (λ i. element q tag i after) n ∙ ap (λ a. element q tag none a) (t .is);
+          heads = ((u .0, h), tt, t .heads);
+          all = t .all;
+        })
+        (eqb-cases q 12)
+
+    -- ---- the document
+
+    -- in the document: one root
+    pub record DocumentShape (c : Trees A) : Type 0 where
+      pub tag : A
+      pub inner : Trees A
+      pub is : c ≡ element 1 tag inner none
+      pub shape : RootShape inner
+
+    document-of : (c : Trees A) → Stand rows 0 (rowsTaken c) → InOrder rows (rowsTaken c) → EachConforms rows c → Among 1 (rowsTaken c) → DocumentShape c
+    unfolding Stand rowsTaken InOrder EachConforms Among
+    document-of none s o each m = absurd m
+    document-of (element q tag inner after) s o each m =
+        let e = under-document q (s .0) (s .1) in
+        let f : Fits rows 1 (rowsTaken inner) = subst (λ (i : ℕ). Fits rows i (rowsTaken inner)) e (each .0) in
+        let n = alone 1 0 after root-once (λ r l d. not-past 0 r (omega arith) l d) (subst (λ (i : ℕ). ComesAfter rows i (rowsTaken after)) e (o .0)) (s .2) in
+        record { tag = tag; inner = inner; is = element-is e refl n; shape = root-shape inner (f .stand) (f .ordered) (each .1) }
+
+    pub document-shape : (c : Trees A) → Conforms rows 0 c → DocumentShape c
+    document-shape c k =
+        let z = L .size in
+        document-of c (k .fits .stand) (k .fits .ordered) (k .each)
+        (k .fits .complete 1 (omega (arith, z)) (L .stands 1 (omega arith) (omega (arith, z))) (L .must-root))
+
+  -- ---- a row that comes once
+
+  -- any row but k
+  abbrev Other : ℕ → ℕ → Type 0
+  Other k q = (q < length rows) × (q ≡ k → ⊥)
+
+  module _ {A : Type 0} (k : ℕ) where
+    -- row k does not stand in a row after its own
+    pub elsewhere : (c : Trees A) (h : ℕ) → h < length rows → parentOf (getD rows k 0) < h → Stand rows h (rowsTaken c) → EachConforms rows c → Within (Other k) c
+    unfolding rowsTaken Stand EachConforms Within
+    elsewhere none h l b s each = tt
+    elsewhere (element q x inner after) h l b s each =
+        let m = later h q l (s .0) (s .1) in (
+          (s .0, λ e. let d : parentOf (getD rows k 0) ≡ h = ap (λ (i : ℕ). parentOf (getD rows i 0)) (sym e) ∙ s .1 in omega (arith, d, b)),
+          elsewhere inner q (s .0) (omega (arith, m, b)) (each .0 .stand) (each .1),
+          elsewhere after h l b (s .2) (each .2),
+        )
+
+    module _ (o : repeated (getD rows k 0) ≡ false) (u : parentOf (getD rows k 0) < length rows) where
+      -- nor after it, where it comes once
+      not-again : (c : Trees A) (r : ℕ) → k ≤ r → ComesAfter rows r (rowsTaken c) → InOrder rows (rowsTaken c)
+          → Stand rows (parentOf (getD rows k 0)) (rowsTaken c) → EachConforms rows c → Within (Other k) c
+      unfolding rowsTaken Stand EachConforms InOrder Within
+      not-again none r b a i s each = tt
+      not-again (element q x inner after) r b a i s each =
+          let g = further k r q (rowsTaken after) o b a in
+          let m = later (parentOf (getD rows k 0)) q u (s .0) (s .1) in (
+            (s .0, λ e. omega (arith, e, g)),
+            elsewhere inner q (s .0) m (each .0 .stand) (each .1),
+            not-again after q (omega (arith, g)) (i .0) (i .1) (s .2) (each .2),
+          )
+
+      -- the element of a role that row k alone has, among those that stand where k stands
+      pub comes-once : (role : ℕ) → ((q : ℕ) → q < length rows → roleOf (getD rows q 0) ≡ role → q ≡ k) → roleOf (getD rows k 0) ≡ role → (c : Trees A)
+          → Stand rows (parentOf (getD rows k 0)) (rowsTaken c) → InOrder rows (rowsTaken c) → EachConforms rows c → Among k (rowsTaken c)
+          → (s : A) × (those (hasRole role) rows c ≡ s ∷ [])
+      unfolding rowsTaken Stand EachConforms InOrder Among
+      comes-once role only r none s i each m = absurd m
+      comes-once role only r (element q x inner after) s i each m =
+          let gone : (c : Trees A) → Within (Other k) c → those (hasRole role) rows c ≡ [] =
+          λ c h. no-role rows role c (within-more (λ j d e. d .1 (only j (d .0) e)) c h) in
+          let lat = later (parentOf (getD rows k 0)) q u (s .0) (s .1) in
+          let inside = gone inner (elsewhere inner q (s .0) lat (each .0 .stand) (each .1)) in
+          ⊎-elim
+          (λ e.
+          let t : eqb (roleOf (getD rows q 0)) role ≡ true = eq-eqb (roleOf (getD rows q 0)) role (ap (λ (j : ℕ). roleOf (getD rows j 0)) (e .0) ∙ r) in (
+            x,
+            those-of rows (hasRole role) q x inner after t inside
+                ∙ ap (λ (l : List A). x ∷ l) (gone after (not-again after q (omega (arith, e .0)) (i .0) (i .1) (s .2) (each .2))),
+          ))
+          (λ e.
+          let n : eqb (roleOf (getD rows q 0)) role ≡ false = ne-eqb (roleOf (getD rows q 0)) role (λ d. e .0 (only q (s .0) d)) in
+          let d = comes-once role only r after (s .2) (i .1) (each .2) (⊎-elim (λ (f : k ≡ q). absurd (e .0 (sym f))) (λ f. f) m) in
+          (d .0, those-of rows (hasRole role) q x inner after n inside ∙ d .1))
+          (eqb-cases q k)
