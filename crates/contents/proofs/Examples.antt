@@ -20,7 +20,7 @@ use Rattle.prolog.specs.Prolog.{declaredBy, declared, encodedBy, encoded, decla
 use Rattle.elements.specs.Names.{names, numberIn, elementNo}
 use Rattle.states.specs.Attributes.{there}
 use Rattle.reader.specs.Items.{itemsAfter, itemsFrom}
-use Rattle.contents.specs.Spelled.{valueIn, saidBy, nameIn, signsBy, signsOf, allowed, AllAllowed, Alike}
+use Rattle.contents.specs.Spelled.{valueIn, saidBy, elementIn, signsBy, signsOf, allowed, AllAllowed, Alike}
 
 abbrev pub plain : List ℕ
 plain =
@@ -37,7 +37,7 @@ unfolding byte run same begins seek here firstAt walk seqLen control single char
     openingFrom opening attributeEnd attributeQuote attributeName attribute pieceAfter piece partOf absent noneKnown oneMore noted onto endsAfter
     ends keep named twice commentTo comment textByte textTo textItem endClose endName endTag commentItem commentTag tagOf tagItem startTag item
     declaredBy declared encodedBy encoded declarationBy declaration markLen after beginAfter begin names numberIn elementNo there itemsAfter itemsFrom
-    valueIn saidBy nameIn signsBy signsOf allowed AllAllowed
+    valueIn saidBy elementIn signsBy signsOf allowed AllAllowed
 plain-pretty =
     record {
       from = 0;

@@ -15,7 +15,7 @@ use Rattle.reader.specs.Rows.{spanOf, usedBefore}
 use Rattle.reader.specs.Reading.{Tables, tablesAfter}
 use Rattle.trees.specs.Trees.{Sign, Opens, Closes, Trees, none, element}
 use Rattle.contents.specs.Said.{Said, Absent}
-use Rattle.contents.specs.Spelled.{saidBy, nameIn}
+use Rattle.contents.specs.Spelled.{saidBy, elementIn}
 use Rattle.contents.specs.Legal.{positionOf}
 use Rattle.contents.proofs.Walk.{Tally, opened, walked}
 
@@ -33,9 +33,9 @@ saidOf x = saidByItem (x .item) (x .rest)
 
 -- the signs of the items, each start with its item
 unfoldable pub placedBy : Placed → Item → List (Sign Placed)
-placedBy x (Start t) = Opens x (nameIn 1 (t .name) (x .rest)) ∷ []
-placedBy x (Empty t) = Opens x (nameIn 1 (t .name) (x .rest)) ∷ Closes (nameIn 1 (t .name) (x .rest)) ∷ []
-placedBy x (End n e) = Closes (nameIn 2 n (x .rest)) ∷ []
+placedBy x (Start t) = Opens x (elementIn 1 (t .name) (x .rest)) ∷ []
+placedBy x (Empty t) = Opens x (elementIn 1 (t .name) (x .rest)) ∷ Closes (elementIn 1 (t .name) (x .rest)) ∷ []
+placedBy x (End n e) = Closes (elementIn 2 n (x .rest)) ∷ []
 placedBy x (Text w e) = []
 placedBy x (Comment e) = []
 placedBy x (Refused p) = []

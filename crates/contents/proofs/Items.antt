@@ -30,7 +30,7 @@ use Rattle.reader.specs.Reading.{Tables, Out, refusedAt, acceptedAt, withoutUse
 use Rattle.reader.specs.Reading.{endedAt as overAt}
 use Rattle.reader.proofs.Ran.{read-next, read-stop}
 use Rattle.trees.specs.Trees.{Sign, Opens, Closes}
-use Rattle.contents.specs.Spelled.{saidBy, nameIn, allowed, AllAllowed}
+use Rattle.contents.specs.Spelled.{saidBy, elementIn, allowed, AllAllowed}
 use Rattle.contents.proofs.Laid.{Layout, Known, laid}
 use Rattle.contents.proofs.Walk.{Tally, nothing, Ended}
 use Rattle.contents.proofs.Fill.{tablesWith, saidByItem, saidOf, placedBy, placedSigns, stateOf}
@@ -50,17 +50,17 @@ said-empty x tag e = rw e refl
 
 module _ (st : State) (kind : ℕ) (rows : List ℕ) (x : Placed) (room : Room) where
   moved-start : (tag : Tag) → x .item ≡ Start tag
-      → moved st kind rows (x .item) (x .rest) room ≡ started st kind rows (nameIn 1 (tag .name) (x .rest)) tag (x .rest) false room
-  unfolding moved nameIn
+      → moved st kind rows (x .item) (x .rest) room ≡ started st kind rows (elementIn 1 (tag .name) (x .rest)) tag (x .rest) false room
+  unfolding moved elementIn
   moved-start tag e = rw e refl
 
   moved-empty : (tag : Tag) → x .item ≡ Empty tag
-      → moved st kind rows (x .item) (x .rest) room ≡ started st kind rows (nameIn 1 (tag .name) (x .rest)) tag (x .rest) true room
-  unfolding moved nameIn
+      → moved st kind rows (x .item) (x .rest) room ≡ started st kind rows (elementIn 1 (tag .name) (x .rest)) tag (x .rest) true room
+  unfolding moved elementIn
   moved-empty tag e = rw e refl
 
-  moved-end : (n m : ℕ) → x .item ≡ End n m → moved st kind rows (x .item) (x .rest) room ≡ ended st rows (nameIn 2 n (x .rest))
-  unfolding moved nameIn
+  moved-end : (n m : ℕ) → x .item ≡ End n m → moved st kind rows (x .item) (x .rest) room ≡ ended st rows (elementIn 2 n (x .rest))
+  unfolding moved elementIn
   moved-end n m e = rw e refl
 
 -- an item that is passed over says nothing
@@ -75,16 +75,16 @@ passed-signs x (Comment m) e = (refl, refl)
 passed-signs x (Unreadable p) e = absurd (zero-not-one (cc))
 
 module _ (x : Placed) (xs : List Placed) where
-  signs-start : (tag : Tag) → x .item ≡ Start tag → placedSigns (x ∷ xs) ≡ Opens x (nameIn 1 (tag .name) (x .rest)) ∷ placedSigns xs
+  signs-start : (tag : Tag) → x .item ≡ Start tag → placedSigns (x ∷ xs) ≡ Opens x (elementIn 1 (tag .name) (x .rest)) ∷ placedSigns xs
   unfolding placedSigns placedBy
   signs-start tag e = ap (λ (i : Item). placedBy x i ++ placedSigns xs) e
 
   signs-empty : (tag : Tag) → x .item ≡ Empty tag
-      → placedSigns (x ∷ xs) ≡ Opens x (nameIn 1 (tag .name) (x .rest)) ∷ (Closes (nameIn 1 (tag .name) (x .rest)) ∷ placedSigns xs)
+      → placedSigns (x ∷ xs) ≡ Opens x (elementIn 1 (tag .name) (x .rest)) ∷ (Closes (elementIn 1 (tag .name) (x .rest)) ∷ placedSigns xs)
   unfolding placedSigns placedBy
   signs-empty tag e = ap (λ (i : Item). placedBy x i ++ placedSigns xs) e
 
-  signs-end : (n m : ℕ) → x .item ≡ End n m → placedSigns (x ∷ xs) ≡ Closes (nameIn 2 n (x .rest)) ∷ placedSigns xs
+  signs-end : (n m : ℕ) → x .item ≡ End n m → placedSigns (x ∷ xs) ≡ Closes (elementIn 2 n (x .rest)) ∷ placedSigns xs
   unfolding placedSigns placedBy
   signs-end n m e = ap (λ (i : Item). placedBy x i ++ placedSigns xs) e
 
@@ -210,7 +210,7 @@ module _ (doc : List ℕ) (room : Room) (kind : ℕ) (known : Known kind) where
           → Reads (x ∷ xs) r o y t
       unfolding Runs allowed
       start-forth tag i e =
-          let name = nameIn 1 (tag .name) (x .rest) in
+          let name = elementIn 1 (tag .name) (x .rest) in
           let k = tag-forth tag name false (said-start x tag i) (e ∙ moved-start (stateOf k₀ r o y) kind rows x room tag i) in
           let w = k .1 in (
             may-stand x xs (allowed-by x xs (Start tag) i refl) (k .2 .0),
@@ -223,7 +223,7 @@ module _ (doc : List ℕ) (room : Room) (kind : ℕ) (known : Known kind) where
           → Reads (x ∷ xs) r o y t
       unfolding Runs allowed
       empty-forth tag i e =
-          let name = nameIn 1 (tag .name) (x .rest) in
+          let name = elementIn 1 (tag .name) (x .rest) in
           let k = tag-forth tag name true (said-empty x tag i) (e ∙ moved-empty (stateOf k₀ r o y) kind rows x room tag i) in
           let q = k .0 in
           let w = k .1 in
@@ -254,9 +254,9 @@ module _ (doc : List ℕ) (room : Room) (kind : ℕ) (known : Known kind) where
           (ended-goes doc kind rows r o y (t .series) (x .item) (x .rest) name))
         where
           name : ℕ
-          name = nameIn 2 n (x .rest)
+          name = elementIn 2 n (x .rest)
 
-          by : (s : Step) → stepOf doc (t .series) room x (stateOf kind r o y) ≡ s → Closed kind rows r o y (nameIn 2 n (x .rest)) s → Reads (x ∷ xs) r o y t
+          by : (s : Step) → stepOf doc (t .series) room x (stateOf kind r o y) ≡ s → Closed kind rows r o y (elementIn 2 n (x .rest)) s → Reads (x ∷ xs) r o y t
           by (Next st e) z g =
               let q = g .0 in
               let st′ = stateOf kind q false y in
@@ -268,7 +268,7 @@ module _ (doc : List ℕ) (room : Room) (kind : ℕ) (known : Known kind) where
               let k = ih q false y t (low-less (length xs) y low) ok′ in (
                 may-stand x xs (allowed-by x xs (End n m) i refl) (k .0),
                 respelled doc room kind rows (Over kind) r o y t (sym (signs-end x xs n m i))
-                    (row-on (endOf rows r o (nameIn 2 n (x .rest))) (Closing doc room kind rows (Over kind) (placedSigns xs) y t) q (g .1) (g .2, k .1)),
+                    (row-on (endOf rows r o (elementIn 2 n (x .rest))) (Closing doc room kind rows (Over kind) (placedSigns xs) y t) q (g .1) (g .2, k .1)),
               )
           by (Refused n) z g = absurd (stops doc room x xs (stateOf kind r o y) t n z g ok)
 
@@ -329,11 +329,11 @@ module _ (doc : List ℕ) (room : Room) (kind : ℕ) (known : Known kind) where
 
       start-back : (tag : Tag) → x .item ≡ Start tag
           → step (stateOf k₀ r o y) (rowsOf 1) (rowsOf 2) (x .item) (x .rest) room ≡ moved (stateOf k₀ r o y) kind rows (x .item) (x .rest) room
-          → Runs doc room kind rows (Ends doc kind out) (Opens x (nameIn 1 (tag .name) (x .rest)) ∷ placedSigns xs) r o y t
+          → Runs doc room kind rows (Ends doc kind out) (Opens x (elementIn 1 (tag .name) (x .rest)) ∷ placedSigns xs) r o y t
           → readItems doc room (x ∷ xs) (stateOf k₀ r o y) t ≡ out
       unfolding Runs cutShort
       start-back tag i e runs =
-          let name = nameIn 1 (tag .name) (x .rest) in
+          let name = elementIn 1 (tag .name) (x .rest) in
           let k = on-row (startOf rows r o name) (Opening doc room kind rows (Ends doc kind out) x (placedSigns xs) y t) runs in
           tag-back tag name false (said-start x tag i) (e ∙ moved-start (stateOf k₀ r o y) kind rows x room tag i) (k .0)
           (record { due = k .1; taken = k .2 .0; whole = refl; new = k .2 .1 })
@@ -342,11 +342,11 @@ module _ (doc : List ℕ) (room : Room) (kind : ℕ) (known : Known kind) where
       empty-back : (tag : Tag) → x .item ≡ Empty tag
           → step (stateOf k₀ r o y) (rowsOf 1) (rowsOf 2) (x .item) (x .rest) room ≡ moved (stateOf k₀ r o y) kind rows (x .item) (x .rest) room
           → Runs doc room kind rows (Ends doc kind out)
-          (Opens x (nameIn 1 (tag .name) (x .rest)) ∷ (Closes (nameIn 1 (tag .name) (x .rest)) ∷ placedSigns xs)) r o y t
+          (Opens x (elementIn 1 (tag .name) (x .rest)) ∷ (Closes (elementIn 1 (tag .name) (x .rest)) ∷ placedSigns xs)) r o y t
           → readItems doc room (x ∷ xs) (stateOf k₀ r o y) t ≡ out
       unfolding Runs
       empty-back tag i e runs =
-          let name = nameIn 1 (tag .name) (x .rest) in
+          let name = elementIn 1 (tag .name) (x .rest) in
           let k = on-row (startOf rows r o name) (Opening doc room kind rows (Ends doc kind out) x (Closes name ∷ placedSigns xs) y t) runs in
           let q = k .0 in
           let y′ = after rows q x y in
@@ -359,11 +359,11 @@ module _ (doc : List ℕ) (room : Room) (kind : ℕ) (known : Known kind) where
 
     module _ (r : ℕ) (o : Bool) (y : Tally) (t : Tables) (low : Low (suc (length xs)) y) where
       end-back : (n m : ℕ) → x .item ≡ End n m
-          → Runs doc room kind rows (Ends doc kind out) (Closes (nameIn 2 n (x .rest)) ∷ placedSigns xs) r o y t
+          → Runs doc room kind rows (Ends doc kind out) (Closes (elementIn 2 n (x .rest)) ∷ placedSigns xs) r o y t
           → readItems doc room (x ∷ xs) (stateOf kind r o y) t ≡ out
       unfolding Runs
       end-back n m i runs =
-          let name = nameIn 2 n (x .rest) in
+          let name = elementIn 2 n (x .rest) in
           let k = on-row (endOf rows r o name) (Closing doc room kind rows (Ends doc kind out) (placedSigns xs) y t) runs in
           let q = k .0 in
           read-next doc room x xs (stateOf kind r o y) t (stateOf kind q false y) Nothing
@@ -416,12 +416,12 @@ unfolding step stepOn
 step-none st i s room e = rw e refl
 
 module _ (y : Tally) (x : Placed) where
-  told-start : (tag : Tag) → x .item ≡ Start tag → kindTold (stateOf 0 0 true y) (x .item) (x .rest) ≡ kindOf (nameIn 1 (tag .name) (x .rest))
-  unfolding kindTold stateOf rootKind nameIn
+  told-start : (tag : Tag) → x .item ≡ Start tag → kindTold (stateOf 0 0 true y) (x .item) (x .rest) ≡ kindOf (elementIn 1 (tag .name) (x .rest))
+  unfolding kindTold stateOf rootKind elementIn
   told-start tag e = rw e refl
 
-  told-empty : (tag : Tag) → x .item ≡ Empty tag → kindTold (stateOf 0 0 true y) (x .item) (x .rest) ≡ kindOf (nameIn 1 (tag .name) (x .rest))
-  unfolding kindTold stateOf rootKind nameIn
+  told-empty : (tag : Tag) → x .item ≡ Empty tag → kindTold (stateOf 0 0 true y) (x .item) (x .rest) ≡ kindOf (elementIn 1 (tag .name) (x .rest))
+  unfolding kindTold stateOf rootKind elementIn
   told-empty tag e = rw e refl
 
   told-end : (n m : ℕ) → x .item ≡ End n m → kindTold (stateOf 0 0 true y) (x .item) (x .rest) ≡ 0
@@ -475,12 +475,12 @@ module _ (doc : List ℕ) (room : Room) where
         (step-refused doc room x xs blank t 3
         (step-none blank (x .item) (x .rest) room (told-end nothing x n m i)
         ∙ moved-end blank 0 (rowsOf 2) x room n m i
-        ∙ ap (λ (d : Due). endedAt blank (rowsOf 2) d) (no-close (nameIn 2 n (x .rest)))))
+        ∙ ap (λ (d : Due). endedAt blank (rowsOf 2) d) (no-close (elementIn 2 n (x .rest)))))
         (λ z. omega (arith, z)) ok
 
     begin-start : (tag : Tag) → x .item ≡ Start tag → Begins (x ∷ xs) t
     begin-start tag i =
-        let name = nameIn 1 (tag .name) (x .rest) in
+        let name = elementIn 1 (tag .name) (x .rest) in
         let told = told-start nothing x tag i in
         ⊎-elim
         (λ (k : kindOf name ≡ 0).
@@ -494,7 +494,7 @@ module _ (doc : List ℕ) (room : Room) where
 
     begin-empty : (tag : Tag) → x .item ≡ Empty tag → Begins (x ∷ xs) t
     begin-empty tag i =
-        let name = nameIn 1 (tag .name) (x .rest) in
+        let name = elementIn 1 (tag .name) (x .rest) in
         let told = told-empty nothing x tag i in
         ⊎-elim
         (λ (k : kindOf name ≡ 0).
@@ -566,17 +566,17 @@ module _ (doc : List ℕ) (room : Room) where
       unfolding passed allowed Runs
       begun-item (Start tag) i runs =
           let h = respelled doc room kind (rowsOf kind) (Ends doc kind out) 0 true nothing t (signs-start x xs tag i) runs in
-          let told = told-start nothing x tag i ∙ first-kind x (nameIn 1 (tag .name) (x .rest)) (placedSigns xs) t h in
+          let told = told-start nothing x tag i ∙ first-kind x (elementIn 1 (tag .name) (x .rest)) (placedSigns xs) t h in
           start-back doc room kind known out x xs (items-back doc room kind known out xs) may 0 0 true nothing t low tag i
           (step-told (stateOf 0 0 true nothing) kind known (x .item) (x .rest) room told) h
       begun-item (Empty tag) i runs =
-          let name = nameIn 1 (tag .name) (x .rest) in
+          let name = elementIn 1 (tag .name) (x .rest) in
           let h = respelled doc room kind (rowsOf kind) (Ends doc kind out) 0 true nothing t (signs-empty x xs tag i) runs in
           let told = told-empty nothing x tag i ∙ first-kind x name (Closes name ∷ placedSigns xs) t h in
           empty-back doc room kind known out x xs (items-back doc room kind known out xs) may 0 0 true nothing t low tag i
           (step-told (stateOf 0 0 true nothing) kind known (x .item) (x .rest) room told) h
       begun-item (End n m) i runs =
-          let name = nameIn 2 n (x .rest) in
+          let name = elementIn 2 n (x .rest) in
           let l = laid kind known in
           let h = respelled doc room kind (rowsOf kind) (Ends doc kind out) 0 true nothing t (signs-end x xs n m i) runs in
           let k = on-row (endOf (rowsOf kind) 0 true name) (Closing doc room kind (rowsOf kind) (Ends doc kind out) (placedSigns xs) nothing t) h in

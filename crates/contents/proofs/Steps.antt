@@ -34,7 +34,7 @@ use Rattle.states.specs.declared.Room.{Room}
 use Rattle.blindness.proofs.Counts.{one-more}
 use Rattle.contents.specs.Said.{Said, bytes}
 use Rattle.contents.specs.Spelled.{saidBy}
-use Rattle.contents.specs.Legal.{periodBy, quartersOf, positionBy, positionOf, sayings, attributesFit, schemeFits, valueFits, elementFits}
+use Rattle.contents.specs.Legal.{periodBy, quartersOf, positionBy, positionOf, sayings, attributesAgree, schemeFits, valueFits, elementFits}
 use Rattle.contents.proofs.Tests.{and-parts}
 use Rattle.contents.proofs.Laid.{Layout}
 use Rattle.contents.proofs.Walk.{Tally, quartersIn, opened, Taken, Ended}
@@ -55,8 +55,8 @@ opposite false e = absurd (zero-not-one (cc))
 
 -- ---- the attributes of a tag, by where they stand and by what they are
 
-attributes-same : (w : ℕ) (t : Tag) (s : List ℕ) → tagFits w t ≡ attributesFit w (saidBy t s)
-unfolding tagFits attributesFit saidBy
+attributes-same : (w : ℕ) (t : Tag) (s : List ℕ) → tagFits w t ≡ attributesAgree w (saidBy t s)
+unfolding tagFits attributesAgree saidBy
 attributes-same w t s =
     rw (given-there (t .v) s, given-there (t .coding) s, given-there (t .version) s)
     (chained (agree (asksV w) (there (t .v))) (agree (asksScheme w) (there (t .coding))) (agree (eqb (roleOf w) 1) (there (t .version)))
@@ -459,7 +459,7 @@ module _ (kind : ℕ) (rows : List ℕ) (p : ℕ) (L : Layout rows p) (room : Ro
         let c = judged-clear x kind rows q tag s empty room h in
         let n : values .number ≡ 0 = ap (λ (j : Judged). j .number) (sym (clear-values c)) ∙ h in
         let v = values-fit kind k₀ r o y row said (pos-row q inside) (sym (judged-values row (heldOf x kind) said) ∙ eq-eqb (values .number) 0 n) in
-        let a : attributesFit row said ≡ true = sym (attributes-same row tag s) ∙ c .attributes in (
+        let a : attributesAgree row said ≡ true = sym (attributes-same row tag s) ∙ c .attributes in (
           record {
             fits = rw (a, v .0);
             turn = v .1;
@@ -471,9 +471,9 @@ module _ (kind : ℕ) (rows : List ℕ) (p : ℕ) (L : Layout rows p) (room : Ro
         )
 
     module _ (t : Taken kind room row said y) (whole : cutShort empty rows q ≡ false) where
-      taken-fits : (attributesFit row said ≡ true) × (valuesFit row said (valueFits kind (y .period) row said) ≡ true)
+      taken-fits : (attributesAgree row said ≡ true) × (valuesFit row said (valueFits kind (y .period) row said) ≡ true)
       unfolding elementFits
-      taken-fits = and-parts (attributesFit row said) (valuesFit row said (valueFits kind (y .period) row said)) (t .fits)
+      taken-fits = and-parts (attributesAgree row said) (valuesFit row said (valueFits kind (y .period) row said)) (t .fits)
 
       taken-values : verdict ≡ values
       unfolding stateOf

@@ -17,7 +17,7 @@ use Rattle.reader.specs.Rows.{spanOf, quoted}
 use Rattle.trees.specs.Trees.{Trees, none, element}
 use Rattle.contents.specs.Said.{Absent, Given, Said, given, bytes}
 use Rattle.contents.specs.Spelled.{valueIn, saidBy}
-use Rattle.contents.specs.Legal.{hasRole, Period, attributesFit, elementFits, Each}
+use Rattle.contents.specs.Legal.{hasRole, Period, attributesAgree, elementFits, Each}
 use Rattle.contents.proofs.Tests.{and-parts}
 use Rattle.contents.proofs.Fill.{saidByItem, saidOf, saying}
 
@@ -70,8 +70,8 @@ HasValues rows none = Unit {0}
 HasValues rows (element q x inner after) =
     (asksV (getD rows q 0) ≡ true → there (spanOf (x .item)) ≡ true) × HasValues rows inner × HasValues rows after
 
-asked-given : (w : ℕ) (s : Said) → attributesFit w s ≡ true → asksV w ≡ true → given (s .v) ≡ true
-unfolding attributesFit
+asked-given : (w : ℕ) (s : Said) → attributesAgree w s ≡ true → asksV w ≡ true → given (s .v) ≡ true
+unfolding attributesAgree
 asked-given w s e a =
     let v = agree (asksV w) (given (s .v)) in
     let scheme = agree (asksScheme w) (given (s .scheme)) in
@@ -92,7 +92,7 @@ pub each-given : (kind : ℕ) (q : Period) (rows : List ℕ) (kids : Trees Place
 unfolding Each HasValues saying elementFits
 each-given kind q rows none e = tt
 each-given kind q rows (element r x inner after) e = (
-  (λ a. given-item (x .item) (x .rest) (asked-given (getD rows r 0) (saidOf x) (and-parts (attributesFit (getD rows r 0) (saidOf x)) _ (e .0) .0) a)),
+  (λ a. given-item (x .item) (x .rest) (asked-given (getD rows r 0) (saidOf x) (and-parts (attributesAgree (getD rows r 0) (saidOf x)) _ (e .0) .0) a)),
   each-given kind q rows inner (e .1),
   each-given kind q rows after (e .2),
 )

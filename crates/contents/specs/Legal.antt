@@ -86,8 +86,8 @@ positionOf s = positionBy (numberOf (says (dropped (bytes (s .v)))) 5)
 -- ---- the rules of one element
 
 -- "5: attribute missing or unknown": those of the row are there, and no others
-unfoldable pub attributesFit : ℕ → Said → Bool
-attributesFit w s =
+unfoldable pub attributesAgree : ℕ → Said → Bool
+attributesAgree w s =
     agree (asksV w) (given (s .v)) && agree (asksScheme w) (given (s .scheme)) && agree (hasRole isRoot w) (given (s .version)) &&
     noOthers w (s .others) (s .passable)
 
@@ -104,7 +104,7 @@ valueFits kind p w s =
 -- the root has its fixed version; elsewhere an element with a `v` has it by its form, and its codingScheme
 unfoldable pub elementFits : ℕ → Period → ℕ → Said → Bool
 elementFits kind p w s =
-    attributesFit w s &&
+    attributesAgree w s &&
     cond (hasRole isRoot w) (fixedVersion (says (bytes (s .version)))) (cond (eqb (formOf w) 0) true (schemeFits w s && valueFits kind p w s))
 
 -- each element of a content passes a test of its row and of what it says

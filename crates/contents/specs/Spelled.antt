@@ -25,14 +25,14 @@ unfoldable pub saidBy : Tag → List ℕ → Said
 saidBy t s =
     record { v = valueIn (t .v) s; scheme = valueIn (t .coding) s; version = valueIn (t .version) s; others = t .others; passable = t .passable }
 
-unfoldable pub nameIn : ℕ → ℕ → List ℕ → ℕ
-nameIn from len s = elementNo (partOf s from len)
+unfoldable pub elementIn : ℕ → ℕ → List ℕ → ℕ
+elementIn from len s = elementNo (partOf s from len)
 
 -- "An empty tag is a start and an end in one item."; white text and comments say nothing
 unfoldable pub signsBy : Item → List ℕ → List (Sign Said)
-signsBy (Start t) s = Opens (saidBy t s) (nameIn 1 (t .name) s) ∷ []
-signsBy (Empty t) s = Opens (saidBy t s) (nameIn 1 (t .name) s) ∷ Closes (nameIn 1 (t .name) s) ∷ []
-signsBy (End n e) s = Closes (nameIn 2 n s) ∷ []
+signsBy (Start t) s = Opens (saidBy t s) (elementIn 1 (t .name) s) ∷ []
+signsBy (Empty t) s = Opens (saidBy t s) (elementIn 1 (t .name) s) ∷ Closes (elementIn 1 (t .name) s) ∷ []
+signsBy (End n e) s = Closes (elementIn 2 n s) ∷ []
 signsBy (Text white e) s = []
 signsBy (Comment e) s = []
 signsBy (Refused p) s = []
