@@ -41,9 +41,10 @@ fn many_series(size: usize, id: impl Fn(u32) -> String) -> String {
     s + END
 }
 
-/// 34 equal characters of four bytes, and a last one by number, from U+10000 on.
-fn long_id(k: u32) -> String {
-    "\u{10000}".repeat(34) + &char::from_u32(0x10000 + k).expect("a character").to_string()
+/// 35 characters of four bytes, equal but for one by number, from U+10000 on, which has `after` others behind it.
+fn long_id(k: u32, after: usize) -> String {
+    let own = char::from_u32(0x10000 + k).expect("a character").to_string();
+    "\u{10000}".repeat(34 - after) + &own + &"\u{10000}".repeat(after)
 }
 
 /// The front, as much of `fill` as has room, and the back.
@@ -88,7 +89,8 @@ fn root_of(size: usize, prefix: &str) -> String {
 
 pub fn documents(size: usize) -> Vec<(&'static str, Vec<u8>)> {
     let all = vec![
-        ("most series, identifications equal but for the last character", many_series(size, long_id)),
+        ("most series, identifications equal but for the last character", many_series(size, |k| long_id(k, 0))),
+        ("most series, identifications equal but for the last character but one", many_series(size, |k| long_id(k, 1))),
         ("most series, short identifications", many_series(size, |k| format!("{k:04}"))),
         ("most intervals, one series", most_intervals(size)),
         ("a root of xmlns: attributes, in mixed order", root_of(size, "xmlns:")),
