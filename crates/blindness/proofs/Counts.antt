@@ -132,7 +132,7 @@ is-amount : (role p : ℕ) → role ≡ 10 → entryOf role p ≡ Amount
 unfolding entryOf
 is-amount role p h = rw h
 
-untold : (t : Bool) (n : ℕ) (b : Judged) → (n ≡ 0 → ⊥) → cond t (refused n) b .number ≡ 0 → (t ≡ false) × (b .number ≡ 0)
+pub untold : (t : Bool) (n : ℕ) (b : Judged) → (n ≡ 0 → ⊥) → cond t (refused n) b .number ≡ 0 → (t ≡ false) × (b .number ≡ 0)
 untold true n b h e = absurd (h e)
 untold false n b h e = (refl, e)
 

@@ -28,7 +28,7 @@ use Rattle.reader.specs.Items.{Placed, passed}
 use Rattle.reader.specs.Rows.{usedBefore}
 use Rattle.reader.specs.Reading.{Tables, Out, refusedAt, acceptedAt, withoutUsed, stepOf, tablesAfter, readItems}
 use Rattle.reader.specs.Reading.{endedAt as overAt}
-use Rattle.reader.proofs.Ran.{read-next, read-stop}
+use Rattle.reader.proofs.Ran.{read-next, read-stop, still, unreadable}
 use Rattle.trees.specs.Trees.{Sign, Opens, Closes}
 use Rattle.contents.specs.Spelled.{saidBy, elementIn, allowed, AllAllowed}
 use Rattle.contents.proofs.Laid.{Layout, Known, laid}
@@ -36,7 +36,7 @@ use Rattle.contents.proofs.Walk.{Tally, nothing, Ended}
 use Rattle.contents.proofs.Fill.{tablesWith, saidByItem, saidOf, placedBy, placedSigns, stateOf}
 use Rattle.contents.proofs.Signs.{on-row, row-on, Goal, after, bringing, Runs, Opening, Closing, respelled}
 use Rattle.contents.proofs.Rooted.{kind-cases, first-row, no-end, not-over, row-within, row-named, short-ends, ends-row, row-ends}
-use Rattle.contents.proofs.Moved.{Low, low-opened, low-less, tables-inside, tables-still, still, dark-text, unread, step-told, step-in, over-known, Went, Goes, Closed, started-goes, went-starts, ended-goes, went-ends}
+use Rattle.contents.proofs.Moved.{Low, low-opened, low-less, tables-inside, tables-still, dark-text, step-told, step-in, over-known, Went, Goes, Closed, started-goes, went-starts, ended-goes, went-ends}
 
 -- ---- the kinds of items
 
@@ -140,7 +140,7 @@ module _ (doc : List ℕ) (room : Room) (x : Placed) (xs : List Placed) (st : St
   not-unread p e =
       stops 2
       (step-refused 2
-      (ap (λ (i : Item). step st (rowsOf 1) (rowsOf 2) i (x .rest) room) e ∙ unread st (rowsOf 1) (rowsOf 2) p (x .rest) room))
+      (ap (λ (i : Item). step st (rowsOf 1) (rowsOf 2) i (x .rest) room) e ∙ unreadable st (rowsOf 1) (rowsOf 2) p (x .rest) room))
       (λ z. omega (arith, z))
 
 -- ---- where the kind is told

@@ -17,9 +17,10 @@ use Rattle.guideline.specs.Kinds.{hasEnough}
 use Rattle.states.specs.Moves.{countRefusal}
 use Rattle.states.specs.declared.Room.{Room}
 use Rattle.trees.specs.Trees.{Trees, none, element}
+use Rattle.trees.proofs.Made.{both}
 use Rattle.contents.specs.Said.{Said}
 use Rattle.contents.specs.Legal.{hasRole, those, Period, quartersOf, positionOf, valueFits, elementFits, Each, inTurn, countFits, SeriesFits}
-use Rattle.contents.proofs.Tests.{chosen, other, and-parts, parts-and}
+use Rattle.contents.proofs.Tests.{chosen, other, parts-and}
 use Rattle.contents.proofs.Laid.{Layout}
 use Rattle.contents.proofs.Elements.{Within, within-more, beside, no-role, those-beside, each-beside, each-parts, last-those}
 use Rattle.contents.proofs.Shape.{SeriesShape}
@@ -96,8 +97,8 @@ counted-back kind n quarters e =
     ⊎-elim
     (λ (y : (kind ≡ 1) × (eqb kind 1 ≡ true)).
     let h : leb 92 n && leb n 100 && eqb n quarters ≡ true = rw (y .1) at e in
-    let t = and-parts (leb 92 n && leb n 100) (eqb n quarters) h in
-    let u = and-parts (leb 92 n) (leb n 100) (t .0) in
+    let t = both (leb 92 n && leb n 100) (eqb n quarters) h in
+    let u = both (leb 92 n) (leb n 100) (t .0) in
     (rw (y .1, u .0, t .1) refl, λ _. leb-true n 100 (u .1)))
     (λ (y : (kind ≡ 1 → ⊥) × (eqb kind 1 ≡ false)).
     let h : leb 1 n ≡ true = rw (y .1) at e in

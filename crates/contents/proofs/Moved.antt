@@ -7,11 +7,10 @@ use mathlib.Core.Logic.{⊎-elim}
 use native.Mathlib.Omega.{arith}
 use lib.Dec.{eqb}
 use lib.ListN.{getD}
-use Rattle.lists.proofs.Cases.{bool-cases, by-cond, eqb-cases, zero-not-one}
+use Rattle.lists.proofs.Cases.{bool-cases, by-cond, eqb-cases}
 use Rattle.items.specs.declared.Tag.{Tag}
 use Rattle.items.specs.declared.Item.{Item}
-use Rattle.items.specs.declared.Item.the-variants.{Start, Empty, End, Text, Comment}
-use Rattle.items.specs.declared.Item.the-variants.{Refused as Unreadable}
+use Rattle.items.specs.declared.Item.the-variants.{Text}
 use Rattle.structure.specs.Rows.{startOf, endOf, overOf}
 use Rattle.structure.specs.declared.Due.{Due}
 use Rattle.structure.specs.declared.Due.the-variants.{Row, NotDue}
@@ -24,7 +23,7 @@ use Rattle.states.specs.declared.Entry.{Entry}
 use Rattle.states.specs.declared.Entry.the-variants.{Nothing, Series, Identification, Object, BusinessType, Interval, Position, Amount}
 use Rattle.states.specs.declared.Step.{Step}
 use Rattle.states.specs.declared.Step.the-variants.{Next, Refused}
-use Rattle.reader.specs.Items.{Placed, passed}
+use Rattle.reader.specs.Items.{Placed}
 use Rattle.reader.specs.Rows.{spanOf, seriesAfter, positionsAfter, amountsAfter, usedBefore}
 use Rattle.reader.specs.Reading.{Tables, refusedAt, acceptedAt, withoutUsed, tablesAfter}
 use Rattle.reader.specs.Reading.{endedAt as overAt}
@@ -88,24 +87,11 @@ pub tables-still : (x : Placed) (st : State) (t : Tables) → tablesAfter x st N
 unfolding tablesAfter seriesAfter positionsAfter amountsAfter
 tables-still x st t = refl
 
--- ---- an item that moves nothing, and one that may not stand in a document
-
-pub still : (st : State) (one two : List ℕ) (x : Item) → passed x ≡ true → (s : List ℕ) (room : Room) → step st one two x s room ≡ Next st Nothing
-unfolding step stepOn moved passed
-still st one two (Start t) w s room = absurd (zero-not-one (cc))
-still st one two (Empty t) w s room = absurd (zero-not-one (cc))
-still st one two (End n e) w s room = absurd (zero-not-one (cc))
-still st one two (Text white e) w s room = rw w (by-cond (λ (y : Step). y ≡ Next st Nothing) (eqb (kindTold st (Text true e) s) 1) refl refl)
-still st one two (Comment e) w s room = by-cond (λ (y : Step). y ≡ Next st Nothing) (eqb (kindTold st (Comment e) s) 1) refl refl
-still st one two (Unreadable p) w s room = absurd (zero-not-one (cc))
+-- ---- an item that may not stand in a document
 
 pub dark-text : (st : State) (one two : List ℕ) (e : ℕ) (s : List ℕ) (room : Room) → step st one two (Text false e) s room ≡ Refused 3
 unfolding step stepOn moved
 dark-text st one two e s room = by-cond (λ (y : Step). y ≡ Refused 3) (eqb (kindTold st (Text false e) s) 1) refl refl
-
-pub unread : (st : State) (one two : List ℕ) (p : ℕ) (s : List ℕ) (room : Room) → step st one two (Unreadable p) s room ≡ Refused 2
-unfolding step stepOn moved
-unread st one two p s room = by-cond (λ (y : Step). y ≡ Refused 2) (eqb (kindTold st (Unreadable p) s) 1) refl refl
 
 -- ---- the rows that are looked at
 

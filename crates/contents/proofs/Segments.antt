@@ -15,9 +15,10 @@ use Rattle.guideline.specs.Columns.{formOf, roleOf}
 use Rattle.guideline.specs.Kinds.{takesAnother}
 use Rattle.states.specs.declared.Room.{Room}
 use Rattle.trees.specs.Trees.{Trees, none, element}
+use Rattle.trees.proofs.Made.{both}
 use Rattle.contents.specs.Said.{Said}
 use Rattle.contents.specs.Legal.{hasRole, those, Period, quartersOf, positionOf, elementFits, inTurn, Each}
-use Rattle.contents.proofs.Tests.{chosen, other, parts-and, and-parts}
+use Rattle.contents.proofs.Tests.{chosen, other, parts-and}
 use Rattle.contents.proofs.Elements.{Within, within-more, length-element, unit}
 use Rattle.contents.proofs.Walk.{Tally, opened, walked, Taken, Passes}
 use Rattle.contents.proofs.Tallies.{turn-append, invariant, intervals-walked, first-walked, last-walked, one-or-none}
@@ -87,15 +88,15 @@ module _ (rows : List ℕ) (kind n : ℕ) (q : ℕ) (s : Said) (inner after : Tr
       ⊎-elim
       (λ (z : (roleOf w ≡ 9) × (eqb (roleOf w) 9 ≡ true)).
       let f = ap (λ l. inTurn kind n (y .last) (map positionOf l)) (sym (chosen (s ∷ (is ++ js)) (is ++ js) (z .1))) ∙ e in
-      let g = and-parts (positionFits kind n (y .last) (positionOf s)) (inTurn kind n (positionOf s) (map positionOf (is ++ js))) f in
+      let g = both (positionFits kind n (y .last) (positionOf s)) (inTurn kind n (positionOf s) (map positionOf (is ++ js))) f in
       let u : y₁ .last ≡ positionOf s = last-opened ∙ chosen (positionOf s) (y .last) (z .1) in
-      let h = and-parts (inTurn kind n (y₁ .last) (map positionOf is)) (inTurn kind n (walked rows inner y₁ .last) (map positionOf js))
+      let h = both (inTurn kind n (y₁ .last) (map positionOf is)) (inTurn kind n (walked rows inner y₁ .last) (map positionOf js))
       (sym after-own ∙ ap (λ l. inTurn kind n l (map positionOf (is ++ js))) u ∙ g .1) in
       ((λ _. g .0), h .0, h .1))
       (λ (z : (roleOf w ≡ 9 → ⊥) × (eqb (roleOf w) 9 ≡ false)).
       let f = ap (λ l. inTurn kind n (y .last) (map positionOf l)) (sym (other (s ∷ (is ++ js)) (is ++ js) (z .1))) ∙ e in
       let u : y₁ .last ≡ y .last = last-opened ∙ other (positionOf s) (y .last) (z .1) in
-      let h = and-parts (inTurn kind n (y₁ .last) (map positionOf is)) (inTurn kind n (walked rows inner y₁ .last) (map positionOf js))
+      let h = both (inTurn kind n (y₁ .last) (map positionOf is)) (inTurn kind n (walked rows inner y₁ .last) (map positionOf js))
       (sym after-own ∙ ap (λ l. inTurn kind n l (map positionOf (is ++ js))) u ∙ f) in
       ((λ r. absurd (z .0 r)), h .0, h .1))
       (eqb-cases (roleOf w) 9)

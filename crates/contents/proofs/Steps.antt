@@ -31,11 +31,11 @@ use Rattle.states.specs.Attributes.{attributesFit as tagFits}
 use Rattle.states.specs.Moves.{heldOf, cutShort, tooMany, noRoom, halfOriginals, valuesJudged, judgedAt, startJudged, placed, oneSeries, oneInterval, oneOriginal, lastPos, covering, kept, entered, entryOf, closedAt, endRefusal}
 use Rattle.states.specs.declared.State.{State}
 use Rattle.states.specs.declared.Room.{Room}
-use Rattle.blindness.proofs.Counts.{one-more}
+use Rattle.blindness.proofs.Counts.{one-more, untold}
+use Rattle.trees.proofs.Made.{both}
 use Rattle.contents.specs.Said.{Said, bytes}
 use Rattle.contents.specs.Spelled.{saidBy}
 use Rattle.contents.specs.Legal.{periodBy, quartersOf, positionBy, positionOf, sayings, attributesAgree, schemeFits, valueFits, elementFits}
-use Rattle.contents.proofs.Tests.{and-parts}
 use Rattle.contents.proofs.Laid.{Layout}
 use Rattle.contents.proofs.Walk.{Tally, quartersIn, opened, Taken, Ended}
 use Rattle.contents.proofs.Fill.{stateOf}
@@ -219,10 +219,6 @@ whole-originals x role f =
     (λ y. rw (y .1))
     (eqb-cases role 3)
 
-past : (t : Bool) (n : ℕ) (b : Judged) → (n ≡ 0 → ⊥) → cond t (refused n) b .number ≡ 0 → (t ≡ false) × (b .number ≡ 0)
-past true n b h e = absurd (h e)
-past false n b h e = (refl, e)
-
 -- every test that comes before the values
 record Clear (x : State) (kind : ℕ) (rows : List ℕ) (q : ℕ) (t : Tag) (empty : Bool) (room : Room) : Type 0 where
   whole : cutShort empty rows q ≡ false
@@ -243,11 +239,11 @@ module _ (x : State) (kind : ℕ) (rows : List ℕ) (q : ℕ) (t : Tag) (s : Lis
       let values = valuesJudged x kind w t s in
       let last = cond (tagFits w t) values (refused 5) in
       let roomy = cond (noRoom x (roleOf w) room) (refused 4) last in
-      let a = past (cutShort empty rows q) 3 (cond (tooMany x (roleOf w) kind) (refused 3) roomy) (λ z. omega (arith, z)) h in
-      let b = past (tooMany x (roleOf w) kind) 3 roomy (λ z. omega (arith, z)) (a .1) in
-      let c = past (noRoom x (roleOf w) room) 4 last (λ z. omega (arith, z)) (b .1) in
+      let a = untold (cutShort empty rows q) 3 (cond (tooMany x (roleOf w) kind) (refused 3) roomy) (λ z. omega (arith, z)) h in
+      let b = untold (tooMany x (roleOf w) kind) 3 roomy (λ z. omega (arith, z)) (a .1) in
+      let c = untold (noRoom x (roleOf w) room) 4 last (λ z. omega (arith, z)) (b .1) in
       let d : (tagFits w t ≡ true) × (values .number ≡ 0) = fitting (tagFits w t) values (c .1) in
-      let e = past (halfOriginals x (roleOf w)) 8 (judgeTag w t (heldOf x kind) s) (λ z. omega (arith, z)) (d .1) in
+      let e = untold (halfOriginals x (roleOf w)) 8 (judgeTag w t (heldOf x kind) s) (λ z. omega (arith, z)) (d .1) in
       record { whole = a .0; few = b .0; free = c .0; attributes = d .0; originals = e .0 }
     where
       fitting : (f : Bool) (j : Judged) → cond f j (refused 5) .number ≡ 0 → (f ≡ true) × (j .number ≡ 0)
@@ -304,7 +300,7 @@ module _ (kind k₀ r : ℕ) (o : Bool) (y : Tally) (w : ℕ) (u : Said) where
         (λ (e : (formOf w ≡ 9) × (eqb (formOf w) 9 ≡ true)).
         let g = pos-row (e .0) in
         let f : formOf w ≡ 0 → ⊥ = λ z. omega (arith, z, e .0) in
-        let a = and-parts (schemeFits w u) (eqb (valueJudged .number) 0) (sym (value-alone (eqb (valueJudged .number) 0) (g .1) f) ∙ h) in
+        let a = both (schemeFits w u) (eqb (valueJudged .number) 0) (sym (value-alone (eqb (valueJudged .number) 0) (g .1) f) ∙ h) in
         (value-alone (valueFits kind (y .period) w u) (g .1) f ∙ rw (a .0, pos-fits (e .0)), λ z. sym (pos-turn (e .0) (g .0)) ∙ a .1))
         (λ (e : (formOf w ≡ 9 → ⊥) × (eqb (formOf w) 9 ≡ false)). (rw (other-fits (e .0)) h, λ z. absurd (e .0 z)))
         (eqb-cases (formOf w) 9)
@@ -317,7 +313,7 @@ module _ (kind k₀ r : ℕ) (o : Bool) (y : Tally) (w : ℕ) (u : Said) where
         (λ (e : (formOf w ≡ 9) × (eqb (formOf w) 9 ≡ true)).
         let g = pos-row (e .0) in
         let f : formOf w ≡ 0 → ⊥ = λ z. omega (arith, z, e .0) in
-        let a = and-parts (schemeFits w u) (valueFits kind (y .period) w u) (sym (value-alone (valueFits kind (y .period) w u) (g .1) f) ∙ h) in
+        let a = both (schemeFits w u) (valueFits kind (y .period) w u) (sym (value-alone (valueFits kind (y .period) w u) (g .1) f) ∙ h) in
         value-alone (eqb (valueJudged .number) 0) (g .1) f ∙ rw (a .0, pos-turn (e .0) (g .0)) (turn (e .0)))
         (λ (e : (formOf w ≡ 9 → ⊥) × (eqb (formOf w) 9 ≡ false)). rw (← other-fits (e .0)) h)
         (eqb-cases (formOf w) 9)
@@ -473,7 +469,7 @@ module _ (kind : ℕ) (rows : List ℕ) (p : ℕ) (L : Layout rows p) (room : Ro
     module _ (t : Taken kind room row said y) (whole : cutShort empty rows q ≡ false) where
       taken-fits : (attributesAgree row said ≡ true) × (valuesFit row said (valueFits kind (y .period) row said) ≡ true)
       unfolding elementFits
-      taken-fits = and-parts (attributesAgree row said) (valuesFit row said (valueFits kind (y .period) row said)) (t .fits)
+      taken-fits = both (attributesAgree row said) (valuesFit row said (valueFits kind (y .period) row said)) (t .fits)
 
       taken-values : verdict ≡ values
       unfolding stateOf
@@ -506,7 +502,7 @@ module _ (kind : ℕ) (rows : List ℕ) (p : ℕ) (L : Layout rows p) (room : Ro
           let f : formOf row ≡ 0 → ⊥ = λ z. omega (arith, z, e) in
           let v = valueJudged kind k₀ r o y row said in
           let d = period-judged kind k₀ r o y row said e (g .0) in
-          let a = and-parts (schemeFits row said) (eqb (v .number) 0) (sym (value-alone kind k₀ r o y row said (eqb (v .number) 0) (g .1 .root) f) ∙ taken-value) in
+          let a = both (schemeFits row said) (eqb (v .number) 0) (sym (value-alone kind k₀ r o y row said (eqb (v .number) 0) (g .1 .root) f) ∙ taken-value) in
           let k = value-kept kind k₀ r o y row said (g .1 .root) f in
           let l = period-kept kind (interval (says (bytes (said .v)))) (ap (λ (j : Judged). j .number) (sym d) ∙ eqb-true (v .number) 0 (a .1)) in (
             ap (λ (j : Judged). j .first) taken-values ∙ k .0 ∙ ap (λ (j : Judged). j .first) d ∙ l .0,

@@ -50,7 +50,8 @@ blank-room : (ns np na : ℕ) → roomIn (blank ns np na) ≡ roomOf ns np na
 unfolding roomIn blank
 blank-room ns np na = rw (length-replicate {A = ℕ} ns 0, length-replicate {A = ℕ} np 0, length-replicate na (pos 0)) refl
 
-room-cells : (ns np na n m : ℕ) → n ≤ roomOf ns np na .series → m ≤ roomOf ns np na .intervals → (8 * n ≤ ns) × (m ≤ np) × (m ≤ na)
+-- room for rows is room for their cells
+pub room-cells : (ns np na n m : ℕ) → n ≤ roomOf ns np na .series → m ≤ roomOf ns np na .intervals → (8 * n ≤ ns) × (m ≤ np) × (m ≤ na)
 unfolding roomOf
 room-cells ns np na n m a b =
     ⊎-elim

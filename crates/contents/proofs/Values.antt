@@ -15,10 +15,10 @@ use Rattle.states.specs.Attributes.{there, agree, asksV, asksScheme, noOthers}
 use Rattle.reader.specs.Items.{Placed}
 use Rattle.reader.specs.Rows.{spanOf, quoted}
 use Rattle.trees.specs.Trees.{Trees, none, element}
+use Rattle.trees.proofs.Made.{both}
 use Rattle.contents.specs.Said.{Absent, Given, Said, given, bytes}
 use Rattle.contents.specs.Spelled.{valueIn, saidBy}
 use Rattle.contents.specs.Legal.{hasRole, Period, attributesAgree, elementFits, Each}
-use Rattle.contents.proofs.Tests.{and-parts}
 use Rattle.contents.proofs.Fill.{saidByItem, saidOf, saying}
 
 -- ---- the attributes of a tag
@@ -76,7 +76,7 @@ asked-given w s e a =
     let v = agree (asksV w) (given (s .v)) in
     let scheme = agree (asksScheme w) (given (s .scheme)) in
     let version = agree (hasRole isRoot w) (given (s .version)) in
-    let k = and-parts v scheme (and-parts (v && scheme) version (and-parts (v && scheme && version) (noOthers w (s .others) (s .passable)) e .0) .0) .0 in
+    let k = both v scheme (both (v && scheme) version (both (v && scheme && version) (noOthers w (s .others) (s .passable)) e .0) .0) .0 in
     asked-there (asksV w) (given (s .v)) k a
 
 given-item : (x : Item) (s : List ℕ) → given (saidByItem x s .v) ≡ true → there (spanOf x) ≡ true
@@ -92,7 +92,7 @@ pub each-given : (kind : ℕ) (q : Period) (rows : List ℕ) (kids : Trees Place
 unfolding Each HasValues saying elementFits
 each-given kind q rows none e = tt
 each-given kind q rows (element r x inner after) e = (
-  (λ a. given-item (x .item) (x .rest) (asked-given (getD rows r 0) (saidOf x) (and-parts (attributesAgree (getD rows r 0) (saidOf x)) _ (e .0) .0) a)),
+  (λ a. given-item (x .item) (x .rest) (asked-given (getD rows r 0) (saidOf x) (both (attributesAgree (getD rows r 0) (saidOf x)) _ (e .0) .0) a)),
   each-given kind q rows inner (e .1),
   each-given kind q rows after (e .2),
 )

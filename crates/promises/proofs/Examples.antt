@@ -1,5 +1,8 @@
 -- The table of examples and the accepted Kostenblatt, by computation: every definition on the way is unfolded. Assumes nothing.
-use mathlib.Core.Path.{_≡_, refl}
+use Prim.Native.Nat.{ℕ, _≤_}
+use mathlib.Core.Path.{_≡_, refl, ap}
+use native.Mathlib.Omega.{arith}
+use lib.ListN.{length}
 use Rattle.slices.specs.Bytes.{byte}
 use Rattle.slices.specs.Run.{run}
 use Rattle.slices.specs.Same.{same, begins}
@@ -35,10 +38,16 @@ use Rattle.notes.specs.Note.{groupsIn, flat, wrote, left}
 use Rattle.reader.specs.Items.{itemsAfter, itemsFrom}
 use Rattle.reader.specs.Rows.{quoted, cell, withView, thousandthsOf, identificationAt, used, spanOf, seriesAfter, positionsAfter, amountsAfter, usedBefore}
 use Rattle.reader.specs.Reading.{acceptedAt, blank, roomOf, refusedAt, endedAt, withoutUsed, stepOf, tablesAfter, readItems, roomIn, itemsRead, readAfter, readInto, orBlank, readSheet}
-use Rattle.reader.specs.Answer.{noteFor, answerOf, told, noted, readOf}
+use Rattle.reader.specs.Answer.{Outcome, noteFor, answerOf, told, noted, readOf}
 use mathlib.Core.Bool.{true}
 use Rattle.promises.specs.Examples.{examples, allPass}
 use Rattle.promises.specs.Sheet.{sheet, sheetOutcome}
+use Rattle.trees.specs.Trees.{Trees}
+use Rattle.contents.specs.Said.{Said}
+use Rattle.contents.specs.Spelled.{Spells}
+use Rattle.contents.specs.Legal.{Legal, HasRoom}
+use Rattle.contents.proofs.Theorems.{accepted-legal}
+use Rattle.promises.proofs.Answers.{accepted-whole}
 
 computed : (allPass examples ≡ true) × (readOf sheet 17 4 4 16 ≡ sheetOutcome)
 unfolding byte run same begins walk seqLen control single charAt saidBy saidAt saysAfter says nameStart nameByte white quote fit valueNext valueOver
@@ -64,3 +73,16 @@ examples-pass = computed .0
 
 pub sheet-read : readOf sheet 17 4 4 16 ≡ sheetOutcome
 sheet-read = computed .1
+
+sheet-accepted : readOf sheet 17 4 4 16 .answer .refusal ≡ 0
+sheet-accepted = ap (λ (o : Outcome). o .answer .refusal) sheet-read
+
+sheet-short : length sheet ≤ 1048576
+sheet-short =
+    let p : readOf sheet 17 4 4 16 .answer .place ≡ 1308 = ap (λ (o : Outcome). o .answer .place) sheet-read in
+    let l = accepted-whole sheet 17 4 4 16 sheet-accepted in
+    omega (arith, p, l)
+
+-- it spells a legal content
+pub sheet-content : (kind : ℕ) × (c : Trees Said) × Spells sheet kind c × Legal kind c × HasRoom (roomOf 17 4 4) kind c
+sheet-content = accepted-legal sheet 17 4 4 16 (omega arith) sheet-short sheet-accepted

@@ -31,7 +31,7 @@ use Rattle.promises.specs.Items.{before, starts, kindIn, seriesElement, 
 use Rattle.promises.specs.Examples.{examples, allPass}
 use Rattle.promises.specs.Sheet.{sheet, sheetOutcome}
 use Rattle.promises.proofs.Answers.{ten-is, ten-only, long-is, long-only, refusal-clears, refusal-known, place-within, place-told, accepted-whole, counts-within, cells-past, rows-kept, counts-told, note-told}
-use Rattle.promises.proofs.Examples.{examples-pass, sheet-read}
+use Rattle.promises.proofs.Examples.{examples-pass, sheet-read, sheet-content}
 
 -- "P1 to P12 form a single table with a single proved statement."
 pub the-examples : allPass examples ≡ true
@@ -111,6 +111,10 @@ module _ (doc : List ℕ) (ns np na nb : ℕ) where
       → (outcome .answer .refusal ≡ 0 → (kind : ℕ) × (c : Trees Said) × Spells doc kind c × Legal kind c × HasRoom (roomOf ns np na) kind c)
       × ((kind : ℕ) (c : Trees Said) → Spells doc kind c → Legal kind c → HasRoom (roomOf ns np na) kind c → Tells doc outcome kind c)
   accepted-exactly wide small = (accepted-legal doc ns np na nb wide small, legal-accepted doc ns np na nb wide small)
+
+-- and there is one: the content of the sheet above
+pub a-content : (kind : ℕ) × (c : Trees Said) × Spells sheet kind c × Legal kind c × HasRoom (roomOf 17 4 4) kind c
+a-content = sheet-content
 
 -- a document spells one legal content at most, so that its content is unambiguous
 pub content-alone : (doc : List ℕ) (kind other : ℕ) (c d : Trees Said) → Spells doc kind c → Spells doc other d → Legal kind c → Legal other d

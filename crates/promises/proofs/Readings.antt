@@ -1,5 +1,5 @@
 -- What holds of what was found in a document and of the tables, by induction over its items. Assumes nothing.
-use Prim.Native.Nat.{ℕ, zero, suc, pred, _+_, _-_, _/_, _≤_, _<_}
+use Prim.Native.Nat.{ℕ, zero, suc, pred, _+_, _-_, _≤_, _<_}
 use mathlib.Core.Path.{_≡_, refl, sym, subst}
 use mathlib.Core.List.{List, [], _∷_}
 use mathlib.Core.Bool.{Bool, true, false, cond}
@@ -29,6 +29,7 @@ use Rattle.reader.specs.Items.{Placed, placed, itemsAfter, itemsFrom}
 use Rattle.reader.specs.Rows.{spanOf, usedBefore}
 use Rattle.reader.specs.Reading.{Tables, Out, blank, roomOf, roomIn, refusedAt, acceptedAt, endedAt, withoutUsed, stepOf, tablesAfter, readItems, itemsRead, readAfter, readInto, orBlank, readSheet}
 use Rattle.reader.proofs.Ran.{read-next, read-stop, items-over}
+use Rattle.contents.proofs.Theorems.{room-cells}
 use Rattle.promises.specs.Rows.{ZeroPast, InRoom, Sized}
 use Rattle.promises.proofs.Refusals.{Given, given-small, given-not-one}
 use Rattle.promises.proofs.Steps.{Sound, Housed, Stepped, Rises, step-rises, begun-sound, begun-housed}
@@ -276,18 +277,9 @@ module _ (doc : List ℕ) (ns np na : ℕ) where
 
 -- "Room for series is the table length divided by 8, rounded down. .. room is the shorter length."
 room-holds : (ns np na series intervals : ℕ) → series ≤ roomOf ns np na .series → intervals ≤ roomOf ns np na .intervals → InRoom ns np na series intervals
-unfolding roomOf
 room-holds ns np na series intervals a b =
-    ⊎-elim
-    (λ (y : (np ≤ na) × (leb np na ≡ true)).
-    let c : series ≤ ns / 8 = rw (y .1) at a in
-    let d : intervals ≤ np = rw (y .1) at b in
-    record { series-rows = omega arith; position-rows = d; amount-rows = omega (arith, y .0) })
-    (λ (y : (na < np) × (leb np na ≡ false)).
-    let c : series ≤ ns / 8 = rw (y .1) at a in
-    let d : intervals ≤ na = rw (y .1) at b in
-    record { series-rows = omega arith; position-rows = omega (arith, y .0); amount-rows = d })
-    (leb-cases np na)
+    let c = room-cells ns np na series intervals a b in
+    record { series-rows = c .0; position-rows = c .1; amount-rows = c .2 }
 
 pub sheet-room : (doc : List ℕ) (ns np na : ℕ)
     → InRoom ns np na (readSheet doc ns np na .found .series) (readSheet doc ns np na .found .intervals)

@@ -87,12 +87,12 @@ module _ (doc : List ℕ) (from : ℕ) (t : Tables) where
   ran-start e1 e2 er es =
       record { ones = e1; twos = e2; rooms = er; ser-same = refl; pos-same = refl; ams-same = refl; left = rw es refl }
 
-unreadable : (st : State) (one two : List ℕ) (p : ℕ) (s : List ℕ) (room : Room) → step st one two (Unreadable p) s room ≡ Refused 2
+pub unreadable : (st : State) (one two : List ℕ) (p : ℕ) (s : List ℕ) (room : Room) → step st one two (Unreadable p) s room ≡ Refused 2
 unfolding step stepOn moved
 unreadable st one two p s room =
     by-cond (λ (y : Step). y ≡ Refused 2) (eqb (kindTold st (Unreadable p) s) 1) refl refl
 
-still : (st : State) (one two : List ℕ) (x : Item) → passed x ≡ true → (s : List ℕ) (room : Room) → step st one two x s room ≡ Next st Nothing
+pub still : (st : State) (one two : List ℕ) (x : Item) → passed x ≡ true → (s : List ℕ) (room : Room) → step st one two x s room ≡ Next st Nothing
 unfolding step stepOn moved passed
 still st one two (Start t) w s room = never w
 still st one two (Empty t) w s room = never w

@@ -36,7 +36,7 @@ pub record Made (t : List ℕ) : Type 0 where
   pub before : (i : ℕ) → 0 < i → i < length t → parentOf (getD t i 0) < i
   pub apart : (i j : ℕ) → 0 < i → i < j → j < length t → Apart t i j
 
-both : (a b : Bool) → a && b ≡ true → (a ≡ true) × (b ≡ true)
+pub both : (a b : Bool) → a && b ≡ true → (a ≡ true) × (b ≡ true)
 both true true e = (refl, refl)
 both true false e = absurd (zero-not-one (cc))
 both false true e = absurd (zero-not-one (cc))
