@@ -1,28 +1,26 @@
 -- The shortest form of `v`, and `>` or `/>` with nothing before it, are the pieces that `piece` tells. Assumes nothing.
-use Prim.Native.Nat.{ℕ, zero, suc, _+_, _-_, _≤_, _<_}
+use Prim.Native.Nat.{ℕ, suc, _+_, _-_, _≤_, _<_}
 use mathlib.Core.Path.{_≡_, refl, sym, ap, _∙_}
 use mathlib.Core.List.{List, [], _∷_}
-use mathlib.Core.Bool.{Bool, true, false, cond}
+use mathlib.Core.Bool.{true, false}
 use mathlib.Core.Logic.{⊎-elim}
 use native.Mathlib.Omega.{arith}
-use lib.Dec.{leb, ltb, eqb}
-use lib.ListN.{length, getD, drop, take, List·getD-eq-default, length-drop}
+use lib.Dec.{eqb}
+use lib.ListN.{length, drop, take, List·getD-eq-default}
 use lib.Seq.{getD-drop}
 use borrow.Author.Tests.{le-leb, ne-eqb, eqb-true}
 use Rattle.lists.proofs.Cases.{bool-cases, leb-cases, ltb-cases, eqb-cases, never, both-true}
 use Rattle.slices.specs.Bytes.{byte}
 use Rattle.slices.specs.Run.{run}
 use Rattle.slices.specs.Text.{text}
-use Rattle.slices.specs.Walk.{Step, go, stop, walk}
-use Rattle.slices.proofs.Runs.{run-cons}
+use Rattle.slices.specs.Walk.{go, stop, walk}
+use Rattle.slices.proofs.Runs.{run-by}
 use Rattle.characters.specs.Utf8.{control, single, charAt}
 use Rattle.characters.proofs.Ascii.{char-ascii}
 use Rattle.attributes.specs.Names.{nameStart, nameByte, white}
 use Rattle.attributes.specs.Attribute.{quote, fit, valueNext, valueOver, value, openingFrom, opening, attributeEnd, attributeQuote, attributeName, attribute, pieceAfter, piece, partOf}
-use Rattle.attributes.specs.declared.Value.{Value}
-use Rattle.attributes.specs.declared.Value.the-variants.{Long, Broken}
-use Rattle.attributes.specs.declared.Piece.{Piece}
-use Rattle.attributes.specs.declared.Piece.the-variants.{Attribute, Close, CloseEmpty, Torn}
+use Rattle.attributes.specs.declared.Value.the-variants.{Long}
+use Rattle.attributes.specs.declared.Piece.the-variants.{Attribute, Close, CloseEmpty}
 use Rattle.attributes.specs.Short.{common, opensV, vUpto, vLen}
 
 -- a byte that is not 0 is there
@@ -68,11 +66,11 @@ common-value (b ∷ t) at e =
     ⊎-elim
     (λ y.
     let i = common-in b y in
-    let n : run common (b ∷ t) ≡ suc (run common t) = run-cons common b t ∙ ap (λ (x : Bool). cond x (suc (run common t)) 0) y in
+    let n : run common (b ∷ t) ≡ suc (run common t) = run-by common b t y in
     let step : valueNext 0x22 at (charAt (b ∷ t)) ≡ go 1 (at + 1) = ap (valueNext 0x22 at) (char-ascii (b ∷ t) (i .1)) ∙ common-step at b y in
     rw (walk, step) (common-value t (at + 1) (rw n at e) ∙ ap Long (rw n (omega arith))))
     (λ d.
-    let n : run common (b ∷ t) ≡ 0 = run-cons common b t ∙ ap (λ (x : Bool). cond x (suc (run common t)) 0) d in
+    let n : run common (b ∷ t) ≡ 0 = run-by common b t d in
     let q : b ≡ 0x22 = rw n at e in
     let step : valueNext 0x22 at (charAt (b ∷ t)) ≡ stop (Long at) =
     ap (valueNext 0x22 at) (char-ascii (b ∷ t) (omega (arith, q)) ∙ ap single q) ∙ quote-step at in

@@ -1,24 +1,21 @@
 -- The steps of a value: a byte below 80 that is looked at as it stands, and a character of several bytes. Assumes nothing.
-use Prim.Native.Nat.{ℕ, _+_, _-_, _≤_, _<_}
-use mathlib.Core.Path.{_≡_, refl, sym, ap, _∙_}
+use Prim.Native.Nat.{ℕ, _+_, _-_, _<_}
+use mathlib.Core.Path.{_≡_, sym, ap, _∙_}
 use mathlib.Core.List.{List}
 use mathlib.Core.Bool.{Bool, true, false, cond}
 use mathlib.Core.Logic.{⊎-elim}
 use native.Mathlib.Omega.{arith}
-use lib.Dec.{eqb, ltb, leb}
+use lib.Dec.{eqb}
 use lib.ListN.{length, take, drop, getD}
 use lib.Seq.{drop-cons}
 use borrow.Author.Tests.{le-leb, lt-leb, ne-eqb}
 use Rattle.lists.proofs.Cases.{ltb-cases, eqb-cases, never}
 use Rattle.slices.specs.Bytes.{byte}
-use Rattle.slices.specs.Walk.{Step, go, stop}
+use Rattle.slices.specs.Walk.{go, stop}
 use Rattle.lists.proofs.Loans.{rest-part}
 use Rattle.characters.specs.Utf8.{control, single, charAt}
-use Rattle.characters.specs.declared.Char.{Char}
-use Rattle.characters.specs.declared.Char.the-variants.{Is, NoChar}
 use Rattle.characters.proofs.Ascii.{char-ascii}
 use Rattle.attributes.specs.Attribute.{fit, plain, valueNext}
-use Rattle.attributes.specs.declared.Value.{Value}
 use Rattle.attributes.specs.declared.Value.the-variants.{Long, Broken}
 
 -- what a byte below 80 comes to

@@ -7,7 +7,7 @@ use mathlib.Core.Logic.{⊎-elim}
 use native.Mathlib.Omega.{arith}
 use lib.Dec.{eqb, ltb}
 use lib.ListN.{length, getD}
-use borrow.Author.Tests.{eq-eqb, ne-eqb, lt-ltb, eqb-true, leb-false, not-true}
+use borrow.Author.Tests.{eq-eqb, ne-eqb, lt-ltb, eqb-true, not-true}
 use Rattle.lists.proofs.Cases.{bool-cases, by-cond, eqb-cases, zero-not-one}
 use Rattle.slices.specs.Same.{same}
 use Rattle.slices.proofs.Sames.{same-equal}
@@ -25,16 +25,15 @@ use Rattle.structure.proofs.Means.{start-means, end-means}
 use Rattle.guideline.specs.Columns.{formOf, roleOf}
 use Rattle.guideline.specs.Kinds.{kindOf}
 use Rattle.guideline.specs.Rows.{beschaffungsanforderung, kostenblatt, rowsOf}
-use Rattle.rules.specs.Rules.{refused}
 use Rattle.rules.specs.declared.Judged.{Judged}
-use Rattle.states.specs.Attributes.{attributesFit}
-use Rattle.states.specs.Moves.{begun, oneMore, cutShort, tooMany, noRoom, valuesJudged, judgedAt, startJudged, placed, oneSeries, oneInterval, oneOriginal, lastPos, covering, kept, entered, entryOf, startedBy, startedAt, started, closedAt, endRefusal, endedAt, ended, moved, rootKind, kindTold, stepOn, step}
+use Rattle.states.specs.Moves.{begun, oneMore, cutShort, startJudged, placed, oneSeries, oneInterval, oneOriginal, lastPos, covering, kept, entered, entryOf, startedBy, startedAt, started, closedAt, endRefusal, endedAt, ended, moved, rootKind, kindTold, stepOn, step}
 use Rattle.states.specs.declared.State.{State}
 use Rattle.states.specs.declared.Room.{Room}
 use Rattle.states.specs.declared.Entry.{Entry}
 use Rattle.states.specs.declared.Entry.the-variants.{Nothing, Amount}
 use Rattle.states.specs.declared.Step.{Step}
 use Rattle.states.specs.declared.Step.the-variants.{Next, Refused}
+use Rattle.states.proofs.Judgements.{judged-passed, interval-room}
 use Rattle.blindness.specs.Readable.{namedQty}
 use Rattle.blindness.proofs.Steps.{row-named, row-role}
 use Rattle.blindness.proofs.Tables.{allBelow, below, where-true, waits, due, tested, one-tested, two-tested, waits-other, start-due, row-facts, end-waits}
@@ -132,30 +131,10 @@ is-amount : (role p : ℕ) → role ≡ 10 → entryOf role p ≡ Amount
 unfolding entryOf
 is-amount role p h = rw h
 
-pub untold : (t : Bool) (n : ℕ) (b : Judged) → (n ≡ 0 → ⊥) → cond t (refused n) b .number ≡ 0 → (t ≡ false) × (b .number ≡ 0)
-untold true n b h e = absurd (h e)
-untold false n b h e = (refl, e)
-
--- a tag that is not refused passed the tests
-pub judged-zero : (x : State) (kind : ℕ) (rows : List ℕ) (r : ℕ) (t : Tag) (s : List ℕ) (empty : Bool) (room : Room)
-    → startJudged x kind rows r t s empty room .number ≡ 0 → (cutShort empty rows r ≡ false) × (noRoom x (roleOf (getD rows r 0)) room ≡ false)
-unfolding startJudged judgedAt
-judged-zero x kind rows r t s empty room h =
-    let w = getD rows r 0 in
-    let last = cond (attributesFit w t) (valuesJudged x kind w t s) (refused 5) in
-    let a = untold (cutShort empty rows r) 3 (cond (tooMany x (roleOf w) kind) (refused 3) (cond (noRoom x (roleOf w) room) (refused 4) last)) (λ z. omega arith) h in
-    let b = untold (tooMany x (roleOf w) kind) 3 (cond (noRoom x (roleOf w) room) (refused 4) last) (λ z. omega arith) (a .1) in
-    let d = untold (noRoom x (roleOf w) room) 4 last (λ z. omega arith) (b .1) in
-    (a .0, d .0)
-
 not-short : (empty : Bool) (rows : List ℕ) (r : ℕ) → endsAtOnce rows r ≡ false → cutShort empty rows r ≡ false → not empty ≡ true
 unfolding cutShort
 not-short true rows r e h = let z : _≡_ {A = Bool} true false = rw e at h in absurd (zero-not-one (cc))
 not-short false rows r e h = refl
-
-roomy : (x : State) (role : ℕ) (room : Room) → role ≡ 4 → noRoom x role room ≡ false → x .intervals < room .intervals
-unfolding noRoom
-roomy x role room e h = leb-false (room .intervals) (x .intervals) (rw e at h)
 
 -- ---- the number of a name
 
@@ -284,12 +263,12 @@ module _ (x : State) (kind : ℕ) (room : Room) (c : ℕ)
           let j = startJudged x kind rows q t s empty room in
           ⊎-elim
           (λ y.
-          let g = judged-zero x kind rows q t s empty room (y .0) in
+          let g = judged-passed x kind rows q t s empty room (y .0) in
           rw (y .1)
           (⊎-elim
           (λ h.
-          let p = interval-passed q (root q z) fact b told j (h .0) (roomy x (roleOf w) room (h .0) (g .1)) in
-          rw (kept-interval (placed x kind q (not empty)) w j (h .0), not-short empty rows q (row-facts rows (in-tested kind) q l .whole (h .0)) (g .0)) p)
+          let p = interval-passed q (root q z) fact b told j (h .0) (interval-room x (roleOf w) room (g .free) (h .0)) in
+          rw (kept-interval (placed x kind q (not empty)) w j (h .0), not-short empty rows q (row-facts rows (in-tested kind) q l .whole (h .0)) (g .whole)) p)
           (λ h.
           still-passed q (root q z) fact b told j (not empty) (h .0) (kept (placed x kind q (not empty)) w j) (kept-still (placed x kind q (not empty)) w j (h .0)))
           (eqb-cases (roleOf w) 4)))

@@ -9,7 +9,7 @@ use Rattle.reader.specs.Answer.{readOf}
 use Rattle.reader.specs.declared.Answer.{Answer}
 use Rattle.reader.proofs.Unique.{Permitted}
 use Rattle.blindness.specs.Readable.{DifferInQty}
-use Rattle.blindness.specs.Blind.{SameButAmounts, OwnDigitsDiffer}
+use Rattle.blindness.specs.Blind.{OwnDigitsDiffer}
 use Rattle.blindness.proofs.Blind.{blind}
 
 module _ (x y : List ℕ) (ns np na nb : ℕ) (d : DifferInQty x y) where

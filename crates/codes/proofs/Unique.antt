@@ -7,5 +7,5 @@ use Rattle.characters.specs.Says.{says}
 use Rattle.codes.specs.Lists.{codesOf, listed}
 use Rattle.lists.proofs.Unique.{one}
 
-pub listed-one : (k : ℕ) (v : List ℕ) {r r′ : Bool} → r ≡ listed (codesOf k) (says v) → r′ ≡ listed (codesOf k) (says v) → r ≡ r′
-listed-one k v = one
+pub is-listed-one : (k : ℕ) (v : List ℕ) {r r′ : Bool} → r ≡ listed (codesOf k) (says v) → r′ ≡ listed (codesOf k) (says v) → r ≡ r′
+is-listed-one k v = one

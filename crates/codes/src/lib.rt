@@ -1,13 +1,11 @@
-// Code lists: the number of each, and whether a value is in one. The codes of a list stand in a row with single spaces between them.
+// Code lists: the number of each, and whether a value is in one. The codes of a list are equally long, and stand in a row with single spaces between them.
 use pictures::is_said;
 use slices::front;
 ghost use mathlib.Core.Path.{_≡_};
 ghost use Prim.Native.Nat.{_≤_};
-ghost use lib.ListN.{length};
-ghost use Rattle.slices.specs.Run.{run};
 ghost use Rattle.characters.specs.Says.{says};
 ghost use Rattle.codes.specs.Lists.{listed, codesOf};
-ghost use Rattle.codes.specs.Words.{wordByte, words};
+ghost use Rattle.codes.specs.Words.{words};
 
 const DOCUMENT_TYPE_ONE: usize = 0;
 
@@ -43,35 +41,14 @@ const UNIT_TWO: usize = 15;
 
 const STATUS: usize = 16;
 
-fn is_word_byte(b: u8) -> bool
-    ensures { λ r. ⌜ r ≡ wordByte b ⌝ }
-{
-    if b == 0x20 { false } else { true }
-}
-
-fn word_len(s: &[u8]) -> usize
-    ensures run { λ r. ⌜ r ≡ run wordByte (now (s .entry)) ⌝ }
-    ensures size { λ r. ⌜ r ≤ length (now (s .entry)) ⌝ }
-{
-    let mut i = 0;
-    while i < s.len() {
-        if is_word_byte(s[i]) {
-            i += 1;
-        } else {
-            return i;
-        }
-    }
-    i
-}
-
-// Whether a value is one of the codes in a row.
-fn is_among(codes: &[u8], v: &[u8]) -> bool
-    ensures { λ r. ⌜ r ≡ listed (words (now (codes .entry))) (says (now (v .entry))) ⌝ }
+// Whether a value is one of the codes of n bytes in a row.
+fn is_among(codes: &[u8], n: usize, v: &[u8]) -> bool
+    requires { ⌜ n ≤ 16 ⌝ }
+    ensures { λ r. ⌜ r ≡ listed (words n (now (codes .entry))) (says (now (v .entry))) ⌝ }
 {
     let mut i = 0;
     while i < codes.len() {
         let left = &codes[i..];
-        let n = word_len(left);
         if is_said(front(left, n), v) {
             return true;
         }
@@ -86,26 +63,27 @@ pub fn is_listed(list: usize, v: &[u8]) -> bool
     ensures { λ r. ⌜ r ≡ listed (codesOf list) (says (now (v .entry))) ⌝ }
 {
     match list {
-        DOCUMENT_TYPE_ONE => is_among(b"Z07", v),
-        DOCUMENT_TYPE_TWO => is_among(b"Z05", v),
-        PROCESS_TYPE => is_among(b"A14", v),
-        PARTY_SCHEME => is_among(b"A10 NDE", v),
-        EIC_SCHEME => is_among(b"A01", v),
-        RESOURCE_SCHEME => is_among(b"NDE", v),
-        ROLE => is_among(b"A18 A39", v),
-        SENDER_ROLE_TWO => is_among(b"A18 A27 A39", v),
-        BUSINESS_TYPE_ONE => is_among(b"A02", v),
-        BUSINESS_TYPE_TWO => is_among(b"A01 A04 Z01 Z02 Z03", v),
-        DIRECTION => is_among(b"A01 A02", v),
-        PRODUCT => is_among(b"8716867000016", v),
+        DOCUMENT_TYPE_ONE => is_among(b"Z07", 3, v),
+        DOCUMENT_TYPE_TWO => is_among(b"Z05", 3, v),
+        PROCESS_TYPE => is_among(b"A14", 3, v),
+        PARTY_SCHEME => is_among(b"A10 NDE", 3, v),
+        EIC_SCHEME => is_among(b"A01", 3, v),
+        RESOURCE_SCHEME => is_among(b"NDE", 3, v),
+        ROLE => is_among(b"A18 A39", 3, v),
+        SENDER_ROLE_TWO => is_among(b"A18 A27 A39", 3, v),
+        BUSINESS_TYPE_ONE => is_among(b"A02", 3, v),
+        BUSINESS_TYPE_TWO => is_among(b"A01 A04 Z01 Z02 Z03", 3, v),
+        DIRECTION => is_among(b"A01 A02", 3, v),
+        PRODUCT => is_among(b"8716867000016", 13, v),
         AREA => is_among(
             b"10YDE-ENBW-----N 10YDE-EON------1 10YDE-RWENET---I 10YDE-VE-------2 10YFLENSBURG---3",
+            16,
             v,
         ),
-        CURVE_TYPE => is_among(b"A03", v),
-        UNIT_ONE => is_among(b"MAW", v),
-        UNIT_TWO => is_among(b"Z01 Z02 Z03", v),
-        STATUS => is_among(b"Z01 Z02 Z03 Z04 Z05", v),
+        CURVE_TYPE => is_among(b"A03", 3, v),
+        UNIT_ONE => is_among(b"MAW", 3, v),
+        UNIT_TWO => is_among(b"Z01 Z02 Z03", 3, v),
+        STATUS => is_among(b"Z01 Z02 Z03 Z04 Z05", 3, v),
         _ => false,
     }
 }

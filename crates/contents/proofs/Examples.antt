@@ -14,7 +14,7 @@ use Rattle.attributes.specs.Attribute.{quote, fit, valueNext, valueOver, value,
 use Rattle.tags.specs.Known.{absent, noneKnown, oneMore, noted}
 use Rattle.tags.specs.Tail.{onto, endsAfter, ends, keep, named, twice}
 use Rattle.items.specs.Comment.{commentTo, comment}
-use Rattle.items.specs.Text.{textByte, textTo, textItem}
+use Rattle.items.specs.Text.{textTo, textItem}
 use Rattle.items.specs.Item.{endClose, endName, endTag, commentItem, commentTag, tagOf, tagItem, startTag, item}
 use Rattle.prolog.specs.Prolog.{declaredBy, declared, encodedBy, encoded, declarationBy, declaration, markLen, after, beginAfter, begin}
 use Rattle.elements.specs.Names.{names, numberIn, elementNo}
@@ -35,7 +35,7 @@ pretty =
 pub plain-pretty : Alike plain pretty
 unfolding byte run same begins seek here firstAt walk seqLen control single charAt charNext charsOver allChars nameStart nameByte white quote fit valueNext valueOver value
     openingFrom opening attributeEnd attributeQuote attributeName attribute pieceAfter piece partOf absent noneKnown oneMore noted onto endsAfter
-    ends keep named twice commentTo comment textByte textTo textItem endClose endName endTag commentItem commentTag tagOf tagItem startTag item
+    ends keep named twice commentTo comment textTo textItem endClose endName endTag commentItem commentTag tagOf tagItem startTag item
     declaredBy declared encodedBy encoded declarationBy declaration markLen after beginAfter begin names numberIn elementNo there itemsAfter itemsFrom
     valueIn saidBy elementIn signsBy signsOf allowed AllAllowed
 plain-pretty =

@@ -15,6 +15,7 @@ use Rattle.items.specs.declared.Item.the-variants.{Refused as Unreadable}
 use Rattle.structure.specs.Rows.{startOf, endOf, overOf, endsAtOnce}
 use Rattle.structure.specs.declared.Due.{Due}
 use Rattle.structure.specs.declared.Due.the-variants.{Row, NotDue}
+use Rattle.guideline.proofs.Roots.{no-root}
 use Rattle.guideline.specs.Kinds.{kindOf}
 use Rattle.guideline.specs.Rows.{rowsOf}
 use Rattle.states.specs.Moves.{cutShort, startedAt, started, endedAt, ended, moved, rootKind, kindTold, stepOn, step}
@@ -431,17 +432,7 @@ module _ (y : Tally) (x : Placed) where
 two : Known 2
 two = inr refl
 
--- a tag that tells no kind is due nowhere
-no-root : (name : ℕ) → kindOf name ≡ 0 → startOf (rowsOf 2) 0 true name ≡ NotDue
-no-root name k = by (startOf (rowsOf 2) 0 true name) refl
-  where
-    by : (d : Due) → startOf (rowsOf 2) 0 true name ≡ d → startOf (rowsOf 2) 0 true name ≡ NotDue
-    by NotDue e = e
-    by (Row q) e =
-        let l = laid 2 two in
-        let z : _≡_ {A = ℕ} 2 0 = sym (l .told) ∙ ap kindOf (first-row (rowsOf 2) (l .period) (l .layout) name q e) ∙ k in
-        absurd (omega (arith, z))
-
+-- before the root no end tag is due
 no-close : (name : ℕ) → endOf (rowsOf 2) 0 true name ≡ NotDue
 no-close name = by (endOf (rowsOf 2) 0 true name) refl
   where
@@ -465,7 +456,7 @@ module _ (doc : List ℕ) (room : Room) where
     unfolding started startedAt stateOf
     untold tag name empty k e =
         stops doc room x xs blank t 3
-        (step-refused doc room x xs blank t 3 (e ∙ ap (λ (d : Due). startedAt blank 0 (rowsOf 2) tag (x .rest) empty room d) (no-root name k)))
+        (step-refused doc room x xs blank t 3 (e ∙ ap (λ (d : Due). startedAt blank 0 (rowsOf 2) tag (x .rest) empty room d) (no-root true name k)))
         (λ z. omega (arith, z)) ok
 
     unended : (n m : ℕ) → x .item ≡ End n m → ⊥

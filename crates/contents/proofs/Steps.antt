@@ -9,7 +9,7 @@ use mathlib.Core.Bool.{Bool, true, false, cond, _&&_}
 use native.Mathlib.Omega.{arith}
 use lib.ListN.{length, getD}
 use lib.Dec.{leb, ltb, eqb}
-use borrow.Author.Tests.{eq-eqb, ne-eqb, le-ltb, lt-leb, leb-false, eqb-true}
+use borrow.Author.Tests.{eq-eqb, ne-eqb, le-ltb, lt-leb, eqb-true}
 use Rattle.lists.proofs.Cases.{bool-cases, by-cond, eqb-cases, zero-not-one, both-true}
 use Rattle.characters.specs.Says.{says}
 use Rattle.trims.specs.Trim.{dropped}
@@ -26,12 +26,12 @@ use Rattle.guideline.specs.Kinds.{takesAnother}
 use Rattle.rules.specs.Rules.{refused, periodFits, judgePeriodBy, judgePeriod, positionFits, judgePositionBy, judgePosition, judge}
 use Rattle.rules.specs.declared.Held.{Held}
 use Rattle.rules.specs.declared.Judged.{Judged}
-use Rattle.states.specs.Attributes.{there, agree, asksV, asksScheme, noOthers, valueOf, schemeRefusal, least, alsoScheme, judgeTag}
-use Rattle.states.specs.Attributes.{attributesFit as tagFits}
-use Rattle.states.specs.Moves.{heldOf, cutShort, tooMany, noRoom, halfOriginals, valuesJudged, judgedAt, startJudged, placed, oneSeries, oneInterval, oneOriginal, lastPos, covering, kept, entered, entryOf, closedAt, endRefusal}
+use Rattle.states.specs.Attributes.{attributesFit, there, agree, asksV, asksScheme, noOthers, valueOf, schemeRefusal, least, alsoScheme, judgeTag}
+use Rattle.states.specs.Moves.{heldOf, cutShort, tooMany, noRoom, halfOriginals, startJudged, placed, oneSeries, oneInterval, oneOriginal, lastPos, covering, kept, entered, entryOf, closedAt, endRefusal}
 use Rattle.states.specs.declared.State.{State}
 use Rattle.states.specs.declared.Room.{Room}
-use Rattle.blindness.proofs.Counts.{one-more, untold}
+use Rattle.states.proofs.Judgements.{Passed, passed-judged, judged-passed, series-room, interval-room}
+use Rattle.blindness.proofs.Counts.{one-more}
 use Rattle.trees.proofs.Made.{both}
 use Rattle.contents.specs.Said.{Said, bytes}
 use Rattle.contents.specs.Spelled.{saidBy}
@@ -55,8 +55,8 @@ opposite false e = absurd (zero-not-one (cc))
 
 -- ---- the attributes of a tag, by where they stand and by what they are
 
-attributes-same : (w : ℕ) (t : Tag) (s : List ℕ) → tagFits w t ≡ attributesAgree w (saidBy t s)
-unfolding tagFits attributesAgree saidBy
+attributes-same : (w : ℕ) (t : Tag) (s : List ℕ) → attributesFit w t ≡ attributesAgree w (saidBy t s)
+unfolding attributesFit attributesAgree saidBy
 attributes-same w t s =
     rw (given-there (t .v) s, given-there (t .coding) s, given-there (t .version) s)
     (chained (agree (asksV w) (there (t .v))) (agree (asksScheme w) (there (t .coding))) (agree (eqb (roleOf w) 1) (there (t .version)))
@@ -84,8 +84,8 @@ value-same : (w : ℕ) (t : Tag) (s : List ℕ) → agree (asksV w) (there (t .v
 unfolding valueOf sayings saidBy asksV
 value-same w t s h e = rw (there-bytes (t .v) s (asked-there (asksV w) (there (t .v)) h (rw e)))
 
-tag-judged : (w : ℕ) (t : Tag) (h : Held) (s : List ℕ) → tagFits w t ≡ true → judgeTag w t h s ≡ judgedSaid w h (saidBy t s)
-unfolding judgeTag judgedSaid tagFits saidBy
+tag-judged : (w : ℕ) (t : Tag) (h : Held) (s : List ℕ) → attributesFit w t ≡ true → judgeTag w t h s ≡ judgedSaid w h (saidBy t s)
+unfolding judgeTag judgedSaid attributesFit saidBy
 tag-judged w t h s f =
     let a = both-true (agree (asksV w) (there (t .v))) f in
     let b = both-true (agree (asksScheme w) (there (t .coding))) (a .1) in
@@ -177,14 +177,6 @@ not-many : (x : State) (role kind : ℕ) → (role ≡ 4 → takesAnother kind (
 unfolding tooMany
 not-many x role kind f = ⊎-elim (λ y. rw (y .1, f (y .0))) (λ y. rw (y .1)) (eqb-cases role 4)
 
-series-room : (x : State) (role : ℕ) (room : Room) → noRoom x role room ≡ false → role ≡ 2 → x .series < room .series
-unfolding noRoom
-series-room x role room h e = leb-false (room .series) (x .series) (rw e at h)
-
-interval-room : (x : State) (role : ℕ) (room : Room) → noRoom x role room ≡ false → role ≡ 4 → x .intervals < room .intervals
-unfolding noRoom
-interval-room x role room h e = leb-false (room .intervals) (x .intervals) (rw e at h)
-
 has-room : (x : State) (role : ℕ) (room : Room) → (role ≡ 2 → x .series < room .series) → (role ≡ 4 → x .intervals < room .intervals)
     → noRoom x role room ≡ false
 unfolding noRoom
@@ -218,37 +210,6 @@ whole-originals x role f =
     (λ y. rw (y .1) (⊎-elim (λ z. rw z) (λ z. rw z) (f (y .0))))
     (λ y. rw (y .1))
     (eqb-cases role 3)
-
--- every test that comes before the values
-record Clear (x : State) (kind : ℕ) (rows : List ℕ) (q : ℕ) (t : Tag) (empty : Bool) (room : Room) : Type 0 where
-  whole : cutShort empty rows q ≡ false
-  few : tooMany x (roleOf (getD rows q 0)) kind ≡ false
-  free : noRoom x (roleOf (getD rows q 0)) room ≡ false
-  attributes : tagFits (getD rows q 0) t ≡ true
-  originals : halfOriginals x (roleOf (getD rows q 0)) ≡ false
-
-module _ (x : State) (kind : ℕ) (rows : List ℕ) (q : ℕ) (t : Tag) (s : List ℕ) (empty : Bool) (room : Room) where
-  clear-judged : Clear x kind rows q t empty room → startJudged x kind rows q t s empty room ≡ judgeTag (getD rows q 0) t (heldOf x kind) s
-  unfolding startJudged judgedAt valuesJudged
-  clear-judged c = rw (c .whole, c .few, c .free, c .attributes, c .originals)
-
-  judged-clear : startJudged x kind rows q t s empty room .number ≡ 0 → Clear x kind rows q t empty room
-  unfolding startJudged judgedAt valuesJudged
-  judged-clear h =
-      let w = getD rows q 0 in
-      let values = valuesJudged x kind w t s in
-      let last = cond (tagFits w t) values (refused 5) in
-      let roomy = cond (noRoom x (roleOf w) room) (refused 4) last in
-      let a = untold (cutShort empty rows q) 3 (cond (tooMany x (roleOf w) kind) (refused 3) roomy) (λ z. omega (arith, z)) h in
-      let b = untold (tooMany x (roleOf w) kind) 3 roomy (λ z. omega (arith, z)) (a .1) in
-      let c = untold (noRoom x (roleOf w) room) 4 last (λ z. omega (arith, z)) (b .1) in
-      let d : (tagFits w t ≡ true) × (values .number ≡ 0) = fitting (tagFits w t) values (c .1) in
-      let e = untold (halfOriginals x (roleOf w)) 8 (judgeTag w t (heldOf x kind) s) (λ z. omega (arith, z)) (d .1) in
-      record { whole = a .0; few = b .0; free = c .0; attributes = d .0; originals = e .0 }
-    where
-      fitting : (f : Bool) (j : Judged) → cond f j (refused 5) .number ≡ 0 → (f ≡ true) × (j .number ≡ 0)
-      fitting true j e = (refl, e)
-      fitting false j e = absurd (omega (arith, e))
 
 -- ---- the values beside a tally
 
@@ -443,17 +404,17 @@ module _ (kind : ℕ) (rows : List ℕ) (p : ℕ) (L : Layout rows p) (room : Ro
     abbrev values : Judged
     values = judgedSaid row (heldOf (stateOf k₀ r o y) kind) said
 
-    clear-values : Clear (stateOf k₀ r o y) kind rows q tag empty room → verdict ≡ values
-    clear-values c =
-        clear-judged (stateOf k₀ r o y) kind rows q tag s empty room c ∙
+    passed-values : Passed (stateOf k₀ r o y) kind rows q tag empty room → verdict ≡ values
+    passed-values c =
+        passed-judged (stateOf k₀ r o y) kind rows q tag s empty room c ∙
         tag-judged row tag (heldOf (stateOf k₀ r o y) kind) s (c .attributes)
 
     pub judged-taken : verdict .number ≡ 0 → Taken kind room row said y × (cutShort empty rows q ≡ false)
     unfolding elementFits stateOf
     judged-taken h =
         let x = stateOf k₀ r o y in
-        let c = judged-clear x kind rows q tag s empty room h in
-        let n : values .number ≡ 0 = ap (λ (j : Judged). j .number) (sym (clear-values c)) ∙ h in
+        let c = judged-passed x kind rows q tag s empty room h in
+        let n : values .number ≡ 0 = ap (λ (j : Judged). j .number) (sym (passed-values c)) ∙ h in
         let v = values-fit kind k₀ r o y row said (pos-row q inside) (sym (judged-values row (heldOf x kind) said) ∙ eq-eqb (values .number) 0 n) in
         let a : attributesAgree row said ≡ true = sym (attributes-same row tag s) ∙ c .attributes in (
           record {
@@ -475,7 +436,7 @@ module _ (kind : ℕ) (rows : List ℕ) (p : ℕ) (L : Layout rows p) (room : Ro
       unfolding stateOf
       taken-values =
           let x = stateOf k₀ r o y in
-          clear-values
+          passed-values
           (record {
             whole = whole;
             few = not-many x (roleOf row) kind (λ e. t .another e .0);

@@ -1,6 +1,6 @@
 -- What a legal document is: a content that meets every rule of the guideline, by its values alone. Elements stand one in another as a tree; an element is
 -- known by its row in the structure table of the kind.
-use Prim.Native.Nat.{ℕ, _+_, _-_, _≤_}
+use Prim.Native.Nat.{ℕ, _-_, _≤_}
 use mathlib.Core.Path.{_≡_}
 use mathlib.Core.List.{List, [], _∷_, _++_, map}
 use mathlib.Core.Logic.{_⊎_}
@@ -20,7 +20,6 @@ use Rattle.times.specs.Periods.{quarterHours}
 use Rattle.times.specs.declared.Interval.{Interval}
 use Rattle.times.specs.declared.Interval.the-variants.{Minutes, NotInterval}
 use Rattle.rules.specs.Rules.{judge, positionFits}
-use Rattle.rules.specs.declared.Held.{Held}
 use Rattle.guideline.specs.Columns.{formOf, collapsed, schemeOf, roleOf, periodCovered, pos, isRoot, isSeries, isInterval, isOriginal, isSeriesId, isPos}
 use Rattle.guideline.specs.Rows.{rowsOf}
 use Rattle.states.specs.Attributes.{agree, asksV, asksScheme, noOthers}

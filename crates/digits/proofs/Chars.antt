@@ -9,7 +9,7 @@ use lib.Dec.{eqb}
 use borrow.Author.Tests.{lt-leb}
 use Rattle.characters.proofs.Ascii.{low-ascii}
 use Rattle.slices.specs.Bytes.{byte}
-use Rattle.characters.specs.Utf8.{seqLen, low, second, single, double, triple, fourfold, charAt, charUse}
+use Rattle.characters.specs.Utf8.{seqLen, low, second, single, double, triple, fourfold, charAt}
 use Rattle.characters.specs.Says.{charNext, charsOver, allChars}
 use Rattle.characters.specs.declared.Char.{Char}
 use Rattle.characters.specs.declared.Char.the-variants.{Is, NoChar}
@@ -104,10 +104,6 @@ pub like-char : {A : Type 0} (f : Char → A) → ((c d : ℕ) → digit c ≡ t
     → {x y : Char} → LikeChar x y → f x ≡ f y
 like-char f h (same x) = refl
 like-char f h (digits {c} {d} p q) = h c d p q
-
--- how many bytes it takes
-pub alike-use : {x y : List ℕ} → Alike x y → charUse (charAt x) ≡ charUse (charAt y)
-alike-use r = like-char charUse (λ c d e f. refl) (alike-char r)
 
 pub alike-chars : {x y : List ℕ} → Alike x y → allChars x ≡ allChars y
 unfolding allChars charNext

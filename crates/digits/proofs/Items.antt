@@ -24,7 +24,7 @@ use Rattle.numbers.specs.Alike.{Alike}
 use Rattle.numbers.proofs.Blind.{alike-drop}
 use Rattle.digits.specs.Items.{InSpan, InV, SameButV}
 use Rattle.attributes.proofs.Short.{byte-drop}
-use Rattle.digits.proofs.Places.{alike-sym, alike-byte}
+use Rattle.digits.proofs.Places.{alike-byte}
 use Rattle.digits.proofs.Tests.{like-test, blind-nameByte, blind-nameStart}
 use Rattle.digits.proofs.Runs.{alike-run}
 use Rattle.digits.proofs.Pieces.{alike-mark}
@@ -106,11 +106,3 @@ module _ (before : ℕ) (s s′ : List ℕ) where
 -- the item at the front is readable; digits are changed in its `v` and behind it
 pub item-same : (before : ℕ) (s s′ : List ℕ) → itemRefusal (item before s) ≡ 0 → SameButV (item before s) s s′ → item before s′ ≡ item before s
 item-same before s s′ e h = held-same before s s′ (h .alike) (e, h)
-
-pub same-sym : {x : Item} {s s′ : List ℕ} → SameButV x s s′ → SameButV x s′ s
-same-sym h = record { alike = alike-sym (h .alike); inside = λ i p. ⊎-elim (λ e. inl (sym e)) inr (h .inside i p) }
-
--- nothing of the item at the front is changed
-pub item-local : (before : ℕ) (s s′ : List ℕ) → itemRefusal (item before s) ≡ 0 → Alike s s′
-    → ((i : ℕ) → i < itemEnd (item before s) → byte s i ≡ byte s′ i) → item before s′ ≡ item before s
-item-local before s s′ e r h = item-same before s s′ e (record { alike = r; inside = λ i p. inl (h i p) })

@@ -9,13 +9,13 @@ use Rattle.slices.specs.Same.{firstAt}
 use Rattle.slices.specs.Text.{text}
 use Rattle.attributes.specs.Names.{nameByte, white}
 use Rattle.items.specs.Comment.{commentTo, comment}
-use Rattle.items.specs.Text.{textByte, textTo, textItem}
+use Rattle.items.specs.Text.{textTo, textItem}
 use Rattle.items.specs.Item.{endClose, endName, endTag, commentTag}
 use Rattle.pictures.specs.Picture.{digit}
 use Rattle.numbers.specs.Alike.{Alike}
 use Rattle.numbers.proofs.Blind.{alike-drop}
 use Rattle.digits.proofs.Places.{alike-byte, alike-take}
-use Rattle.digits.proofs.Tests.{like-test, blind-white, blind-nameByte, blind-nameStart, blind-textByte}
+use Rattle.digits.proofs.Tests.{like-test, blind-white, blind-nameByte, blind-nameStart}
 use Rattle.digits.proofs.Runs.{alike-run, plainText, alike-first}
 use Rattle.digits.proofs.Chars.{alike-chars}
 use Rattle.digits.proofs.Pieces.{alike-mark}
@@ -23,6 +23,10 @@ use Rattle.digits.proofs.Pieces.{alike-mark}
 plain-dashes : plainText (text "--") ≡ true
 unfolding plainText digit
 plain-dashes = refl
+
+plain-tag : plainText (text "<") ≡ true
+unfolding plainText digit
+plain-tag = refl
 
 plain-and : plainText (text "&") ≡ true
 unfolding plainText digit
@@ -42,9 +46,9 @@ module _ (before : ℕ) {x y : List ℕ} (r : Alike x y) where
   pub alike-text : textItem before x ≡ textItem before y
   unfolding textItem textTo
   alike-text =
-      let n = run textByte y in
+      let n = firstAt (text "<") y in
       rw (
-        alike-run blind-textByte r,
+        alike-first (text "<") plain-tag r,
         alike-run blind-white r,
         alike-chars (alike-take n r),
         alike-first (text "&") plain-and (alike-take n r),

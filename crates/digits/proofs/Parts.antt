@@ -19,7 +19,7 @@ use Rattle.tags.specs.Tail.{Attr, Ends, closed, torn, ends, keep, twice}
 use Rattle.tags.specs.declared.Span.{Span}
 use Rattle.tags.specs.declared.Known.{Known}
 use Rattle.items.specs.Comment.{commentTo, comment}
-use Rattle.items.specs.Text.{textByte, textTo, textItem}
+use Rattle.items.specs.Text.{textTo, textItem}
 use Rattle.items.specs.Item.{tagOf, tagItem, startTag, endTag, endName, endClose, commentItem, commentTag, item}
 use Rattle.items.specs.declared.Tag.{Tag}
 use Rattle.items.specs.declared.Item.the-variants.{Start, Empty, End}
@@ -134,7 +134,7 @@ module _ (before : ℕ) (s : List ℕ) where
   item-laid =
       by-cond Laid (eqb (byte s 0) 0x3C)
       (by-cond Laid (eqb (byte s 1) 0x2F) end-laid (by-cond Laid (eqb (byte s 1) 0x21) comment-laid start-laid))
-      (text-laid (run textByte s))
+      (text-laid (firstAt (text "<") s))
 
 -- a value that no changed digit stands in
 value-same : (t : Tag) (x : Span) {s s′ : List ℕ} → Stands (t .name) (t .len) x → Alike s s′

@@ -4,7 +4,7 @@ use mathlib.Core.Path.{_≡_, refl, sym, ap}
 use mathlib.Core.List.{List, [], _∷_}
 use mathlib.Core.Logic.{inl, inr, _↔_}
 use native.Mathlib.Omega.{arith}
-use lib.ListN.{length, take, drop}
+use lib.ListN.{length, take}
 use Rattle.slices.specs.Bytes.{byte}
 use Rattle.attributes.specs.Attribute.{partOf}
 use Rattle.numbers.specs.Alike.{Like, Alike, none, next}

@@ -12,8 +12,7 @@ use Rattle.lists.proofs.Cases.{eqb-cases, zero-not-one}
 use Rattle.slices.specs.Text.{text}
 use Rattle.characters.specs.Utf8.{seqLen, control, tail}
 use Rattle.attributes.specs.Names.{nameStart, nameByte, white}
-use Rattle.attributes.specs.Attribute.{quote, fit, plain}
-use Rattle.items.specs.Text.{textByte}
+use Rattle.attributes.specs.Attribute.{quote, fit}
 use Rattle.trims.specs.Trim.{space}
 use Rattle.pictures.specs.Picture.{digit}
 use Rattle.numbers.proofs.Reading.{digit-range}
@@ -63,14 +62,6 @@ blind-quote = ten quote false refl
 pub blind-fit : At-digits fit true
 unfolding fit
 blind-fit = ten fit true refl
-
-pub blind-plain : At-digits plain true
-unfolding plain
-blind-plain = ten plain true refl
-
-pub blind-textByte : At-digits textByte true
-unfolding textByte
-blind-textByte = ten textByte true refl
 
 pub blind-space : At-digits space false
 unfolding space

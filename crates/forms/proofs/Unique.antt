@@ -7,20 +7,20 @@ use Rattle.characters.specs.Says.{says}
 use Rattle.forms.specs.Forms.{identification, marketPartner, resourceObject, party, fixedVersion, quarterHour}
 use Rattle.lists.proofs.Unique.{one}
 
-pub identification-one : (v : List ℕ) {r r′ : Bool} → r ≡ identification (says v) → r′ ≡ identification (says v) → r ≡ r′
-identification-one v = one
+pub is-identification-one : (v : List ℕ) {r r′ : Bool} → r ≡ identification (says v) → r′ ≡ identification (says v) → r ≡ r′
+is-identification-one v = one
 
-pub market-partner-one : (v : List ℕ) {r r′ : Bool} → r ≡ marketPartner (says v) → r′ ≡ marketPartner (says v) → r ≡ r′
-market-partner-one v = one
+pub is-market-partner-one : (v : List ℕ) {r r′ : Bool} → r ≡ marketPartner (says v) → r′ ≡ marketPartner (says v) → r ≡ r′
+is-market-partner-one v = one
 
-pub resource-object-one : (v : List ℕ) {r r′ : Bool} → r ≡ resourceObject (says v) → r′ ≡ resourceObject (says v) → r ≡ r′
-resource-object-one v = one
+pub is-resource-object-one : (v : List ℕ) {r r′ : Bool} → r ≡ resourceObject (says v) → r′ ≡ resourceObject (says v) → r ≡ r′
+is-resource-object-one v = one
 
-pub party-one : (v : List ℕ) {r r′ : Bool} → r ≡ party (says v) → r′ ≡ party (says v) → r ≡ r′
-party-one v = one
+pub is-party-one : (v : List ℕ) {r r′ : Bool} → r ≡ party (says v) → r′ ≡ party (says v) → r ≡ r′
+is-party-one v = one
 
-pub version-fixed-one : (v : List ℕ) {r r′ : Bool} → r ≡ fixedVersion (says v) → r′ ≡ fixedVersion (says v) → r ≡ r′
-version-fixed-one v = one
+pub is-version-fixed-one : (v : List ℕ) {r r′ : Bool} → r ≡ fixedVersion (says v) → r′ ≡ fixedVersion (says v) → r ≡ r′
+is-version-fixed-one v = one
 
-pub quarter-hour-one : (v : List ℕ) {r r′ : Bool} → r ≡ quarterHour (says v) → r′ ≡ quarterHour (says v) → r ≡ r′
-quarter-hour-one v = one
+pub is-quarter-hour-one : (v : List ℕ) {r r′ : Bool} → r ≡ quarterHour (says v) → r′ ≡ quarterHour (says v) → r ≡ r′
+is-quarter-hour-one v = one

@@ -1,3 +1,4 @@
 pub mod Columns
 pub mod Named
+pub mod Roots
 pub mod Unique

@@ -12,9 +12,9 @@ use Rattle.slices.specs.Same.{firstAt}
 use Rattle.slices.specs.Text.{text}
 use Rattle.characters.specs.Says.{allChars}
 use Rattle.attributes.specs.Names.{nameStart, nameByte, white}
-use Rattle.tags.specs.Tail.{Ends, closed, torn, ends, twice}
+use Rattle.tags.specs.Tail.{Ends, closed, torn, twice}
 use Rattle.items.specs.Comment.{comment}
-use Rattle.items.specs.Text.{textByte, textTo, textItem}
+use Rattle.items.specs.Text.{textTo, textItem}
 use Rattle.items.specs.Item.{tagItem, startTag, endTag, endName, endClose, commentItem, commentTag, item, itemRefusal}
 use Rattle.items.specs.declared.Reach.{Reach}
 use Rattle.items.specs.declared.Reach.the-variants.{Upto, Unread}
@@ -72,7 +72,7 @@ module _ (before : ℕ) (s : List ℕ) where
       by-cond (Placed before) (eqb (byte s 0) 0x3C)
       (by-cond (Placed before) (eqb (byte s 1) 0x2F) end-placed
       (by-cond (Placed before) (eqb (byte s 1) 0x21) comment-placed start-placed))
-      (text-placed (run textByte s))
+      (text-placed (firstAt (text "<") s))
 
 -- "2: the item is unreadable", and no other number
 pub refused-two : (x : Item) → (itemRefusal x ≡ 0) ⊎ (itemRefusal x ≡ 2)

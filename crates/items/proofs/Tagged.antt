@@ -14,11 +14,9 @@ use Rattle.attributes.specs.Names.{nameStart, nameByte}
 use Rattle.tags.specs.Known.{noneKnown}
 use Rattle.tags.specs.Tail.{Attr, Ends, closed, torn, ends, keep, tail, twice, twiceIn}
 use Rattle.tags.specs.declared.Known.{Known}
-use Rattle.tags.specs.declared.Tail.{Tail}
 use Rattle.tags.specs.declared.Tail.the-variants.{Shut, Breaks}
 use Rattle.tags.proofs.Many.{few}
 use Rattle.items.specs.Item.{tagOf, tagItem, startTag}
-use Rattle.items.specs.declared.Item.{Item}
 use Rattle.items.specs.declared.Item.the-variants.{Start, Empty, Refused}
 
 -- the short way to "none twice" is right

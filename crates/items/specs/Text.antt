@@ -1,7 +1,7 @@
--- "Text is a longest run of bytes without `<`."
+-- A text, white or not.
 use Prim.Native.Nat.{ℕ}
 use mathlib.Core.List.{List}
-use mathlib.Core.Bool.{Bool, true, false, cond}
+use mathlib.Core.Bool.{true, false, cond}
 use lib.ListN.{take}
 use lib.Dec.{eqb, ltb}
 use Rattle.slices.specs.Run.{run}
@@ -11,9 +11,6 @@ use Rattle.characters.specs.Says.{allChars}
 use Rattle.attributes.specs.Names.{white}
 use Rattle.items.specs.declared.Item.{Item}
 use Rattle.items.specs.declared.Item.the-variants.{Text, Refused}
-
-unfoldable pub textByte : ℕ → Bool
-textByte b = cond (eqb b 0x3C) false true
 
 -- Of n bytes, at least one: "only space, tab, CR and LF", or other XML characters;
 -- "with `&`, `]]>` or bytes that aren't XML characters in UTF-8 the item is unreadable"
@@ -26,5 +23,6 @@ textTo before s n =
     (cond (ltb (firstAt (text "]]>") (take n s)) n) (Refused before) (Text false n)))
     (Refused before)))
 
+-- "Text is a longest run of bytes without `<`."
 unfoldable pub textItem : ℕ → List ℕ → Item
-textItem before s = textTo before s (run textByte s)
+textItem before s = textTo before s (firstAt (text "<") s)

@@ -17,10 +17,9 @@ ghost use mathlib.Core.Bool.{cond, false};
 ghost use Prim.Native.Nat.{_+_, _≤_};
 ghost use lib.Dec.{ltb};
 ghost use lib.ListN.{length};
-ghost use Rattle.slices.specs.Run.{run};
 ghost use Rattle.tags.specs.Tail.{ends, twiceIn};
 ghost use Rattle.items.specs.Comment.{comment};
-ghost use Rattle.items.specs.Text.{textByte, textItem};
+ghost use Rattle.items.specs.Text.{textItem};
 ghost use Rattle.items.specs.Item.{tagOf, startTag, endTag, commentTag, item, itemEnd, itemValue, readEnd};
 
 // A start or empty tag: `<` and the name, whose length is `name`; the values of the attributes that the guideline knows; whether it
@@ -81,32 +80,11 @@ fn comment_tag(before: usize, s: &[u8]) -> Item
     Item::Refused(before)
 }
 
-fn is_text_byte(b: u8) -> bool
-    ensures { λ r. ⌜ r ≡ textByte b ⌝ }
-{
-    if b == 0x3C { false } else { true }
-}
-
-fn text_len(s: &[u8]) -> usize
-    ensures run { λ r. ⌜ r ≡ run textByte (now (s .entry)) ⌝ }
-    ensures size { λ r. ⌜ r ≤ length (now (s .entry)) ⌝ }
-{
-    let mut i = 0;
-    while i < s.len() {
-        if is_text_byte(s[i]) {
-            i += 1;
-        } else {
-            return i;
-        }
-    }
-    i
-}
-
 fn any_text(before: usize, s: &[u8]) -> Item
     ensures item { λ r. ⌜ r ≡ textItem before (now (s .entry)) ⌝ }
     ensures size { λ r. ⌜ (1 ≤ itemEnd r) × (itemEnd r ≤ length (now (s .entry)) + 8) × (itemValue r ≤ itemEnd r) ⌝ }
 {
-    let n = text_len(s);
+    let n = first_at(b"<", s);
     if n == 0 {
         return Item::Refused(before);
     }

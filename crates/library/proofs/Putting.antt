@@ -1,7 +1,7 @@
 -- A loop that puts numbers into a blank slice cell by cell leaves what `cells` says.
 --     put-start, put-next, put-end   the loop
 -- Assumes nothing.
-use mathlib.Core.Path.{_≡_, refl, sym, ap, _∙_}
+use mathlib.Core.Path.{_≡_, refl, ap, _∙_}
 use mathlib.Core.List.{List, [], _∷_, _++_}
 use Prim.Native.Nat.{ℕ, zero, suc, _+_, _≤_, _<_}
 use native.Mathlib.Nat.{le-of-suc-le-suc, le-refl}

@@ -3,7 +3,6 @@ use Prim.Native.Nat.{ℕ}
 use mathlib.Core.Path.{_≡_}
 use mathlib.Core.List.{List}
 use lib.IntN.{ℤ}
-use lib.ListN.{length}
 use Rattle.lists.proofs.Unique.{one, both}
 use Rattle.notes.specs.Reader.{noteIn, readRefusal, fiveOf}
 use Rattle.reader.specs.Answer.{Outcome, readOf}

@@ -27,6 +27,7 @@ use Rattle.numbers.specs.Amount.{minus, unsigned, fractionForm, unsigned
 use Rattle.numbers.specs.Parts.{pointOf, fractionOf, unsignedOf, signedOf}
 use Rattle.numbers.specs.declared.Number.the-variants.{Is, NotNumber}
 use Rattle.numbers.specs.declared.Amount.the-variants.{Thousandths, NotAmount}
+use Rattle.numbers.specs.declared.Unsigned.{Unsigned}
 use Rattle.numbers.specs.declared.Unsigned.the-variants.{Parts, NoParts}
 use Rattle.numbers.proofs.Reading.{digits-none}
 
@@ -122,23 +123,30 @@ module _ (l : List ℕ) {k : ℕ} (count : k ≡ digits 12 l) where
   unfolding unsignedOf unsignedForm fractionOf thousandths
   unsigned-some z {x} value = rw (← count, ne-eqb _ _ z, value)
 
-signed-unsigned : (m : Bool) (l : List ℕ) → signedOf m (unsignedOf l) ≡ cond (unsignedForm l) (Thousandths (signed m (thousandths l))) NotAmount
-unfolding signedOf unsignedOf
-signed-unsigned m l =
-    elim (unsignedForm l) as (λ (b : Bool). signedOf m (cond b (Parts (thousandths l)) NoParts) ≡ cond b (Thousandths (signed m (thousandths l))) NotAmount)
+-- the sign: whether there is one, and what follows it
+pub sign-over : {l : List ℕ} → l ≡ [] → (false ≡ minus l) × (l ≡ unsigned l)
+unfolding minus unsigned
+sign-over e = (rw e, rw e)
+
+module _ {l t : List ℕ} {c : ℕ} (e : l ≡ c ∷ t) where
+  pub sign-minus : c ≡ 0x2D → (true ≡ minus l) × (t ≡ unsigned l)
+  unfolding minus unsigned
+  sign-minus q = (rw (e, eq-eqb _ _ q), rw (e, eq-eqb _ _ q))
+
+  pub sign-none : (c ≡ 0x2D → ⊥) → (false ≡ minus l) × (l ≡ unsigned l)
+  unfolding minus unsigned
+  sign-none q = (rw (e, ne-eqb _ _ q), rw (e, ne-eqb _ _ q))
+
+signed-amount : (l : List ℕ) → signedOf (minus l) (unsignedOf (unsigned l)) ≡ amountOf l
+unfolding signedOf unsignedOf amountOf amountForm
+signed-amount l =
+    let u = unsigned l in
+    elim (unsignedForm u) as (λ (b : Bool). signedOf (minus l) (cond b (Parts (thousandths u)) NoParts) ≡ cond b (Thousandths (signed (minus l) (thousandths u))) NotAmount)
     [ true ↦ refl | false ↦ refl ]
 
-pub amount-over : {l : List ℕ} → l ≡ [] → NotAmount ≡ amountOf l
-unfolding amountOf amountForm unsignedForm unsigned minus digits
-amount-over e = rw e
-
-pub amount-minus : {l t : List ℕ} {c : ℕ} → l ≡ c ∷ t → c ≡ 0x2D → signedOf true (unsignedOf t) ≡ amountOf l
-unfolding amountOf amountForm unsigned minus
-amount-minus {l} {t} e q = signed-unsigned true t ∙ rw (e, eq-eqb _ _ q)
-
-pub amount-plain : {l t : List ℕ} {c : ℕ} → l ≡ c ∷ t → (c ≡ 0x2D → ⊥) → signedOf false (unsignedOf l) ≡ amountOf l
-unfolding amountOf amountForm unsigned minus
-amount-plain {l} {t} e q = signed-unsigned false l ∙ rw (e, ne-eqb _ _ q)
+-- m tells the sign of the value v, r is the part after it, and u the amount there
+pub amount-is : (v : List ℕ) {m : Bool} {r t : List ℕ} {u : Unsigned} → m ≡ minus (says v) → says t ≡ unsigned (says v) → r ≡ t → u ≡ unsignedOf (says r) → signedOf m u ≡ amountOf (says v)
+amount-is v e f d g = rw (g, d, f, e) (signed-amount (says v))
 
 -- a number that counts
 pub number-over : {l : List ℕ} (most : ℕ) → l ≡ [] → NotNumber ≡ numberWithin most l

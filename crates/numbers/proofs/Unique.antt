@@ -9,8 +9,8 @@ use Rattle.numbers.specs.declared.Number.{Number}
 use Rattle.numbers.specs.declared.Amount.{Amount}
 use Rattle.lists.proofs.Unique.{one}
 
-pub number-one : (v : List ℕ) (most : ℕ) {r r′ : Number} → r ≡ numberOf (says v) most → r′ ≡ numberOf (says v) most → r ≡ r′
-number-one v most = one
+pub number-of-one : (v : List ℕ) (most : ℕ) {r r′ : Number} → r ≡ numberOf (says v) most → r′ ≡ numberOf (says v) most → r ≡ r′
+number-of-one v most = one
 
-pub amount-one : (v : List ℕ) {r r′ : Amount} → r ≡ amountOf (says v) → r′ ≡ amountOf (says v) → r ≡ r′
-amount-one v = one
+pub amount-of-one : (v : List ℕ) {r r′ : Amount} → r ≡ amountOf (says v) → r′ ≡ amountOf (says v) → r ≡ r′
+amount-of-one v = one

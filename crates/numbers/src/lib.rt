@@ -5,11 +5,12 @@ use pictures::is_digit;
 use slices::rest;
 ghost use mathlib.Core.Path.{_≡_};
 ghost use Prim.Native.Nat.{_+_, _*_, _<_, _≤_, _^_};
+ghost use lib.Dec.{ltb};
 ghost use lib.ListN.{take, drop};
 ghost use Rattle.characters.specs.Says.{says};
 ghost use Rattle.numbers.specs.Digits.{digits, numberFrom, ended};
 ghost use Rattle.numbers.specs.Number.{atMostNine, numberWithin, numberOf};
-ghost use Rattle.numbers.specs.Amount.{amountOf};
+ghost use Rattle.numbers.specs.Amount.{minus, unsigned, amountOf};
 ghost use Rattle.numbers.specs.Parts.{pointOf, fractionOf, unsignedOf, signedOf, partsOf};
 
 pub enum Number {
@@ -184,18 +185,22 @@ fn signed_of(minus: bool, u: Unsigned) -> Amount
     }
 }
 
+// How many bytes a minus at the front takes, 0 where there is none.
+fn minus_len(v: &[u8]) -> usize
+    ensures sign { λ r. ⌜ ltb 0 r ≡ minus (says (now (v .entry))) ⌝ }
+    ensures left { λ r. ⌜ says (drop r (now (v .entry))) ≡ unsigned (says (now (v .entry))) ⌝ }
+{
+    match said_at(v) {
+        Said::Over => 0,
+        Said::Says(c, n) => { if c == 0x2D { n } else { 0 } }
+    }
+}
+
 // An amount in thousandths; its spaces are dropped already.
 // Ruled out: -5 for `-0.05`; an amount for `5.`, `.5`, `+5`, `1.0000` or thirteen digits; none for `-0` or for twelve nines.
 pub fn amount_of(v: &[u8]) -> Amount
     ensures { λ r. ⌜ r ≡ amountOf (says (now (v .entry))) ⌝ }
 {
-    match said_at(v) {
-        Said::Over => Amount::NotAmount,
-        Said::Says(c, n) => {
-            if c == 0x2D {
-                return signed_of(true, unsigned_of(rest(v, n)));
-            }
-            signed_of(false, unsigned_of(v))
-        }
-    }
+    let n = minus_len(v);
+    signed_of(0 < n, unsigned_of(rest(v, n)))
 }

@@ -16,8 +16,8 @@ is-digit-one c = one
 pub fits-one : (picture v : List ℕ) {r r′ : Bool} → r ≡ fitsOf picture (says v) → r′ ≡ fitsOf picture (says v) → r ≡ r′
 fits-one picture v = one
 
-pub said-one : (text v : List ℕ) {r r′ : Bool} → r ≡ same text (says v) → r′ ≡ same text (says v) → r ≡ r′
-said-one text v = one
+pub is-said-one : (text v : List ℕ) {r r′ : Bool} → r ≡ same text (says v) → r′ ≡ same text (says v) → r ≡ r′
+is-said-one text v = one
 
 pub number-at-one : (from n : ℕ) (v : List ℕ) {r r′ : ℕ} → r ≡ numberAt from n (says v) → r′ ≡ numberAt from n (says v) → r ≡ r′
 number-at-one from n v = one

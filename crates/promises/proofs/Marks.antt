@@ -14,12 +14,11 @@ use Rattle.lists.proofs.Cases.{leb-cases, eqb-cases, both-true}
 use Rattle.slices.specs.Same.{same}
 use Rattle.slices.specs.Text.{text}
 use Rattle.elements.specs.Names.{names, numberIn, elementNo}
-use Rattle.structure.specs.Rows.{nameOf, parentOf, required, repeated, nextIn, startOf, endOf}
+use Rattle.structure.specs.Rows.{nameOf, parentOf, startOf, endOf}
 use Rattle.structure.specs.Means.{NextIn}
-use Rattle.structure.specs.declared.Due.the-variants.{Row, NotDue}
+use Rattle.structure.specs.declared.Due.the-variants.{Row}
 use Rattle.structure.proofs.Means.{start-means, end-means}
 use Rattle.guideline.specs.Columns.{roleOf}
-use Rattle.guideline.specs.Kinds.{kindOf}
 use Rattle.guideline.specs.Rows.{beschaffungsanforderung, kostenblatt, rowsOf}
 
 -- each row, with its number, passes the test; the first of them has the number i
@@ -196,13 +195,3 @@ one-interval = mark-by (rowsOf 1) 29 4 8 refl refl refl
 pub two-interval : Mark (rowsOf 2) 31 4 8
 unfolding rowsOf kostenblatt elementNo numberIn names same parentOf roleOf
 two-interval = mark-by (rowsOf 2) 31 4 8 refl refl refl
-
--- before the root, a tag that tells no kind is not due
-pub no-root : (o : Bool) (x : ℕ) → kindOf x ≡ 0 → startOf (rowsOf 2) 0 o x ≡ NotDue
-unfolding rowsOf kostenblatt elementNo numberIn names same parentOf nameOf required repeated nextIn startOf kindOf
-no-root true x e =
-    ⊎-elim
-    (λ y. let z : kindOf 32 ≡ 0 = rw (y .0) at e in absurd (omega (arith, z)))
-    (λ y. let z : 32 ≡ x → ⊥ = λ q. y .0 (sym q) in rw (ne-eqb 32 x z) (refl {a = NotDue}))
-    (eqb-cases x 32)
-no-root false x e = refl

@@ -1,12 +1,11 @@
 -- The numbers with which a tag is refused: of those up to 9, and never 1, which is given to a document that is too long. Assumes nothing.
-use Prim.Native.Nat.{ℕ, _≤_, _<_, _-_}
+use Prim.Native.Nat.{ℕ, _≤_, _-_}
 use mathlib.Core.Path.{_≡_, refl}
 use mathlib.Core.List.{List}
 use mathlib.Core.Bool.{Bool, true, false, cond}
 use mathlib.Core.Logic.{⊎-elim}
 use lib.Dec.{leb, eqb}
 use lib.ListN.{getD}
-use borrow.Author.Tests.{leb-false}
 use Rattle.lists.proofs.Cases.{by-cond, leb-cases, zero-not-one}
 use Rattle.characters.specs.Says.{says}
 use Rattle.attributes.specs.Attribute.{partOf}
@@ -30,7 +29,6 @@ use Rattle.states.specs.Attributes.{attributesFit, valueOf, schemeRefusal, leas
 use Rattle.states.specs.Moves.{heldOf, cutShort, tooMany, noRoom, halfOriginals, valuesJudged, judgedAt, startJudged, countRefusal, endRefusal}
 use Rattle.states.specs.declared.State.{State}
 use Rattle.states.specs.declared.Room.{Room}
-use Rattle.blindness.proofs.Counts.{judged-zero}
 
 -- 0, which is none, or 2 to 9
 abbrev pub given : ℕ → Bool
@@ -118,20 +116,6 @@ module _ (x : State) (kind : ℕ) (rows : List ℕ) (r : ℕ) (t : Tag) (s : Lis
       (by-cond GivenBy (tooMany x (roleOf w) kind) refl
       (by-cond GivenBy (noRoom x (roleOf w) room) refl
       (by-cond GivenBy (attributesFit w t) (by-cond GivenBy (halfOriginals x (roleOf w)) refl (tag-given w t (heldOf x kind) s)) refl)))
-
-module _ (x : State) (kind : ℕ) (rows : List ℕ) (r : ℕ) (t : Tag) (s : List ℕ) (empty : Bool) (room : Room) where
-  -- of the tests, that for room: "4: a due series or Interval start finds its table full"
-  roomy : startJudged x kind rows r t s empty room .number ≡ 0 → noRoom x (roleOf (getD rows r 0)) room ≡ false
-  roomy e = judged-zero x kind rows r t s empty room e .1
-
-  module _ (e : startJudged x kind rows r t s empty room .number ≡ 0) where
-    pub series-room : roleOf (getD rows r 0) ≡ 2 → x .series < room .series
-    unfolding noRoom
-    series-room q = leb-false (room .series) (x .series) (rw q at (roomy e))
-
-    pub interval-room : roleOf (getD rows r 0) ≡ 4 → x .intervals < room .intervals
-    unfolding noRoom
-    interval-room q = leb-false (room .intervals) (x .intervals) (rw q at (roomy e))
 
 pub end-given : (x : State) (rows : List ℕ) (r : ℕ) → Given (endRefusal x rows r)
 unfolding endRefusal countRefusal

@@ -29,7 +29,8 @@ use Rattle.states.specs.declared.Room.{Room}
 use Rattle.states.specs.declared.Step.{Step}
 use Rattle.states.specs.declared.Step.the-variants.{Next, Refused}
 use Rattle.promises.specs.Items.{startedIn, seriesElement, intervalElement}
-use Rattle.promises.proofs.Marks.{Rooted, Named, due-within, due-named, one-named, two-named, one-rooted, two-rooted, no-root}
+use Rattle.guideline.proofs.Roots.{no-root}
+use Rattle.promises.proofs.Marks.{Rooted, Named, due-within, due-named, one-named, two-named, one-rooted, two-rooted}
 use Rattle.promises.proofs.Steps.{Sound, told-none, by-eqb, kept-keeps}
 
 -- a count that rises where the item starts this element

@@ -30,8 +30,10 @@ use Rattle.states.specs.declared.Entry.{Entry}
 use Rattle.states.specs.declared.Entry.the-variants.{Nothing, Series, Identification, Object, BusinessType, Interval, Position, Amount}
 use Rattle.states.specs.declared.Step.{Step}
 use Rattle.states.specs.declared.Step.the-variants.{Next, Refused}
-use Rattle.promises.proofs.Refusals.{Given, start-given, end-given, series-room, interval-room}
-use Rattle.promises.proofs.Marks.{Rooted, Mark, due-within, end-back, counted, one-rooted, two-rooted, one-series, two-series, one-interval, two-interval, no-root}
+use Rattle.states.proofs.Judgements.{judged-passed, series-room, interval-room}
+use Rattle.promises.proofs.Refusals.{Given, start-given, end-given}
+use Rattle.guideline.proofs.Roots.{no-root}
+use Rattle.promises.proofs.Marks.{Rooted, Mark, due-within, end-back, counted, one-rooted, two-rooted, one-series, two-series, one-interval, two-interval}
 
 -- the row of Interval, by kind
 abbrev pub intervalRow : ℕ → ℕ
@@ -226,9 +228,8 @@ module _ (x : State) (kind : ℕ) (b : Before x kind) (rows : List ℕ) (tab : T
         let k : kind ≡ 0 → ⊥ = λ z. let q : NotDue ≡ Row r = sym (root z) ∙ e in zero-not-one (cc) in
         ⊎-elim
         (λ y.
-        rw (y .1)
-        (entered-steps r name e k j (not empty) room (series-room x kind rows r t s empty room (y .0))
-        (interval-room x kind rows r t s empty room (y .0))))
+        let free = judged-passed x kind rows r t s empty room (y .0) .free in
+        rw (y .1) (entered-steps r name e k j (not empty) room (series-room x (roleOf (getD rows r 0)) room free) (interval-room x (roleOf (getD rows r 0)) room free)))
         (λ y. rw (y .1) (y .0, start-given x kind rows r t s empty room))
         (eqb-cases (j .number) 0)
 

@@ -10,8 +10,8 @@ use Rattle.tables.specs.Cells.{noAmounts}
 use Rattle.prolog.specs.Prolog.{begin}
 use Rattle.prolog.specs.declared.Begin.the-variants.{From, Unreadable}
 use Rattle.states.specs.Moves.{begun}
-use Rattle.reader.specs.Reading.{Tables, Out, blank, refusedAt, itemsRead, readAfter, readInto, orBlank, readSheet}
-use Rattle.reader.specs.Answer.{Outcome, noted, unnoted, readOf}
+use Rattle.reader.specs.Reading.{Tables, blank, refusedAt, itemsRead, readAfter, readInto, orBlank, readSheet}
+use Rattle.reader.specs.Answer.{noted, unnoted, readOf}
 use Rattle.reader.proofs.Ran.{tab}
 
 module _ (doc : List ℕ) (t : Tables) where

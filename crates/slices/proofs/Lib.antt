@@ -1,4 +1,5 @@
 pub mod Runs
 pub mod Walks
 pub mod Sames
+pub mod Firsts
 pub mod Unique

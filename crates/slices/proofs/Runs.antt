@@ -1,6 +1,6 @@
 -- A loop over a run of bytes: its invariant, `Ran`, and how it starts, goes on and ends. Assumes nothing.
 use Prim.Native.Nat.{ℕ, suc, _+_, _≤_, _<_}
-use mathlib.Core.Path.{_≡_, refl, sym, ap, _∙_}
+use mathlib.Core.Path.{_≡_, refl, ap, _∙_}
 use mathlib.Core.List.{List, [], _∷_}
 use mathlib.Core.Bool.{Bool, true, false, cond}
 use native.Mathlib.Omega.{arith}
@@ -15,9 +15,13 @@ pub record Ran (p : ℕ → Bool) (s : List ℕ) (i : ℕ) : Type 0 where
   pub inside : i ≤ length s
   pub total : i + run p (drop i s) ≡ run p s
 
-pub run-cons : (p : ℕ → Bool) (b : ℕ) (t : List ℕ) → run p (b ∷ t) ≡ cond (p b) (suc (run p t)) 0
+run-cons : (p : ℕ → Bool) (b : ℕ) (t : List ℕ) → run p (b ∷ t) ≡ cond (p b) (suc (run p t)) 0
 unfolding run
 run-cons p b t = refl
+
+-- by what the test of the first byte answers
+pub run-by : (p : ℕ → Bool) (b : ℕ) (t : List ℕ) {x : Bool} → p b ≡ x → run p (b ∷ t) ≡ cond x (suc (run p t)) 0
+run-by p b t e = run-cons p b t ∙ ap (λ (x : Bool). cond x (suc (run p t)) 0) e
 
 run-nil : (p : ℕ → Bool) → run p [] ≡ 0
 unfolding run

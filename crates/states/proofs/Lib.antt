@@ -1,3 +1,4 @@
-pub mod Openings
+pub mod Acts
 pub mod Lists
+pub mod Judgements
 pub mod Unique

@@ -3,7 +3,6 @@
 use Prim.Native.Nat.{ℕ, _-_}
 use mathlib.Core.Path.{_≡_, refl}
 use mathlib.Core.List.{List, [], _∷_, map}
-use lib.ListN.{getD}
 use Rattle.codes.specs.Lists.{
   documentTypeOne,
   documentTypeTwo,

@@ -1,3 +1,3 @@
 pub mod Attributes
-pub mod Opening
+pub mod Act
 pub mod Moves

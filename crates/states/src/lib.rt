@@ -29,7 +29,7 @@ ghost use lib.Dec.{eqb};
 ghost use lib.ListN.{getD};
 ghost use Rattle.guideline.specs.Columns.{roleOf};
 ghost use Rattle.states.specs.Attributes.{there, agree, asksV, asksScheme, noOthers, attributesFit, valueOf, schemeRefusal, least, judgeTag};
-ghost use Rattle.states.specs.Opening.{openingOf, nameIn};
+ghost use Rattle.states.specs.Act.{actOf, nameIn};
 ghost use Rattle.states.specs.Moves.{oneMore, cutShort, begun, heldOf, tooMany, noRoom, halfOriginals, valuesJudged, startJudged, entered, entryOf, started, closedAt, endRefusal, ended, moved, kindTold, step};
 
 pub struct State {
@@ -291,22 +291,30 @@ fn rows_of<'a>(kind: u32, one: &'a [usize], two: &'a [usize]) -> &'a [usize]
     if kind == 1 { one } else { two }
 }
 
-// The tag of an item that opens an element, and whether it is an empty one.
-enum Opening {
-    By(Tag, bool),
-    Not,
+// What an item does to the state.
+enum Act {
+    // an element begins: its tag, and whether that is an empty one
+    Opens(Tag, bool),
+    Closes,
+    Passes,
+    Refuses(u32),
 }
 
-fn opening_of(item: Item) -> Opening
-    ensures { λ r. ⌜ r ≡ openingOf item ⌝ }
+fn act_of(item: Item) -> Act
+    ensures { λ r. ⌜ r ≡ actOf item ⌝ }
 {
     match item {
-        Item::Start(t) => Opening::By(t, false),
-        Item::Empty(t) => Opening::By(t, true),
-        Item::End(_, _) => Opening::Not,
-        Item::Text(_, _) => Opening::Not,
-        Item::Comment(_) => Opening::Not,
-        Item::Refused(_) => Opening::Not,
+        Item::Start(t) => Act::Opens(t, false),
+        Item::Empty(t) => Act::Opens(t, true),
+        Item::End(_, _) => Act::Closes,
+        Item::Text(white, _) => {
+            if white {
+                return Act::Passes;
+            }
+            Act::Refuses(3)
+        }
+        Item::Comment(_) => Act::Passes,
+        Item::Refused(_) => Act::Refuses(2),
     }
 }
 
@@ -576,22 +584,11 @@ impl State {
         ensures { λ r. ⌜ r ≡ moved self kind (now (rows .entry)) item (now (s .entry)) room ⌝ }
     {
         let name = element_no(name_in(item, s));
-        if let Opening::By(t, empty) = opening_of(item) {
-            return self.started(kind, rows, name, t, s, empty, room);
-        }
-        match item {
-            // both are openings, which are done with
-            Item::Start(_) => Step::Refused(2),
-            Item::Empty(_) => Step::Refused(2),
-            Item::End(_, _) => self.ended(rows, name),
-            Item::Text(white, _) => {
-                if white {
-                    return Step::Next(self, Entry::Nothing);
-                }
-                Step::Refused(3)
-            }
-            Item::Comment(_) => Step::Next(self, Entry::Nothing),
-            Item::Refused(_) => Step::Refused(2),
+        match act_of(item) {
+            Act::Opens(t, empty) => self.started(kind, rows, name, t, s, empty, room),
+            Act::Closes => self.ended(rows, name),
+            Act::Passes => Step::Next(self, Entry::Nothing),
+            Act::Refuses(n) => Step::Refused(n),
         }
     }
 

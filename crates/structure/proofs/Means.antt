@@ -2,18 +2,16 @@
 -- Assumes nothing.
 use mathlib.Core.Path.{_≡_, refl, sym, ap, _∙_}
 use mathlib.Core.Bool.{Bool, true, false, cond}
-use mathlib.Core.List.{List, [], _∷_}
-use mathlib.Core.Logic.{_⊎_, inl, inr, ⊎-elim}
+use mathlib.Core.List.{List}
+use mathlib.Core.Logic.{inl, inr, ⊎-elim}
 use Prim.Native.Nat.{ℕ, zero, suc, _+_, _-_, _≤_, _<_}
 use native.Mathlib.Omega.{arith}
-use lib.Dec.{eqb, ltb}
 use lib.ListN.{length, getD, drop}
 use borrow.Author.Tests.{eq-eqb, ne-eqb, lt-ltb}
 use Rattle.lists.proofs.Cases.{eqb-cases, ltb-cases, bool-cases, zero-not-one}
 use Rattle.structure.specs.Rows.{nextIn, endsIn, startOf, endAt, endOf, parentOf, nameOf, required, repeated}
-use Rattle.structure.specs.Means.{NextIn, Again, StartDue, EndDue}
+use Rattle.structure.specs.Means.{NextIn, StartDue, EndDue}
 use Rattle.structure.proofs.Laws.{next-end, next-past, next-row, next-stop, next-on, ends-end, ends-past, ends-stop, ends-on}
-use Rattle.structure.specs.declared.Due.{Due}
 use Rattle.structure.specs.declared.Due.the-variants.{Row, NotDue}
 
 -- k rows are left at most: the inductions go by it

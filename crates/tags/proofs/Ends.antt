@@ -1,5 +1,5 @@
 -- A loop over the pieces of a tag: what `piece_at` found at a place, and how the tag goes on from there. Assumes nothing.
-use Prim.Native.Nat.{ℕ, zero, suc, pred, _+_, _-_, _≤_, _<_}
+use Prim.Native.Nat.{ℕ, zero, suc, _+_, _-_, _≤_, _<_}
 use mathlib.Core.Path.{_≡_, refl, sym, ap, _∙_}
 use mathlib.Core.List.{List, [], _∷_}
 use mathlib.Core.Bool.{Bool, true, false, cond}
@@ -24,8 +24,7 @@ use Rattle.tags.specs.First.{vUse, firstKnown}
 use Rattle.tags.specs.Tail.{Attr, Ends, closed, torn, onto, endsAfter, ends, keep, tail}
 use Rattle.tags.specs.declared.Span.{Span}
 use Rattle.tags.specs.declared.Known.{Known}
-use Rattle.tags.specs.declared.Tail.{Tail}
-use Rattle.tags.specs.declared.Tail.the-variants.{Shut, Breaks}
+use Rattle.tags.specs.declared.Tail.the-variants.{Shut}
 
 skip : (k at : ℕ) (l : List ℕ) → endsAfter k at l ≡ endsAfter 0 (at + k) (drop k l)
 unfolding endsAfter

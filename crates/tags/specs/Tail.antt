@@ -6,7 +6,6 @@ use lib.ListN.{drop}
 use Rattle.slices.specs.Same.{same}
 use Rattle.attributes.specs.Attribute.{piece, partOf}
 use Rattle.tags.specs.Known.{noted}
-use Rattle.attributes.specs.declared.Piece.{Piece}
 use Rattle.attributes.specs.declared.Piece.the-variants.{Attribute, Close, CloseEmpty, Torn}
 use Rattle.tags.specs.declared.Span.{Span}
 use Rattle.tags.specs.declared.Known.{Known}

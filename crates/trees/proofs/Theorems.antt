@@ -13,10 +13,10 @@ use Rattle.structure.specs.Rows.{startOf, endOf, endAt, endsAtOnce, nameOf}
 use Rattle.structure.specs.declared.Due.{Due}
 use Rattle.structure.specs.declared.Due.the-variants.{Row, NotDue}
 use Rattle.structure.proofs.Means.{start-means, end-means}
-use Rattle.trees.specs.Trees.{Sign, Opens, Closes, Trees, none, element, spell, Conforms, wellMade}
+use Rattle.trees.specs.Trees.{Sign, Opens, Closes, Trees, none, spell, Conforms, wellMade}
 use Rattle.trees.specs.Cursor.{onRow, follows, rowAfter, openAfter, visited, placesOf}
 use Rattle.trees.proofs.Made.{made}
-use Rattle.trees.proofs.Along.{Along, over-made, closes-after, run-along, visits-along, one-along, opens-on, due-within, due-named}
+use Rattle.trees.proofs.Along.{over-made, closes-after, run-along, visits-along, one-along, opens-on, due-within, due-named}
 use Rattle.trees.proofs.Along.{conforms-along, along-conforms}
 use Rattle.trees.proofs.Parse.{parse, whole}
 

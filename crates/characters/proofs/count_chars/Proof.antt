@@ -2,7 +2,7 @@ use Prim.Native.Nat.{_+_, _-_, _≤_}
 use lib.ListN.{length, drop}
 use native.Mathlib.Omega.{arith}
 use borrow.Author.Needs.{needs}
-use mathlib.Core.Path.{_≡_, refl, ap, sym, _∙_}
+use mathlib.Core.Path.{_≡_, ap}
 use Rattle.characters.specs.Says.{says}
 use Rattle.characters.proofs.Saying.{said-char, said-over, said-end}
 use Rattle.characters.proofs.count_chars.Statement.{statement}

@@ -1,4 +1,4 @@
-use borrow.Author.Tests.{le-leb, le-ltb, lt-leb, lt-ltb}
+use borrow.Author.Tests.{le-leb, lt-leb}
 use Rattle.characters.specs.Utf8.{second}
 use borrow.Author.Needs.{needs}
 use Rattle.characters.proofs.is_second.Statement.{statement}
@@ -16,11 +16,11 @@ high-of-requires c κs = search needs
 
 returns : tie.Need-returns
 unfolding second
-returns c = simp (← c .high-of .ensures, le-leb _ _ (c .before .if1 .taken), le-ltb _ _ (c .before .if1 .taken), ← c .before .before .low-of .ensures)
+returns c = simp (← c .high-of .ensures, le-leb _ _ (c .before .if1 .taken), ← c .before .before .low-of .ensures)
 
 returns-2 : tie.Need-returns-2
 unfolding second
-returns-2 c = simp (lt-ltb _ _ (c .if1 .left), lt-leb _ _ (c .if1 .left), ← c .before .low-of .ensures)
+returns-2 c = simp (lt-leb _ _ (c .if1 .left), ← c .before .low-of .ensures)
 
 pub is-second-spec : {M : Type 1} → statement M
 is-second-spec = tie.close (tie.spec low-of-requires high-of-requires returns returns-2)

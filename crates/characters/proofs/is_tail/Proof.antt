@@ -1,4 +1,4 @@
-use borrow.Author.Tests.{le-leb, le-ltb, lt-leb, lt-ltb}
+use borrow.Author.Tests.{le-leb, lt-leb}
 use Rattle.characters.specs.Utf8.{tail}
 use Rattle.characters.proofs.is_tail.Statement.{statement}
 use Rattle.characters.proofs.is_tail.Tie as tie
@@ -7,11 +7,11 @@ use Rattle.characters.proofs.is_tail.Lts as lts
 
 returns : tie.Need-returns
 unfolding tail
-returns c = simp (le-leb _ _ (c .if1 .taken), le-ltb _ _ (c .if1 .taken))
+returns c = simp (le-leb _ _ (c .if1 .taken))
 
 returns-2 : tie.Need-returns-2
 unfolding tail
-returns-2 c = simp (lt-ltb _ _ (c .if1 .left), lt-leb _ _ (c .if1 .left))
+returns-2 c = simp (lt-leb _ _ (c .if1 .left))
 
 pub is-tail-spec : {M : Type 1} → statement M
 is-tail-spec = tie.close (tie.spec returns returns-2)

@@ -1,7 +1,7 @@
 use native.Mathlib.Omega.{arith}
 use Rattle.lists.proofs.Cases.{up}
 use Rattle.codes.specs.Lists.{lists, codesOf, listed}
-use Rattle.codes.specs.Words.{wordByte, onto, words}
+use Rattle.codes.specs.Words.{wordsAfter}
 use Rattle.codes.proofs.Rows.{none-listed}
 use borrow.Author.Needs.{needs}
 use Rattle.codes.proofs.is_listed.Statement.{statement}
@@ -113,71 +113,71 @@ is-among-requires-17 : tie.Need-is-among-requires-17
 is-among-requires-17 c κs = search needs
 
 returns : tie.Need-returns
-unfolding codesOf lists words onto wordByte
+unfolding codesOf lists wordsAfter
 returns c = rw (c .before .before .match .keys1) (c .is-among .ensures)
 
 returns-2 : tie.Need-returns-2
-unfolding codesOf lists words onto wordByte
+unfolding codesOf lists wordsAfter
 returns-2 c = rw (c .before .before .match .keys2) (c .is-among2 .ensures)
 
 returns-3 : tie.Need-returns-3
-unfolding codesOf lists words onto wordByte
+unfolding codesOf lists wordsAfter
 returns-3 c = rw (c .before .before .match .keys3) (c .is-among3 .ensures)
 
 returns-4 : tie.Need-returns-4
-unfolding codesOf lists words onto wordByte
+unfolding codesOf lists wordsAfter
 returns-4 c = rw (c .before .before .match .keys4) (c .is-among4 .ensures)
 
 returns-5 : tie.Need-returns-5
-unfolding codesOf lists words onto wordByte
+unfolding codesOf lists wordsAfter
 returns-5 c = rw (c .before .before .match .keys5) (c .is-among5 .ensures)
 
 returns-6 : tie.Need-returns-6
-unfolding codesOf lists words onto wordByte
+unfolding codesOf lists wordsAfter
 returns-6 c = rw (c .before .before .match .keys6) (c .is-among6 .ensures)
 
 returns-7 : tie.Need-returns-7
-unfolding codesOf lists words onto wordByte
+unfolding codesOf lists wordsAfter
 returns-7 c = rw (c .before .before .match .keys7) (c .is-among7 .ensures)
 
 returns-8 : tie.Need-returns-8
-unfolding codesOf lists words onto wordByte
+unfolding codesOf lists wordsAfter
 returns-8 c = rw (c .before .before .match .keys8) (c .is-among8 .ensures)
 
 returns-9 : tie.Need-returns-9
-unfolding codesOf lists words onto wordByte
+unfolding codesOf lists wordsAfter
 returns-9 c = rw (c .before .before .match .keys9) (c .is-among9 .ensures)
 
 returns-10 : tie.Need-returns-10
-unfolding codesOf lists words onto wordByte
+unfolding codesOf lists wordsAfter
 returns-10 c = rw (c .before .before .match .keys10) (c .is-among10 .ensures)
 
 returns-11 : tie.Need-returns-11
-unfolding codesOf lists words onto wordByte
+unfolding codesOf lists wordsAfter
 returns-11 c = rw (c .before .before .match .keys11) (c .is-among11 .ensures)
 
 returns-12 : tie.Need-returns-12
-unfolding codesOf lists words onto wordByte
+unfolding codesOf lists wordsAfter
 returns-12 c = rw (c .before .before .match .keys12) (c .is-among12 .ensures)
 
 returns-13 : tie.Need-returns-13
-unfolding codesOf lists words onto wordByte
+unfolding codesOf lists wordsAfter
 returns-13 c = rw (c .before .before .match .keys13) (c .is-among13 .ensures)
 
 returns-14 : tie.Need-returns-14
-unfolding codesOf lists words onto wordByte
+unfolding codesOf lists wordsAfter
 returns-14 c = rw (c .before .before .match .keys14) (c .is-among14 .ensures)
 
 returns-15 : tie.Need-returns-15
-unfolding codesOf lists words onto wordByte
+unfolding codesOf lists wordsAfter
 returns-15 c = rw (c .before .before .match .keys15) (c .is-among15 .ensures)
 
 returns-16 : tie.Need-returns-16
-unfolding codesOf lists words onto wordByte
+unfolding codesOf lists wordsAfter
 returns-16 c = rw (c .before .before .match .keys16) (c .is-among16 .ensures)
 
 returns-17 : tie.Need-returns-17
-unfolding codesOf lists words onto wordByte
+unfolding codesOf lists wordsAfter
 returns-17 c = rw (c .before .before .match .keys17) (c .is-among17 .ensures)
 
 returns-18 : tie.Need-returns-18

@@ -1,10 +1,10 @@
 use mathlib.Core.Path.{sym}
-use Prim.Native.Nat.{_≤_, _<_}
+use Prim.Native.Nat.{_<_}
 use native.Mathlib.Omega.{arith}
 use lib.ListN.{length}
-use borrow.Author.Tests.{le-leb, lt-ltb, ne-eqb}
+use borrow.Author.Tests.{lt-ltb, ne-eqb}
 use Rattle.elements.specs.Names.{names}
-use Rattle.elements.proofs.Lengths.{longIn, as-long, no-number, shortLength, longLength}
+use Rattle.elements.proofs.Lengths.{longIn, as-long, no-number, shortLength}
 use borrow.Author.Needs.{needs}
 use Rattle.elements.proofs.short_no.Statement.{statement}
 use Rattle.elements.proofs.short_no.Tie as tie

@@ -3,7 +3,6 @@
 use Prim.Native.Nat.{_-_}
 use native.Mathlib.Omega.{arith}
 use lib.ListN.{length}
-use borrow.Author.Needs.{needs}
 use Rattle.guideline_run.proofs.show_names.Statement.{statement}
 use Rattle.guideline_run.proofs.show_names.Tie as tie
 use Rattle.guideline_run.proofs.show_names.Reads as reads

@@ -2,8 +2,6 @@
 -- Assumes nothing.
 use Prim.Native.Nat.{_-_}
 use native.Mathlib.Omega.{arith}
-use lib.ListN.{length}
-use borrow.Author.Needs.{needs}
 use Rattle.guideline_run.proofs.show_roots.Statement.{statement}
 use Rattle.guideline_run.proofs.show_roots.Tie as tie
 use Rattle.guideline_run.proofs.show_roots.Reads as reads

@@ -1,6 +1,5 @@
 use native.Mathlib.Omega.{arith}
 use Rattle.reader.proofs.Spans.{span-in}
-use Rattle.reader.specs.Rows.{seriesAfter, positionsAfter, amountsAfter}
 use borrow.Author.Needs.{needs}
 use Rattle.reader.proofs.enter.Statement.{statement}
 use Rattle.reader.proofs.enter.Tie as tie

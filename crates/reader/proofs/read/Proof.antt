@@ -6,7 +6,6 @@ use Rattle.reader.specs.declared.Found.{Found}
 use Rattle.reader.specs.Reading.{blank, refusedAt}
 use Rattle.reader.specs.Answer.{Outcome, answerOf, noteFor, told, noted, unnoted}
 use Rattle.reader.proofs.Sheets.{read-unnoted, read-noted}
-use borrow.Author.Tests.{le-leb, le-ltb, lt-leb, lt-ltb}
 use borrow.Author.Needs.{needs}
 use Rattle.reader.proofs.read.Statement.{statement}
 use Rattle.reader.proofs.read.Tie as tie

@@ -5,7 +5,6 @@ use Rattle.tables.specs.Cells.{noAmounts}
 use Rattle.reader.specs.declared.Found.{Found}
 use Rattle.reader.specs.Reading.{Tables, Out, blank, readInto}
 use Rattle.reader.proofs.Sheets.{blank-is, sheet-long, sheet-taken, sheet-refused}
-use borrow.Author.Tests.{eq-eqb, le-leb, le-ltb, lt-leb, lt-ltb, ne-eqb}
 use borrow.Author.Needs.{needs}
 use Rattle.reader.proofs.read_sheet.Statement.{statement}
 use Rattle.reader.proofs.read_sheet.Tie as tie

@@ -1,4 +1,3 @@
-use native.Mathlib.Omega.{arith}
 use Rattle.reader.specs.Answer.{noteFor, answerOf, told}
 use borrow.Author.Needs.{needs}
 use Rattle.reader.proofs.tell.Statement.{statement}

@@ -1,4 +1,4 @@
-use borrow.Author.Tests.{eq-eqb, le-leb, le-ltb, lt-leb, lt-ltb, ne-eqb}
+use borrow.Author.Tests.{eq-eqb, le-leb, lt-leb, ne-eqb}
 use Rattle.rules.specs.Rules.{formRefusal}
 use borrow.Author.Needs.{needs}
 use Rattle.rules.proofs.form_refusal.Statement.{statement}
@@ -103,11 +103,11 @@ refused-unless-requires-9 c κs = search needs
 
 returns-9 : tie.Need-returns-9
 unfolding formRefusal
-returns-9 c = simp (← c .refused-unless9 .ensures, ← c .before .is-listed .ensures, le-leb _ _ (c .before .before .if9 .taken), le-ltb _ _ (c .before .before .if9 .taken), ne-eqb _ _ (c .before .before .before .if8 .left), ne-eqb _ _ (c .before .before .before .before .if7 .left), ne-eqb _ _ (c .before .before .before .before .before .if6 .left), ne-eqb _ _ (c .before .before .before .before .before .before .if5 .left), ne-eqb _ _ (c .before .before .before .before .before .before .before .if4 .left), ne-eqb _ _ (c .before .before .before .before .before .before .before .before .if3 .left), ne-eqb _ _ (c .before .before .before .before .before .before .before .before .before .if2 .left), ne-eqb _ _ (c .before .before .before .before .before .before .before .before .before .before .if1 .left))
+returns-9 c = simp (← c .refused-unless9 .ensures, ← c .before .is-listed .ensures, le-leb _ _ (c .before .before .if9 .taken), ne-eqb _ _ (c .before .before .before .if8 .left), ne-eqb _ _ (c .before .before .before .before .if7 .left), ne-eqb _ _ (c .before .before .before .before .before .if6 .left), ne-eqb _ _ (c .before .before .before .before .before .before .if5 .left), ne-eqb _ _ (c .before .before .before .before .before .before .before .if4 .left), ne-eqb _ _ (c .before .before .before .before .before .before .before .before .if3 .left), ne-eqb _ _ (c .before .before .before .before .before .before .before .before .before .if2 .left), ne-eqb _ _ (c .before .before .before .before .before .before .before .before .before .before .if1 .left))
 
 returns-10 : tie.Need-returns-10
 unfolding formRefusal
-returns-10 c = simp (lt-ltb _ _ (c .if9 .left), lt-leb _ _ (c .if9 .left), ne-eqb _ _ (c .before .if8 .left), ne-eqb _ _ (c .before .before .if7 .left), ne-eqb _ _ (c .before .before .before .if6 .left), ne-eqb _ _ (c .before .before .before .before .if5 .left), ne-eqb _ _ (c .before .before .before .before .before .if4 .left), ne-eqb _ _ (c .before .before .before .before .before .before .if3 .left), ne-eqb _ _ (c .before .before .before .before .before .before .before .if2 .left), ne-eqb _ _ (c .before .before .before .before .before .before .before .before .if1 .left))
+returns-10 c = simp (lt-leb _ _ (c .if9 .left), ne-eqb _ _ (c .before .if8 .left), ne-eqb _ _ (c .before .before .if7 .left), ne-eqb _ _ (c .before .before .before .if6 .left), ne-eqb _ _ (c .before .before .before .before .if5 .left), ne-eqb _ _ (c .before .before .before .before .before .if4 .left), ne-eqb _ _ (c .before .before .before .before .before .before .if3 .left), ne-eqb _ _ (c .before .before .before .before .before .before .before .if2 .left), ne-eqb _ _ (c .before .before .before .before .before .before .before .before .if1 .left))
 
 pub form-refusal-spec : {M : Type 1} → statement M
 form-refusal-spec =

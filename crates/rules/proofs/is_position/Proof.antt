@@ -1,4 +1,4 @@
-use borrow.Author.Tests.{eq-eqb, le-leb, le-ltb, lt-leb, lt-ltb, ne-eqb}
+use borrow.Author.Tests.{eq-eqb, le-ltb, lt-ltb, ne-eqb}
 use Rattle.rules.specs.Rules.{positionFits}
 use borrow.Author.Needs.{needs}
 use Rattle.rules.proofs.is_position.Statement.{statement}
@@ -9,22 +9,22 @@ use Rattle.rules.proofs.is_next.Reads as is-next-reads
 
 returns : tie.Need-returns
 unfolding positionFits
-returns c = simp (lt-ltb _ _ (c .if1 .taken), lt-leb _ _ (c .if1 .taken))
+returns c = simp (lt-ltb _ _ (c .if1 .taken))
 
 is-next-requires : tie.Need-is-next-requires
 is-next-requires c κs = search needs
 
 returns-2 : tie.Need-returns-2
 unfolding positionFits
-returns-2 c = simp (← c .is-next .ensures, eq-eqb _ _ (c .before .if2 .taken), le-leb _ _ (c .before .before .if1 .left), le-ltb _ _ (c .before .before .if1 .left))
+returns-2 c = simp (← c .is-next .ensures, eq-eqb _ _ (c .before .if2 .taken), le-ltb _ _ (c .before .before .if1 .left))
 
 returns-3 : tie.Need-returns-3
 unfolding positionFits
-returns-3 c = simp (eq-eqb _ _ (c .if3 .taken), ne-eqb _ _ (c .before .if2 .left), le-leb _ _ (c .before .before .if1 .left), le-ltb _ _ (c .before .before .if1 .left))
+returns-3 c = simp (eq-eqb _ _ (c .if3 .taken), ne-eqb _ _ (c .before .if2 .left), le-ltb _ _ (c .before .before .if1 .left))
 
 returns-4 : tie.Need-returns-4
 unfolding positionFits
-returns-4 c = simp (ne-eqb _ _ (c .if3 .left), ne-eqb _ _ (c .before .if2 .left), le-leb _ _ (c .before .before .if1 .left), le-ltb _ _ (c .before .before .if1 .left))
+returns-4 c = simp (ne-eqb _ _ (c .if3 .left), ne-eqb _ _ (c .before .if2 .left), le-ltb _ _ (c .before .before .if1 .left))
 
 pub is-position-spec : {M : Type 1} → statement M
 is-position-spec = tie.close (tie.spec returns is-next-requires returns-2 returns-3 returns-4)

@@ -1,7 +1,6 @@
 use mathlib.Core.Path.{sym, refl}
 use lib.Seq.{length-take-le, take-all}
 use native.Mathlib.Nat.{le-of-lt, le-of-eq}
-use borrow.Author.Needs.{needs}
 use Rattle.slices.proofs.front.Statement.{statement}
 use Rattle.slices.proofs.front.Tie as tie
 use Rattle.slices.proofs.front.Reads as reads

@@ -1,4 +1,4 @@
-use Rattle.states.specs.Opening.{nameIn}
+use Rattle.states.specs.Act.{nameIn}
 use borrow.Author.Needs.{needs}
 use Rattle.states.proofs.name_in.Statement.{statement}
 use Rattle.states.proofs.name_in.Tie as tie

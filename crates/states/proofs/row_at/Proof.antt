@@ -1,5 +1,4 @@
 use Rattle.lists.proofs.Tests.{tests}
-use borrow.Author.Tests.{le-leb, le-ltb}
 use Rattle.states.specs.Moves.{entryOf}
 use borrow.Author.Needs.{needs}
 use Rattle.states.proofs.row_at.Statement.{statement}

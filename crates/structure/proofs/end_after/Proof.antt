@@ -1,4 +1,4 @@
-use borrow.Author.Tests.{le-leb, le-ltb, lt-leb, lt-ltb}
+use borrow.Author.Tests.{le-ltb, lt-ltb}
 use Rattle.structure.specs.Rows.{endOf}
 use borrow.Author.Needs.{needs}
 use Rattle.structure.proofs.end_after.Statement.{statement}
@@ -10,14 +10,14 @@ use Rattle.structure.proofs.parent_of.Reads as parent-of-reads
 
 returns : tie.Need-returns
 unfolding endOf
-returns c = simp (le-leb _ _ (c .if1 .taken), le-ltb _ _ (c .if1 .taken))
+returns c = simp (le-ltb _ _ (c .if1 .taken))
 
 end-at-requires : tie.Need-end-at-requires
 end-at-requires c κs = search needs
 
 returns-2 : tie.Need-returns-2
 unfolding endOf
-returns-2 c = simp (← c .end-at .ensures, c .before .if2 .taken, lt-ltb _ _ (c .before .before .if1 .left), lt-leb _ _ (c .before .before .if1 .left))
+returns-2 c = simp (← c .end-at .ensures, c .before .if2 .taken, lt-ltb _ _ (c .before .before .if1 .left))
 
 mul-parent-of : tie.Need-mul-parent-of
 mul-parent-of c = search needs
@@ -33,7 +33,7 @@ end-at-requires-2 c κs = search needs
 
 returns-3 : tie.Need-returns-3
 unfolding endOf
-returns-3 c = simp (← c .end-at2 .ensures, ← c .before .parent-of .ensures, c .before .before .before .if2 .left, lt-ltb _ _ (c .before .before .before .before .if1 .left), lt-leb _ _ (c .before .before .before .before .if1 .left))
+returns-3 c = simp (← c .end-at2 .ensures, ← c .before .parent-of .ensures, c .before .before .before .if2 .left, lt-ltb _ _ (c .before .before .before .before .if1 .left))
 
 pub end-after-spec : {M : Type 1} → statement M
 end-after-spec =

@@ -1,4 +1,4 @@
-use borrow.Author.Tests.{eq-eqb, le-leb, le-ltb, lt-leb, lt-ltb, ne-eqb}
+use borrow.Author.Tests.{eq-eqb, le-ltb, lt-ltb, ne-eqb}
 use Rattle.structure.specs.Rows.{endAt}
 use borrow.Author.Needs.{needs}
 use Rattle.structure.proofs.end_at.Statement.{statement}
@@ -10,7 +10,7 @@ use Rattle.structure.proofs.name_of.Reads as name-of-reads
 
 returns : tie.Need-returns
 unfolding endAt
-returns c = simp (le-leb _ _ (c .if1 .taken), le-ltb _ _ (c .if1 .taken))
+returns c = simp (le-ltb _ _ (c .if1 .taken))
 
 mul-name-of : tie.Need-mul-name-of
 mul-name-of c = search needs
@@ -29,15 +29,15 @@ ends-in-requires c κs = search needs
 
 returns-2 : tie.Need-returns-2
 unfolding endAt
-returns-2 c = simp (c .if3 .taken, ← c .before .ends-in .ensures, eq-eqb _ _ (c .before .before .if2 .taken), ← c .before .before .before .name-of .ensures, lt-ltb _ _ (c .before .before .before .before .before .if1 .left), lt-leb _ _ (c .before .before .before .before .before .if1 .left))
+returns-2 c = simp (c .if3 .taken, ← c .before .ends-in .ensures, eq-eqb _ _ (c .before .before .if2 .taken), ← c .before .before .before .name-of .ensures, lt-ltb _ _ (c .before .before .before .before .before .if1 .left))
 
 returns-3 : tie.Need-returns-3
 unfolding endAt
-returns-3 c = simp (c .if3 .left, ← c .before .ends-in .ensures, eq-eqb _ _ (c .before .before .if2 .taken), ← c .before .before .before .name-of .ensures, lt-ltb _ _ (c .before .before .before .before .before .if1 .left), lt-leb _ _ (c .before .before .before .before .before .if1 .left))
+returns-3 c = simp (c .if3 .left, ← c .before .ends-in .ensures, eq-eqb _ _ (c .before .before .if2 .taken), ← c .before .before .before .name-of .ensures, lt-ltb _ _ (c .before .before .before .before .before .if1 .left))
 
 returns-4 : tie.Need-returns-4
 unfolding endAt
-returns-4 c = simp (ne-eqb _ _ (c .if2 .left), ← c .before .name-of .ensures, lt-ltb _ _ (c .before .before .before .if1 .left), lt-leb _ _ (c .before .before .before .if1 .left))
+returns-4 c = simp (ne-eqb _ _ (c .if2 .left), ← c .before .name-of .ensures, lt-ltb _ _ (c .before .before .before .if1 .left))
 
 pub end-at-spec : {M : Type 1} → statement M
 end-at-spec =

@@ -2,7 +2,6 @@ use mathlib.Core.Path.{refl}
 use Prim.Native.Nat.{_+_}
 use native.Mathlib.Omega.{arith}
 use Rattle.structure.proofs.Laws.{ends-end}
-use borrow.Author.Tests.{le-leb, le-ltb, lt-leb, lt-ltb}
 use Rattle.structure.specs.Rows.{endsAtOnce}
 use borrow.Author.Needs.{needs}
 use Rattle.structure.proofs.ends_at_once.Statement.{statement}
@@ -23,7 +22,7 @@ ends-in-requires c κs = search needs
 
 returns-2 : tie.Need-returns-2
 unfolding endsAtOnce
-returns-2 c = simp (← c .ends-in .ensures, lt-ltb _ _ (c .before .if1 .left), lt-leb _ _ (c .before .if1 .left))
+returns-2 c = simp (← c .ends-in .ensures)
 
 pub ends-at-once-spec : {M : Type 1} → statement M
 ends-at-once-spec = tie.close (tie.spec returns add-ends-in ends-in-requires returns-2)

@@ -1,5 +1,5 @@
 use mathlib.Core.Logic.{⊎-elim}
-use borrow.Author.Tests.{eq-eqb, ne-eqb, le-leb, le-ltb, lt-leb, lt-ltb}
+use borrow.Author.Tests.{eq-eqb, ne-eqb, le-ltb, lt-ltb}
 use Rattle.structure.specs.Rows.{startOf}
 use borrow.Author.Needs.{needs}
 use Rattle.structure.proofs.start_after.Statement.{statement}
@@ -13,7 +13,7 @@ use Rattle.structure.proofs.parent_of.Reads as parent-of-reads
 
 returns : tie.Need-returns
 unfolding startOf
-returns c = simp (le-leb _ _ (c .if1 .taken), le-ltb _ _ (c .if1 .taken))
+returns c = simp (le-ltb _ _ (c .if1 .taken))
 
 add-next-in : tie.Need-add-next-in
 add-next-in c = search needs
@@ -23,7 +23,7 @@ next-in-requires c κs = search needs
 
 returns-2 : tie.Need-returns-2
 unfolding startOf
-returns-2 c = simp (← c .next-in .ensures, c .before .if2 .taken, lt-ltb _ _ (c .before .before .if1 .left), lt-leb _ _ (c .before .before .if1 .left))
+returns-2 c = simp (← c .next-in .ensures, c .before .if2 .taken, lt-ltb _ _ (c .before .before .if1 .left))
 
 mul-w : tie.Need-mul-w
 mul-w c = search needs
@@ -39,7 +39,7 @@ name-of-requires c κs = search needs
 
 returns-3 : tie.Need-returns-3
 unfolding startOf
-returns-3 c = simp (eq-eqb _ _ (c .if4 .taken), ← c .before .name-of .ensures, c .before .before .if3 .taken, ← c .before .before .before .is-repeated .ensures, c .before .before .before .before .before .if2 .left, lt-ltb _ _ (c .before .before .before .before .before .before .if1 .left), lt-leb _ _ (c .before .before .before .before .before .before .if1 .left))
+returns-3 c = simp (eq-eqb _ _ (c .if4 .taken), ← c .before .name-of .ensures, c .before .before .if3 .taken, ← c .before .before .before .is-repeated .ensures, c .before .before .before .before .before .if2 .left, lt-ltb _ _ (c .before .before .before .before .before .before .if1 .left))
 
 add-next-in-2 : tie.Need-add-next-in-2
 add-next-in-2 c = search needs

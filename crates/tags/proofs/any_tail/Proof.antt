@@ -4,7 +4,6 @@ use lib.ListN.{length}
 use native.Mathlib.Omega.{arith}
 use borrow.Author.Needs.{needs}
 use Rattle.tags.specs.Tail.{ends, tail, keep}
-use Rattle.tags.specs.declared.Known.{Known}
 use Rattle.tags.proofs.Ends.{tail-attribute, noted-v, ends-close, ends-empty, ends-torn, ends-over}
 use Rattle.tags.proofs.any_tail.Statement.{statement}
 use Rattle.tags.proofs.any_tail.Tie as tie

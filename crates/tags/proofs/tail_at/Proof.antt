@@ -1,14 +1,13 @@
-use borrow.Author.Tests.{eq-eqb, le-leb, le-ltb, lt-leb, lt-ltb, ne-eqb}
-use Rattle.tags.specs.Tail.{keep, tail}
-use Prim.Native.Nat.{_+_, _-_, _≤_, _<_}
-use mathlib.Core.Path.{_≡_, refl, sym, ap, _∙_}
-use mathlib.Core.Bool.{true, false}
+use Rattle.tags.specs.Tail.{tail}
+use Prim.Native.Nat.{_+_, _<_}
+use mathlib.Core.Path.{sym, ap, _∙_}
+use mathlib.Core.Bool.{false}
 use native.Mathlib.Omega.{arith}
 use lib.ListN.{length}
 use Rattle.attributes.proofs.Short.{byte-there}
 use Rattle.tags.specs.Known.{noneKnown, absent}
 use Rattle.tags.specs.declared.Known.{Known}
-use Rattle.tags.specs.declared.Tail.the-variants.{Shut, Breaks}
+use Rattle.tags.specs.declared.Tail.the-variants.{Shut}
 use Rattle.tags.proofs.Ends.{ends-over, close-tail, first-v, first-inside, first-tail, first-empty}
 use borrow.Author.Needs.{needs}
 use Rattle.tags.proofs.tail_at.Statement.{statement}

@@ -2,7 +2,7 @@ use mathlib.Core.Path.{_≡_, refl, sym, _∙_}
 use native.Mathlib.Omega.{arith}
 use borrow.Author.Needs.{needs}
 use Rattle.reader.proofs.Used.{used-none, used-hit, used-miss}
-use Rattle.reader.specs.Rows.{identificationAt, used}
+use Rattle.reader.specs.Rows.{used}
 use Rattle.reader.proofs.rows.is_used.Statement.{statement}
 use Rattle.reader.proofs.rows.is_used.Tie as tie
 use Rattle.reader.proofs.rows.is_used.Reads as reads

@@ -1,5 +1,4 @@
 use Rattle.lists.proofs.Tests.{tests}
-use borrow.Author.Tests.{le-leb, le-ltb}
 use borrow.Author.Needs.{needs}
 use Rattle.reader.proofs.rows.number_at.Statement.{statement}
 use Rattle.reader.proofs.rows.number_at.Tie as tie

@@ -1,4 +1,3 @@
-use mathlib.Core.Path.{refl}
 use Rattle.reader.specs.Rows.{spanOf}
 use borrow.Author.Needs.{needs}
 use Rattle.reader.proofs.rows.span_of.Statement.{statement}

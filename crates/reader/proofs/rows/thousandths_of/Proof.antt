@@ -1,5 +1,4 @@
 use mir.Syntax.{w64}
-use mathlib.Core.Path.{_∙_}
 use mir.Facts.{toZ-ofZ}
 use borrow.Author.Needs.{sfits-of}
 use Rattle.reader.specs.Rows.{thousandthsOf}

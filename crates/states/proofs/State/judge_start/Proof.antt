@@ -23,7 +23,7 @@ is-cut-short-requires c κs = search needs
 
 returns : tie.Need-returns
 unfolding startJudged judgedAt
-returns c = simp (c .if1 .taken, ← c .before .is-cut-short .ensures, ← c .before .before .role-of .ensures, ← c .before .before .before .row-at .ensures)
+returns c = simp (c .if1 .taken, ← c .before .is-cut-short .ensures, ← c .before .before .before .row-at .ensures)
 
 has-too-many-requires : tie.Need-has-too-many-requires
 has-too-many-requires c κs = search needs

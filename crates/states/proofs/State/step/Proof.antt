@@ -1,5 +1,5 @@
 use Rattle.states.specs.Moves.{stepOn, step}
-use Rattle.states.proofs.Openings.{moved-rows}
+use Rattle.states.proofs.Acts.{moved-rows}
 use borrow.Author.Needs.{needs}
 use Rattle.states.proofs.State.step.Statement.{statement}
 use Rattle.states.proofs.State.step.Tie as tie

@@ -1,22 +1,20 @@
--- An item that opens an element, and the name of a tag.
+-- What an item does to the state, and the name of a tag.
 use Prim.Native.Nat.{ℕ}
 use mathlib.Core.List.{List}
-use mathlib.Core.Bool.{true, false}
+use mathlib.Core.Bool.{true, false, cond}
 use Rattle.attributes.specs.Attribute.{partOf}
-use Rattle.items.specs.declared.Tag.{Tag}
 use Rattle.items.specs.declared.Item.{Item}
 use Rattle.items.specs.declared.Item.the-variants.{Start, Empty, End, Text, Comment, Refused}
-use Rattle.states.specs.declared.Opening.{Opening}
-use Rattle.states.specs.declared.Opening.the-variants.{By, Not}
+use Rattle.states.specs.declared.Act.{Act}
+use Rattle.states.specs.declared.Act.the-variants.{Opens, Closes, Passes, Refuses}
 
--- its tag, and whether that is an empty one
-unfoldable pub openingOf : Item → Opening
-openingOf (Start t) = By t false
-openingOf (Empty t) = By t true
-openingOf (End n e) = Not
-openingOf (Text white e) = Not
-openingOf (Comment e) = Not
-openingOf (Refused p) = Not
+unfoldable pub actOf : Item → Act
+actOf (Start t) = Opens t false
+actOf (Empty t) = Opens t true
+actOf (End n e) = Closes
+actOf (Text white e) = cond white Passes (Refuses 3)
+actOf (Comment e) = Passes
+actOf (Refused p) = Refuses 2
 
 -- no bytes where the item is no tag
 unfoldable pub nameIn : Item → List ℕ → List ℕ
