@@ -46,7 +46,7 @@ pub enum Item {
     Refused(usize),
 }
 
-// How far a comment or a text reaches, or that it is unreadable.
+// How far a comment reaches, or that it is unreadable.
 enum Reach {
     Upto(usize),
     Unread,
@@ -104,7 +104,7 @@ fn any_text(before: usize, s: &[u8]) -> Item
     Item::Refused(before)
 }
 
-// White space up to a tag or the end, which nearly every text is, is told in one walk.
+// White space up to a tag, which nearly every text is, is told in one walk.
 fn text_at(before: usize, s: &[u8]) -> Item
     ensures item { λ r. ⌜ r ≡ textItem before (now (s .entry)) ⌝ }
     ensures size { λ r. ⌜ (1 ≤ itemEnd r) × (itemEnd r ≤ length (now (s .entry)) + 8) × (itemValue r ≤ itemEnd r) ⌝ }

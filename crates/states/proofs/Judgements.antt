@@ -15,7 +15,7 @@ use Rattle.states.specs.Moves.{cutShort, tooMany, noRoom, halfOriginals,
 use Rattle.states.specs.declared.State.{State}
 use Rattle.states.specs.declared.Room.{Room}
 
-pub untold : (t : Bool) (n : ℕ) (b : Judged) → (n ≡ 0 → ⊥) → cond t (refused n) b .number ≡ 0 → (t ≡ false) × (b .number ≡ 0)
+untold : (t : Bool) (n : ℕ) (b : Judged) → (n ≡ 0 → ⊥) → cond t (refused n) b .number ≡ 0 → (t ≡ false) × (b .number ≡ 0)
 untold true n b h e = absurd (h e)
 untold false n b h e = (refl, e)
 
