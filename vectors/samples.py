@@ -12,10 +12,11 @@ expected answer by hand; the script stops where the reader answers otherwise. It
 amounts are invented.
 """
 
+import calendar
 import re
 import sys
 from collections import namedtuple
-from datetime import datetime, timedelta
+from datetime import date, datetime, timedelta
 from pathlib import Path
 
 # ---------------------------------------------------------------- Items
@@ -210,6 +211,14 @@ ROOTS = {0: None, 1: KIND_1, 2: KIND_2}
 QUARTER = timedelta(minutes=15)
 
 
+def midnight(day):
+    """The start of a delivery day, in UTC: the clock goes forward on the last Sunday of March and back on the last one of October, at 01:00."""
+    def last_sunday(month):
+        return date(day.year, month, max(week[calendar.SUNDAY] for week in calendar.monthcalendar(day.year, month)))
+    summer = last_sunday(3) < day <= last_sunday(10)
+    return datetime(day.year, day.month, day.day) - timedelta(hours=2 if summer else 1)
+
+
 # ---------------------------------------------------------------- Reading
 
 class Reading:
@@ -297,8 +306,8 @@ class Reading:
 
     def period_fits(self, start, end):
         if self.kind == 1:
-            hours = all((time.hour, time.minute) in ((22, 0), (23, 0)) for time in (start, end))
-            return hours and end.date() == start.date() + timedelta(days=1)
+            day = start.date() + timedelta(days=1)
+            return start == midnight(day) and end == midnight(day + timedelta(days=1))
         return timedelta(0) < end - start <= timedelta(days=366) and not (end - start) % QUARTER
 
     def pos_fits(self, pos):
@@ -681,12 +690,11 @@ def accepted_one():
     taken("one-all-optional", 1, 96, row(96), one(schedule(first(96), originals=ORIGINALS)))
     taken("one-92", 1, 92, row(92), one(schedule(first(92), period=SPRING), period=SPRING))
     taken("one-100", 1, 100, row(100), one(schedule(first(100), period=AUTUMN), period=AUTUMN))
-    winter = "2023-12-31T23:00Z/2024-01-01T23:00Z"
-    taken("one-23-to-23", 1, 96, row(96), one(schedule(first(96), period=winter), period=winter))
-    leap = "2024-02-28T22:00Z/2024-02-29T22:00Z"
-    taken("one-to-29-february", 1, 96, row(96), one(schedule(first(96), period=leap), period=leap))
-    any_day = "2024-07-01T23:00Z/2024-07-02T22:00Z"
-    taken("one-92-on-any-date", 1, 92, row(92), one(schedule(first(92), period=any_day), period=any_day))
+    for name, day in (("one-23-to-23", "2023-12-31T23:00Z/2024-01-01T23:00Z"), ("one-to-29-february", "2024-02-28T23:00Z/2024-02-29T23:00Z"),
+                      ("one-first-day", "2000-01-01T23:00Z/2000-01-02T23:00Z"), ("one-last-day", "2099-12-30T23:00Z/2099-12-31T23:00Z"),
+                      ("one-before-march-sunday", "2024-03-29T23:00Z/2024-03-30T23:00Z"), ("one-after-march-sunday", "2024-03-31T22:00Z/2024-04-01T22:00Z"),
+                      ("one-before-october-sunday", "2024-10-25T22:00Z/2024-10-26T22:00Z"), ("one-after-october-sunday", "2024-10-27T23:00Z/2024-10-28T23:00Z")):
+        taken(name, 1, 96, row(96), one(schedule(first(96), period=day), period=day))
     taken("one-two-series", 1, 96, row(96) + [("T-2", "11XINVENTED-IN-A", "A02", first_rows(96))],
           one(schedule(first(96)), schedule(first(96), "T-2", originals=ORIGINALS)))
     taken("one-negative", 1, 96, [("T-1", "11XINVENTED-IN-A", "A02", [(1, -500)] + first_rows(96)[1:])],
@@ -956,6 +964,11 @@ def rows_of_one():
     for name, refusal, value in (
             ("21-00", 8, "2024-05-06T21:00Z/2024-05-07T22:00Z"), ("22-15", 8, "2024-05-06T22:15Z/2024-05-07T22:15Z"),
             ("two-days", 8, "2024-05-06T22:00Z/2024-05-08T22:00Z"), ("same-date", 8, "2024-05-06T22:00Z/2024-05-06T23:00Z"),
+            ("92-in-may", 8, "2024-05-10T23:00Z/2024-05-11T22:00Z"), ("100-in-may", 8, "2024-05-10T22:00Z/2024-05-11T23:00Z"),
+            ("23-in-summer", 8, "2024-07-01T23:00Z/2024-07-02T23:00Z"), ("22-in-winter", 8, "2024-02-28T22:00Z/2024-02-29T22:00Z"),
+            ("92-a-week-early", 8, "2024-03-23T23:00Z/2024-03-24T22:00Z"), ("92-a-week-late", 8, "2024-04-06T23:00Z/2024-04-07T22:00Z"),
+            ("100-a-week-early", 8, "2024-10-19T22:00Z/2024-10-20T23:00Z"), ("96-on-march-sunday", 8, "2024-03-30T23:00Z/2024-03-31T23:00Z"),
+            ("96-on-october-sunday", 8, "2024-10-26T22:00Z/2024-10-27T22:00Z"), ("saturday-of-march", 8, "2024-03-29T23:00Z/2024-03-30T22:00Z"),
             ("29-february-2023", 6, "2023-02-28T23:00Z/2023-02-29T23:00Z"), ("end-2100", 6, "2099-12-31T23:00Z/2100-01-01T23:00Z")):
         fault("period-covered-" + name, refusal, 0, 0, f'<TimePeriodCovered v="{DAY}"/>', f'@@<TimePeriodCovered v="{value}"/>')
     fault("series-of-two", 3, 0, 0, "<ScheduleTimeSeries>", "@@<CostTimeSeries>")

@@ -8,6 +8,7 @@ a date-time or an interval is what datetime can read and print back the same.
 import datetime
 import re
 import sys
+import zoneinfo
 
 ZERO = datetime.datetime(2000, 1, 1)
 SECONDS = r"\d{4}-\d\d-\d\dT\d\d:\d\d:\d\dZ"
@@ -39,10 +40,15 @@ def interval(text):
     return None if a is None or b is None else (a, b)
 
 
+def midnight(day):
+    """local midnight in Germany, in UTC, by the time zones of this machine"""
+    start = datetime.datetime(day.year, day.month, day.day, tzinfo=zoneinfo.ZoneInfo("Europe/Berlin"))
+    return start.astimezone(datetime.timezone.utc).replace(tzinfo=None)
+
+
 def is_day_period(a, b):
-    hours = (22, 23)
-    return (a.hour in hours and b.hour in hours and a.minute == b.minute == 0
-            and b.date() == a.date() + datetime.timedelta(days=1))
+    day = a.date() + datetime.timedelta(days=1)
+    return a == midnight(day) and b == midnight(day + datetime.timedelta(days=1))
 
 
 def is_cost_period(a, b):
@@ -107,6 +113,9 @@ def periods():
         for n in minutes:
             for u in (t + datetime.timedelta(minutes=n), t - datetime.timedelta(minutes=n)):
                 yield t.strftime("%Y-%m-%dT%H:%MZ/") + u.strftime("%Y-%m-%dT%H:%MZ")
+    for text in ("2024-05-10T23:00Z/2024-05-11T22:00Z", "2000-01-01T23:00Z/2000-01-02T23:00Z", "2000-01-01T22:00Z/2000-01-02T22:00Z",
+                 "2099-12-30T23:00Z/2099-12-31T23:00Z", "2099-12-31T23:00Z/2100-01-01T23:00Z"):
+        yield text
     day = datetime.datetime(2024, 2, 28)
     for hour in (21, 22, 23, 24):
         for later in (44, 45, 46, 47, 48, 70, 71):

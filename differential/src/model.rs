@@ -401,12 +401,25 @@ fn interval(text: &[u8]) -> Option<(i64, i64)> {
 
 // ---------------------------------------------------------------- Values against each other
 
-/// "Kind 1: TimePeriodCovered starts at 22:00Z or 23:00Z and ends at 22:00Z or 23:00Z on the next UTC date."
+/// "the last Sunday of March .. the last Sunday of October": both months have 31 days, and 2000-01-02 was a Sunday
+pub fn last_sunday(year: i64, month: i64) -> i64 {
+    let last = day_number(year, month, 31);
+    last - (last - day_number(2000, 1, 2)).rem_euclid(7)
+}
+
+/// "A delivery day D starts at 22:00Z of the date before when D is after the March Sunday and not after the October one, else at 23:00Z."
+pub fn midnight(day: i64) -> i64 {
+    let year = (2000..=2100).rev().find(|y| day_number(*y, 1, 1) <= day).unwrap_or(2000);
+    let summer = last_sunday(year, 3) < day && day <= last_sunday(year, 10);
+    (day - 1) * 1440 + if summer { 22 * 60 } else { 23 * 60 }
+}
+
+/// Kind 1: "8 where the start or end isn't local midnight", on the next UTC date.
 /// "Kind 2: its end is after its start, by a multiple of 15 minutes and at most 366 days."
 fn period_fits(kind: u32, start: i64, end: i64) -> bool {
-    let evening = |minutes: i64| matches!(minutes % 1440, 1320 | 1380);
     if kind == 1 {
-        evening(start) && evening(end) && end / 1440 == start / 1440 + 1
+        let day = start / 1440 + 1;
+        start == midnight(day) && end == midnight(day + 1)
     } else {
         end > start && (end - start) % 15 == 0 && end - start <= 366 * 1440
     }

@@ -86,13 +86,26 @@ fn p11_p12_and_counts() {
     assert_eq!(accepted(&kind_1("2024-03-30T23:00Z/2024-03-31T22:00Z", 92)).answer[5], 92);
     assert_eq!(accepted(&kind_1("2024-10-26T22:00Z/2024-10-27T23:00Z", 100)).answer[5], 100);
     for (intervals, number) in [(91, 3), (95, 8)] {
-        let doc = kind_1("2024-10-26T22:00Z/2024-10-27T22:00Z", intervals);
+        let doc = kind_1("2024-05-10T22:00Z/2024-05-11T22:00Z", intervals);
         assert_eq!(refusal(&doc), at(&doc, number, "</Period>"));
     }
     let doc = kind_1("2024-10-26T22:00Z/2024-10-27T23:00Z", 101);
     assert_eq!(refusal(&doc), at(&doc, 3, "<Interval><Pos v=\"101\""));
-    let doc = kind_1("2024-10-26T22:00Z/2024-10-27T22:00Z", 97);
+    let doc = kind_1("2024-05-10T22:00Z/2024-05-11T22:00Z", 97);
     assert_eq!(refusal(&doc), at(&doc, 8, "<Pos v=\"97\""));
+}
+
+#[test]
+fn local_midnight() {
+    let days = ["2024-05-10T22:00Z/2024-05-11T22:00Z", "2000-01-01T23:00Z/2000-01-02T23:00Z", "2099-12-30T23:00Z/2099-12-31T23:00Z"];
+    for covered in days {
+        assert_eq!(accepted(&kind_1(covered, 96)).answer[5], 96);
+    }
+    let others = ["2024-05-10T23:00Z/2024-05-11T22:00Z", "2024-03-23T23:00Z/2024-03-24T22:00Z", "2024-05-10T22:00Z/2024-05-12T22:00Z"];
+    for covered in others {
+        let doc = kind_1(covered, 92);
+        assert_eq!(refusal(&doc), at(&doc, 8, "<TimePeriodCovered"));
+    }
 }
 
 #[test]

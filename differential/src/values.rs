@@ -1,5 +1,6 @@
 //! Values of each form: right ones, with the ends of their ranges, and wrong ones close to them.
 
+use crate::model::{last_sunday, midnight};
 use crate::random::Random;
 use crate::rows::{Form, AREAS};
 
@@ -89,15 +90,25 @@ fn period_text(start: i64, end: i64) -> Vec<u8> {
     format!("{}Z/{}Z", time_text(start), time_text(end)).into_bytes()
 }
 
+/// A delivery day: often one on which the clocks change, most often the shorter one, for short documents.
+fn a_delivery_day(random: &mut Random) -> i64 {
+    let year = 2000 + random.below(100) as i64;
+    match random.below(8) {
+        0..=3 => last_sunday(year, 3),
+        4 => last_sunday(year, 10),
+        5 => last_sunday(year, *random.pick(&[3, 10])) + *random.pick(&[-7, -1, 1, 7]),
+        _ => a_day(random) / 1440 + 1,
+    }
+}
+
 /// A period of the kind and how many quarter hours it has. In the last days of 2099 it may end too late.
 pub fn period(random: &mut Random, kind: usize) -> (Vec<u8>, usize) {
-    let day = a_day(random);
     if kind == 1 {
-        let shortest = random.one_in(2);
-        let from = if shortest { 23 } else { random.within(22, 23) };
-        let to = if shortest { 22 } else { random.within(22, 23) };
-        return (period_text(day + from as i64 * 60, day + 1440 + to as i64 * 60), 96 + 4 * to - 4 * from);
+        let day = a_delivery_day(random);
+        let (start, end) = (midnight(day), midnight(day + 1));
+        return (period_text(start, end), (end - start) as usize / 15);
     }
+    let day = a_day(random);
     let start = day + random.below(1440) as i64;
     let n = if random.one_in(20) { random.one_of(&[35_135, 35_136]) } else { upto(random, &[3, 12, 100, 20_000]) };
     (period_text(start, start + n as i64 * 15), n)
@@ -105,7 +116,7 @@ pub fn period(random: &mut Random, kind: usize) -> (Vec<u8>, usize) {
 
 /// A period of good form that the kind doesn't take, or only just takes.
 pub fn odd_period(random: &mut Random) -> Vec<u8> {
-    let day = a_day(random);
+    let day = if random.one_in(2) { a_day(random) } else { (a_delivery_day(random) - 1) * 1440 };
     let start = day + *random.pick(&[0, 7, 1319, 1320, 1321, 1335, 1380, 1381, 1260]);
     let spans = &[
         0, 1, 14, 15, 16, 30, -15, -1440, 60, 1260, 1320, 1380, 1425, 1440, 1455, 1500, 2820, 2880, 2940, 527_025, 527_040, 527_041, 527_055,

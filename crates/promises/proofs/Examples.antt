@@ -25,7 +25,9 @@ use Rattle.codes.specs.Lists.{lists, codesOf, listed}
 use Rattle.forms.specs.Forms.{identification, marketPartner, resourceObject, quarterHour, fixedVersion}
 use Rattle.times.specs.Calendar.{leap, monthDays, realDate, daysBefore, leapDay, dayNumber, dayOf}
 use Rattle.times.specs.Times.{minuteOn, minuteAt, isMinute, dateTime, between, interval}
-use Rattle.times.specs.Periods.{costPeriod, quarterHours, dayBound, dayPeriod}
+use Rattle.times.specs.Sundays.{changes, marchSunday, octoberSunday}
+use Rattle.times.specs.Midnight.{yearOf, inSummer, startOfDay}
+use Rattle.times.specs.Periods.{costPeriod, quarterHours, deliveryDay, dayPeriod}
 use Rattle.rules.specs.Rules.{versionBy, version, amountBy, amount, judgeIntervalBy, judgeInterval, positionFits, judgePositionBy, judgePosition, judge, unless, formRefusal, periodFits, judgePeriodBy, judgePeriod}
 use Rattle.elements.specs.Names.{names, numberIn, elementNo}
 use Rattle.structure.specs.Rows.{nameOf, parentOf, required, repeated, nextIn, endsIn, startOf, endAt, endOf, endsAtOnce, closesDocument, overOf}
@@ -56,7 +58,8 @@ unfolding byte run same begins walk seqLen control single charAt saidBy saidAt s
     capitalOrDigit firstThree digit takes fitsOf numberOf numberAt space dropLead keepEnd dropTrail dropped digits numberFrom nothingAfter
     onlyDigits minus unsigned fractionForm unsignedForm amountForm filled thousandths signed amountOf numberForm atMostNine numberWithin countOf
     lists codesOf listed held identification marketPartner resourceObject quarterHour fixedVersion leap monthDays realDate daysBefore leapDay
-    dayNumber dayOf minuteOn minuteAt isMinute dateTime between interval costPeriod quarterHours dayBound dayPeriod versionBy version amountBy
+    dayNumber dayOf minuteOn minuteAt isMinute dateTime between interval costPeriod quarterHours changes marchSunday
+    octoberSunday yearOf inSummer startOfDay deliveryDay dayPeriod versionBy version amountBy
     amount judgeIntervalBy judgeInterval positionFits judgePositionBy judgePosition judge unless formRefusal periodFits judgePeriodBy
     judgePeriod names numberIn elementNo nameOf parentOf required repeated nextIn endsIn startOf endAt endOf endsAtOnce closesDocument overOf
     collapsed formOf schemeOf roleOf takesAnother kindOf hasEnough beschaffungsanforderung kostenblatt rowsOf valueOf schemeRefusal least

@@ -1,4 +1,4 @@
--- "P1 to P12 form a single table with a single proved statement": the table. `examples-pass` of proofs/Examples.antt is the statement.
+-- "P1 to P12 form a single table with a single proved statement": the table, with the case that K1 of the requests tells. `examples-pass` of proofs/Examples.antt is the statement.
 use Prim.Native.Nat.{ℕ}
 use mathlib.Core.List.{List, [], _∷_}
 use mathlib.Core.Bool.{Bool, true, false, cond, _&&_}
@@ -57,6 +57,10 @@ examples =
     -- P11, P12
     period (text "2024-03-30T23:00Z/2024-03-31T22:00Z") 0 92 ∷
     period (text "2024-10-26T22:00Z/2024-10-27T23:00Z") 0 100 ∷
+    -- K1: "A request for 11 May with 92 quarter hours went through"; the first and the last day
+    period (text "2024-05-10T23:00Z/2024-05-11T22:00Z") 8 0 ∷
+    period (text "2000-01-01T23:00Z/2000-01-02T23:00Z") 0 96 ∷
+    period (text "2099-12-30T23:00Z/2099-12-31T23:00Z") 0 96 ∷
     -- "A kind 1 period with 91 intervals: 3 at the end tag of Period; 95 where N is 96: 8 there."
     periodEnd 92 91 3 ∷
     periodEnd 96 95 8 ∷

@@ -27,18 +27,22 @@ leap-ends : every (ends 2000) 11 ≡ true
 unfolding leap monthDays daysBefore leapDay
 leap-ends = refl
 
--- years that are both leap years or both not have the same months
-alike : (y z m : ℕ) → leap y ≡ leap z → ends y m ≡ ends z m
+-- a test of a year's months that looks at the year only to tell whether it is a leap year passes where it does for a leap year and for a common one
+by-leap : (f : ℕ → ℕ → Bool) (n : ℕ) → ((y z m : ℕ) → leap y ≡ leap z → f y m ≡ f z m) → every (f 2000) n ≡ true → every (f 2001) n ≡ true
+    → (y m : ℕ) → m < n → f y m ≡ true
+unfolding leap
+by-leap f n alike a b y m h = go (leap y) refl
+  where
+    go : (t : Bool) → leap y ≡ t → f y m ≡ true
+    go true q = alike y 2000 m q ∙ below (f 2000) n a m h
+    go false q = alike y 2001 m q ∙ below (f 2001) n b m h
+
+ends-alike : (y z m : ℕ) → leap y ≡ leap z → ends y m ≡ ends z m
 unfolding monthDays leapDay
-alike y z m e = rw e
+ends-alike y z m e = rw e
 
 month-ends : (y m : ℕ) → m < 11 → daysBefore (m + 2) + leapDay y (m + 2) ≡ daysBefore (m + 1) + leapDay y (m + 1) + monthDays y (m + 1)
-unfolding leap
-month-ends y m h = eqb-true _ _ (go (leap y) refl)
-  where
-    go : (t : Bool) → leap y ≡ t → ends y m ≡ true
-    go true q = alike y 2000 m q ∙ below (ends 2000) 11 leap-ends m h
-    go false q = alike y 2001 m q ∙ below (ends 2001) 11 common-ends m h
+month-ends y m h = eqb-true _ _ (by-leap ends 11 ends-alike leap-ends common-ends y m h)
 
 next-month : (y m : ℕ) → 1 ≤ m → m < 12 → daysBefore (m + 1) + leapDay y (m + 1) ≡ daysBefore m + leapDay y m + monthDays y m
 next-month y m p q =
@@ -47,7 +51,7 @@ next-month y m p q =
     rw (a, b) at (month-ends y (m - 1) (omega arith))
 
 -- a leap year has one leap day more before the next year
-leaps : (y : ℕ) → 2000 ≤ y → (y + 1 - 2000 + 3) / 4 ≡ (y - 2000 + 3) / 4 + leapDay y 12
+pub leaps : (y : ℕ) → 2000 ≤ y → (y + 1 - 2000 + 3) / 4 ≡ (y - 2000 + 3) / 4 + leapDay y 12
 unfolding leap leapDay
 leaps y h = go (eqb (y % 4) 0) refl
   where
@@ -88,7 +92,7 @@ pub record Real (y m d : ℕ) : Type 0 where
   pub day-from : 1 ≤ d
   pub day-to : d ≤ monthDays y m
 
-real : (y m d : ℕ) → realDate y m d ≡ true → Real y m d
+pub real : (y m d : ℕ) → realDate y m d ≡ true → Real y m d
 unfolding realDate
 real y m d r =
     let a = and-eq-true-iff (leb 2000 y) _ .0 r in
@@ -119,6 +123,28 @@ some-day y m = or (eqb m 2) (or (leap y) (omega arith) (omega arith)) (or (eqb m
 
     p : 1 ≤ 30
     p = omega arith
+
+-- The days up to the end of a month are at most those of the year: month m + 1 is the one that ends.
+abbrev fits-year : ℕ → ℕ → Bool
+fits-year y m = leb (daysBefore (m + 1) + leapDay y (m + 1) + monthDays y (m + 1)) (365 + leapDay y 12)
+
+common-year : every (fits-year 2001) 12 ≡ true
+unfolding leap monthDays daysBefore leapDay
+common-year = refl
+
+leap-year : every (fits-year 2000) 12 ≡ true
+unfolding leap monthDays daysBefore leapDay
+leap-year = refl
+
+fits-alike : (y z m : ℕ) → leap y ≡ leap z → fits-year y m ≡ fits-year z m
+unfolding monthDays leapDay
+fits-alike y z m e = rw e
+
+pub within-year : (y m : ℕ) → 1 ≤ m → m ≤ 12 → daysBefore m + leapDay y m + monthDays y m ≤ 365 + leapDay y 12
+within-year y m p q =
+    let b : m - 1 + 1 ≡ m = omega arith in
+    rw b at (leb-true (daysBefore (m - 1 + 1) + leapDay y (m - 1 + 1) + monthDays y (m - 1 + 1)) (365 + leapDay y 12)
+    (by-leap fits-year 12 fits-alike leap-year common-year y (m - 1) (omega arith)))
 
 -- the date after a real one is the next of its month, the first of the next month or the first of the next year
 by-date : (P : Date → Type 0) (x : Date) → isReal x ≡ true

@@ -1,3 +1,5 @@
 pub mod Unique
 pub mod Below
 pub mod Consecutive
+pub mod Sundays
+pub mod Midnights

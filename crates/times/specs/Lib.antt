@@ -1,4 +1,6 @@
 pub mod Calendar
 pub mod After
 pub mod Times
+pub mod Sundays
+pub mod Midnight
 pub mod Periods

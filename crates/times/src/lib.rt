@@ -1,4 +1,7 @@
 // Date-times, intervals of minutes, and what the rules ask of a period.
+mod midnight;
+
+use midnight::start_of_day;
 use pictures::fits;
 use pictures::number_at;
 ghost use mathlib.Core.Path.{_≡_};
@@ -6,7 +9,7 @@ ghost use Prim.Native.Nat.{_≤_, _<_};
 ghost use Rattle.characters.specs.Says.{says};
 ghost use Rattle.times.specs.Calendar.{leap, monthDays, daysBefore, leapDay, dayOf, dayCount};
 ghost use Rattle.times.specs.Times.{minuteAt, dateTime, interval};
-ghost use Rattle.times.specs.Periods.{quarterHours, dayBound, dayPeriod, costPeriod};
+ghost use Rattle.times.specs.Periods.{quarterHours, dayPeriod, costPeriod};
 
 enum Day {
     // days since 2000-01-01
@@ -184,27 +187,14 @@ pub fn quarter_hours(from: u32, to: u32) -> u32
     (to - from) / 15
 }
 
-fn is_day_bound(t: u32) -> bool
-    ensures { λ r. ⌜ r ≡ dayBound t ⌝ }
-{
-    if t % 1440 == 22 * 60 {
-        true
-    } else {
-        t % 1440 == 23 * 60
-    }
-}
-
 // Whether a period is one that kind 1 asks for.
-// Ruled out: true for a period of two days, for an empty one, for one from 00:00Z on; false for the 23 and the 25 hours of the days on which the clocks change.
+// Ruled out: true for a period of two days, for an empty one, for one from 00:00Z on; true for 23 hours in May; false for the 23 and the 25 hours of the days on
+// which the clocks change.
 pub fn is_day_period(from: u32, to: u32) -> bool
     ensures { λ r. ⌜ r ≡ dayPeriod from to ⌝ }
 {
-    if is_day_bound(from) {
-        if is_day_bound(to) {
-            return to / 1440 == from / 1440 + 1;
-        }
-    }
-    false
+    let d = from / 1440 + 1;
+    from as u64 == start_of_day(d) && to as u64 == start_of_day(d + 1)
 }
 
 // Whether a period is one that kind 2 asks for.

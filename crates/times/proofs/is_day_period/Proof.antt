@@ -1,33 +1,39 @@
-use Rattle.times.specs.Periods.{dayPeriod}
+use borrow.Author.Tests.{eq-eqb, ne-eqb}
+use Rattle.times.specs.Periods.{deliveryDay, dayPeriod}
 use borrow.Author.Needs.{needs}
 use Rattle.times.proofs.is_day_period.Statement.{statement}
 use Rattle.times.proofs.is_day_period.Tie as tie
 use Rattle.times.proofs.is_day_period.Reads as reads
 use Rattle.times.proofs.is_day_period.Lts as lts
-use Rattle.times.proofs.is_day_bound.Reads as is-day-bound-reads
+use Rattle.times.proofs.midnight.start_of_day.Reads as start-of-day-reads
 
-is-day-bound-requires : tie.Need-is-day-bound-requires
-is-day-bound-requires c κs = search needs
+add-d : tie.Need-add-d
+add-d c = search needs
 
-is-day-bound-requires-2 : tie.Need-is-day-bound-requires-2
-is-day-bound-requires-2 c κs = search needs
+start-of-day-requires : tie.Need-start-of-day-requires
+start-of-day-requires c κs = search needs
 
-add-result : tie.Need-add-result
-add-result c = search needs
+add-start-of-day : tie.Need-add-start-of-day
+add-start-of-day c = search needs
+
+start-of-day-requires-2 : tie.Need-start-of-day-requires-2
+start-of-day-requires-2 c κs = search needs
 
 returns : tie.Need-returns
-unfolding dayPeriod
-returns c = simp (c .if2 .taken, ← c .before .is-day-bound2 .ensures, c .before .before .if1 .taken, ← c .before .before .before .is-day-bound .ensures)
+unfolding deliveryDay dayPeriod
+returns c = simp (← c .before .before .start-of-day .ensures, eq-eqb _ _ (c .before .if1 .taken), ← c .start-of-day2 .ensures)
 
 returns-2 : tie.Need-returns-2
-unfolding dayPeriod
-returns-2 c = simp (c .if2 .left, ← c .before .is-day-bound2 .ensures, c .before .before .if1 .taken, ← c .before .before .before .is-day-bound .ensures)
-
-returns-3 : tie.Need-returns-3
-unfolding dayPeriod
-returns-3 c = simp (c .if1 .left, ← c .before .is-day-bound .ensures)
+unfolding deliveryDay dayPeriod
+returns-2 c = simp (← c .before .start-of-day .ensures, ne-eqb _ _ (c .if1 .left))
 
 pub is-day-period-spec : {M : Type 1} → statement M
 is-day-period-spec =
     tie.close
-    (tie.spec is-day-bound-requires is-day-bound-requires-2 add-result returns returns-2 returns-3)
+    (tie.spec
+    add-d
+    start-of-day-requires
+    add-start-of-day
+    start-of-day-requires-2
+    returns
+    returns-2)
