@@ -124,6 +124,17 @@ some-day y m = or (eqb m 2) (or (leap y) (omega arith) (omega arith)) (or (eqb m
     p : 1 ≤ 30
     p = omega arith
 
+-- no month has more than 31
+pub short-month : (y m : ℕ) → monthDays y m ≤ 31
+unfolding monthDays
+short-month y m = or (eqb m 2) (or (leap y) (omega arith) (omega arith)) (or (eqb m 4) p (or (eqb m 6) p (or (eqb m 9) p (or (eqb m 11) p (omega arith)))))
+  where
+    or : (t : Bool) {a b : ℕ} → a ≤ 31 → b ≤ 31 → cond t a b ≤ 31
+    or = by-cond (λ (n : ℕ). n ≤ 31)
+
+    p : 30 ≤ 31
+    p = omega arith
+
 -- The days up to the end of a month are at most those of the year: month m + 1 is the one that ends.
 abbrev fits-year : ℕ → ℕ → Bool
 fits-year y m = leb (daysBefore (m + 1) + leapDay y (m + 1) + monthDays y (m + 1)) (365 + leapDay y 12)

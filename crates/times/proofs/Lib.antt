@@ -3,3 +3,4 @@ pub mod Below
 pub mod Consecutive
 pub mod Sundays
 pub mod Midnights
+pub mod Lengths

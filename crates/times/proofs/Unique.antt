@@ -6,9 +6,11 @@ use mathlib.Core.List.{List}
 use mathlib.Core.Bool.{Bool}
 use Rattle.lists.proofs.Unique.{one}
 use Rattle.characters.specs.Says.{says}
+use Rattle.times.specs.Calendar.{sumOf}
 use Rattle.times.specs.Times.{dateTime, interval}
 use Rattle.times.specs.Periods.{quarterHours, dayPeriod, costPeriod}
 use Rattle.times.specs.declared.Interval.{Interval}
+use Rattle.times.specs.declared.calendar.Sum.{Sum}
 
 pub is-date-time-one : (v : List ℕ) {r r′ : Bool} → r ≡ dateTime (says v) → r′ ≡ dateTime (says v) → r ≡ r′
 is-date-time-one v = one
@@ -24,3 +26,6 @@ is-day-period-one from to = one
 
 pub is-cost-period-one : (from to : ℕ) {r r′ : Bool} → r ≡ costPeriod from to → r′ ≡ costPeriod from to → r ≡ r′
 is-cost-period-one from to = one
+
+pub sum-of-one : (y m d : ℕ) {r r′ : Sum} → r ≡ sumOf y m d → r′ ≡ sumOf y m d → r ≡ r′
+sum-of-one y m d = one

@@ -1,5 +1,5 @@
 -- The date after a date. No contract cites it: proofs/Consecutive.antt holds the numbers of days against it.
-use Prim.Native.Nat.{ℕ, _+_}
+use Prim.Native.Nat.{ℕ, zero, suc, _+_}
 use mathlib.Core.Bool.{Bool, cond}
 use lib.Dec.{ltb}
 use Rattle.times.specs.Calendar.{monthDays, realDate, dayNumber}
@@ -22,3 +22,8 @@ isReal x = realDate (x .year) (x .month) (x .day)
 
 abbrev pub dateNumber : Date → ℕ
 dateNumber x = dayNumber (x .year) (x .month) (x .day)
+
+-- the date so many days later
+unfoldable pub later : ℕ → Date → Date
+later zero x = x
+later (suc k) x = later k (after x)

@@ -2,8 +2,11 @@
 use Prim.Native.Nat.{ℕ, _+_, _-_, _*_, _/_, _%_}
 use mathlib.Core.Bool.{Bool, cond, _&&_}
 use lib.Dec.{leb, eqb}
-use Rattle.times.specs.declared.Day.{Day}
-use Rattle.times.specs.declared.Day.the-variants.{DayIs, NoDay}
+use Rattle.times.specs.declared.calendar.Day.{Day}
+use Rattle.times.specs.declared.calendar.Day.the-variants.{DayIs, NoDay}
+use Rattle.times.specs.declared.calendar.Terms.{Terms}
+use Rattle.times.specs.declared.calendar.Sum.{Sum}
+use Rattle.times.specs.declared.calendar.Sum.the-variants.{Of, NotDate}
 
 -- leap years: of the years 2000 to 2099 exactly those that 4 divides
 unfoldable pub leap : ℕ → Bool
@@ -30,9 +33,28 @@ daysBefore m =
 unfoldable pub leapDay : ℕ → ℕ → ℕ
 leapDay y m = cond (leap y) (cond (leb 3 m) 1 0) 0
 
--- days from 2000-01-01 on: 365 for each year before, a leap day for each of 2000, 2004 and so on before, the months before, the days before
+-- The usual sum, each term by itself: 365 for each year before;
+abbrev pub yearDays : ℕ → ℕ
+yearDays y = 365 * (y - 2000)
+
+-- a leap day for each of 2000, 2004 and so on before;
+abbrev pub leapDaysBefore : ℕ → ℕ
+leapDaysBefore y = (y - 2000 + 3) / 4
+
+-- where the month starts, in days of its own year;
+abbrev pub monthStart : ℕ → ℕ → ℕ
+monthStart y m = daysBefore m + leapDay y m
+
+-- and the day of the month. The first day, 2000-01-01, has the number 0
 unfoldable pub dayNumber : ℕ → ℕ → ℕ → ℕ
-dayNumber y m d = (y - 2000) * 365 + (y - 2000 + 3) / 4 + daysBefore m + leapDay y m + (d - 1)
+dayNumber y m d = yearDays y + leapDaysBefore y + monthStart y m + (d - 1)
+
+-- the terms of a real date's number
+unfoldable pub sumOf : ℕ → ℕ → ℕ → Sum
+sumOf y m d =
+    cond (realDate y m d)
+    (Of (record { years = yearDays y; leaps = leapDaysBefore y; month = monthStart y m; days = d - 1 }))
+    NotDate
 
 -- the number of a real date
 unfoldable pub dayOf : ℕ → ℕ → ℕ → Day

@@ -7,8 +7,8 @@ use Rattle.slices.specs.Text.{text}
 use Rattle.pictures.specs.Picture.{fitsOf}
 use Rattle.pictures.specs.Number.{numberAt}
 use Rattle.times.specs.Calendar.{dayOf}
-use Rattle.times.specs.declared.Day.{Day}
-use Rattle.times.specs.declared.Day.the-variants.{DayIs, NoDay}
+use Rattle.times.specs.declared.calendar.Day.{Day}
+use Rattle.times.specs.declared.calendar.Day.the-variants.{DayIs, NoDay}
 use Rattle.times.specs.declared.Minute.{Minute}
 use Rattle.times.specs.declared.Minute.the-variants.{MinuteIs, NoMinute}
 use Rattle.times.specs.declared.Interval.{Interval}

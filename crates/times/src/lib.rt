@@ -1,21 +1,17 @@
 // Date-times, intervals of minutes, and what the rules ask of a period.
+pub mod calendar;
 mod midnight;
 
+use calendar::Day;
+use calendar::day_of;
 use midnight::start_of_day;
 use pictures::fits;
 use pictures::number_at;
 ghost use mathlib.Core.Path.{_≡_};
 ghost use Prim.Native.Nat.{_≤_, _<_};
 ghost use Rattle.characters.specs.Says.{says};
-ghost use Rattle.times.specs.Calendar.{leap, monthDays, daysBefore, leapDay, dayOf, dayCount};
 ghost use Rattle.times.specs.Times.{minuteAt, dateTime, interval};
 ghost use Rattle.times.specs.Periods.{quarterHours, dayPeriod, costPeriod};
-
-enum Day {
-    // days since 2000-01-01
-    DayIs(u32),
-    NoDay,
-}
 
 enum Minute {
     // minutes since 2000-01-01T00:00Z
@@ -27,101 +23,6 @@ pub enum Interval {
     // from, to
     Minutes(u32, u32),
     NotInterval,
-}
-
-fn is_leap(y: u32) -> bool
-    ensures { λ r. ⌜ r ≡ leap y ⌝ }
-{
-    y % 4 == 0
-}
-
-fn month_days(y: u32, m: u32) -> u32
-    ensures days { λ r. ⌜ r ≡ monthDays y m ⌝ }
-    ensures size { λ r. ⌜ r ≤ 31 ⌝ }
-{
-    if m == 2 {
-        if is_leap(y) { 29 } else { 28 }
-    } else if m == 4 {
-        30
-    } else if m == 6 {
-        30
-    } else if m == 9 {
-        30
-    } else if m == 11 {
-        30
-    } else {
-        31
-    }
-}
-
-fn days_before(m: u32) -> u32
-    ensures days { λ r. ⌜ r ≡ daysBefore m ⌝ }
-    ensures size { λ r. ⌜ r ≤ 334 ⌝ }
-{
-    if m == 1 {
-        0
-    } else if m == 2 {
-        31
-    } else if m == 3 {
-        59
-    } else if m == 4 {
-        90
-    } else if m == 5 {
-        120
-    } else if m == 6 {
-        151
-    } else if m == 7 {
-        181
-    } else if m == 8 {
-        212
-    } else if m == 9 {
-        243
-    } else if m == 10 {
-        273
-    } else if m == 11 {
-        304
-    } else {
-        334
-    }
-}
-
-fn leap_day(y: u32, m: u32) -> u32
-    ensures days { λ r. ⌜ r ≡ leapDay y m ⌝ }
-    ensures size { λ r. ⌜ r ≤ 1 ⌝ }
-{
-    if is_leap(y) {
-        if 3 <= m {
-            return 1;
-        }
-    }
-    0
-}
-
-// The number of a real date.
-fn day_of(y: u32, m: u32, d: u32) -> Day
-    ensures day { λ r. ⌜ r ≡ dayOf y m d ⌝ }
-    ensures size { λ r. ⌜ dayCount r < 40000 ⌝ }
-{
-    if y < 2000 {
-        return Day::NoDay;
-    }
-    if 2099 < y {
-        return Day::NoDay;
-    }
-    if m < 1 {
-        return Day::NoDay;
-    }
-    if 12 < m {
-        return Day::NoDay;
-    }
-    if d < 1 {
-        return Day::NoDay;
-    }
-    if month_days(y, m) < d {
-        return Day::NoDay;
-    }
-    let years = (y - 2000) * 365 + (y - 2000 + 3) / 4;
-    Day::DayIs(years + days_before(m) + leap_day(y, m) + (d - 1))
 }
 
 // The minute that v shows from the character `from` on; a u8, so that each place after it is in range.

@@ -7,7 +7,7 @@ use Rattle.times.proofs.minute_at.Tie as tie
 use Rattle.times.proofs.minute_at.Reads as reads
 use Rattle.times.proofs.minute_at.Lts as lts
 use Rattle.pictures.proofs.number_at.Reads as number-at-reads
-use Rattle.times.proofs.day_of.Reads as day-of-reads
+use Rattle.times.proofs.calendar.day_of.Reads as day-of-reads
 
 number-at-requires : tie.Need-number-at-requires
 number-at-requires c κs = search needs

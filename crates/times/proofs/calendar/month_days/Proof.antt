@@ -1,11 +1,11 @@
 use borrow.Author.Tests.{eq-eqb, ne-eqb}
 use Rattle.times.specs.Calendar.{monthDays}
 use borrow.Author.Needs.{needs}
-use Rattle.times.proofs.month_days.Statement.{statement}
-use Rattle.times.proofs.month_days.Tie as tie
-use Rattle.times.proofs.month_days.Reads as reads
-use Rattle.times.proofs.month_days.Lts as lts
-use Rattle.times.proofs.is_leap.Reads as is-leap-reads
+use Rattle.times.proofs.calendar.month_days.Statement.{statement}
+use Rattle.times.proofs.calendar.month_days.Tie as tie
+use Rattle.times.proofs.calendar.month_days.Reads as reads
+use Rattle.times.proofs.calendar.month_days.Lts as lts
+use Rattle.times.proofs.calendar.is_leap.Reads as is-leap-reads
 
 is-leap-requires : tie.Need-is-leap-requires
 is-leap-requires c κs = search needs

@@ -1,10 +1,10 @@
 use borrow.Author.Needs.{needs}
 use borrow.Author.Tests.{eq-eqb, ne-eqb}
 use Rattle.times.specs.Calendar.{daysBefore}
-use Rattle.times.proofs.days_before.Statement.{statement}
-use Rattle.times.proofs.days_before.Tie as tie
-use Rattle.times.proofs.days_before.Reads as reads
-use Rattle.times.proofs.days_before.Lts as lts
+use Rattle.times.proofs.calendar.days_before.Statement.{statement}
+use Rattle.times.proofs.calendar.days_before.Tie as tie
+use Rattle.times.proofs.calendar.days_before.Reads as reads
+use Rattle.times.proofs.calendar.days_before.Lts as lts
 
 returns : tie.Need-returns
 unfolding daysBefore

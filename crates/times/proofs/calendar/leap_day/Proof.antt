@@ -1,11 +1,11 @@
 use borrow.Author.Tests.{le-leb, lt-leb}
 use Rattle.times.specs.Calendar.{leapDay}
 use borrow.Author.Needs.{needs}
-use Rattle.times.proofs.leap_day.Statement.{statement}
-use Rattle.times.proofs.leap_day.Tie as tie
-use Rattle.times.proofs.leap_day.Reads as reads
-use Rattle.times.proofs.leap_day.Lts as lts
-use Rattle.times.proofs.is_leap.Reads as is-leap-reads
+use Rattle.times.proofs.calendar.leap_day.Statement.{statement}
+use Rattle.times.proofs.calendar.leap_day.Tie as tie
+use Rattle.times.proofs.calendar.leap_day.Reads as reads
+use Rattle.times.proofs.calendar.leap_day.Lts as lts
+use Rattle.times.proofs.calendar.is_leap.Reads as is-leap-reads
 
 is-leap-requires : tie.Need-is-leap-requires
 is-leap-requires c κs = search needs
