@@ -30,7 +30,10 @@ fn folder() -> PathBuf {
     };
     let dir = PathBuf::from(dir);
     if dir.is_relative() {
-        give_up(&format!("LUMINTAYAG_DIR is {}, and has to be a full path that begins with /: cargo works in other folders than yours", dir.display()));
+        give_up(&format!(
+            "LUMINTAYAG_DIR is {}, and has to be a full path that begins with /: cargo works in other folders than yours",
+            dir.display()
+        ));
     }
     if !dir.join(ARCHIVE).is_file() {
         give_up(&format!("LUMINTAYAG_DIR is {}, where there is no {ARCHIVE}; {MAKE}", dir.display()));
@@ -51,7 +54,11 @@ fn check_version(dir: &Path) {
         Ok(said) if said.status.success() => {}
         Ok(said) => {
             eprintln!("{}", String::from_utf8_lossy(&said.stderr));
-            give_up(&format!("{} cannot be linked: it is of another version than {} or for another kind of machine", archive.display(), functions::VERSION));
+            give_up(&format!(
+                "{} cannot be linked: it is of another version than {} or for another kind of machine",
+                archive.display(),
+                functions::VERSION
+            ));
         }
         Err(why) => give_up(&format!("rustc cannot be run: {why}")),
     }
