@@ -122,11 +122,11 @@ enum {
  * 1 to N. Kind 2 (curve A03): the first Pos of a series is 1, later ones rise and are at most N, and an amount
  * stands until the next Pos, the last one to the end of quarter hour N.
  *
- * An amount is one of the kind's unit: megawatts in kind 1; in kind 2 euros by MeasurementUnit, each (Z01), per
- * megawatt hour (Z02) or per hour (Z03). Unit and Direction are no cells of the row. What the format descriptions
- * tell in prose of one value beside another is judged only where the build scope lists it: a Direction may be
- * absent, and a unit may stand with any BusinessType. So amounts of two series can be compared where kind,
- * BusinessType, Direction and MeasurementUnit are the same, which the caller has to see to.
+ * An amount is megawatts in kind 1; in kind 2 euros by MeasurementUnit: per piece (Z01), per megawatt hour (Z02)
+ * or per hour (Z03). Unit and Direction are no cells of the row. What the format descriptions tell in prose of one
+ * value beside another is judged only where the build scope lists it: a Direction may be absent, and a unit may
+ * stand with any BusinessType. So amounts of two series can be compared where kind, BusinessType, Direction and
+ * MeasurementUnit are the same, which the caller has to see to.
  *
  * Nothing but the amounts depends on the digits of a price: two documents of equal length that differ only in
  * digits of readable Qty values get the same answer and note, and the same cells but for the amounts of accepted
