@@ -24,7 +24,7 @@ fn main() {
 }
 
 fn folder() -> PathBuf {
-    const MAKE: &str = "`library/install /opt/lumintayag` of Lumintayag's sources makes one, in /opt/lumintayag/lib";
+    const MAKE: &str = "`library/install /usr/local` of Lumintayag's sources puts one into /usr/local/lib";
     let Some(dir) = var("LUMINTAYAG_DIR").ok().filter(|dir| !dir.is_empty()) else {
         give_up(&format!("LUMINTAYAG_DIR is not set. Set it to the folder that has {ARCHIVE}, as a full path; {MAKE}"));
     };
