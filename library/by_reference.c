@@ -1,5 +1,6 @@
 /* In rattle's own calling convention a slice is the address of a pointer and a length. This hands the slices of the C functions over in that way;
- * in the archive of rt staticlib the compiler does it. READ and READ_NOTE are the names to define, IN the beginning of those in the module. */
+ * in the proved archive the compiler does it. AS is the beginning of the names to define, IN of those in the module. With READABLE it is for the
+ * module of crate readable, without for that of crate library. */
 #include "lumintayag.h"
 
 struct slice {
@@ -10,17 +11,35 @@ struct slice {
 #define JOINED(a, b) a##b
 #define NAMED(a, b) JOINED(a, b)
 
+#ifdef READABLE
+
+size_t NAMED(IN, _readable_len)(struct slice *doc);
+
+size_t NAMED(AS, _readable_len)(const uint8_t *doc, size_t doc_len) {
+    struct slice d = {doc, doc_len};
+    return NAMED(IN, _readable_len)(&d);
+}
+
+#else
+
+uint32_t NAMED(IN, _version)(void);
 uint32_t NAMED(IN, _read)(struct slice *doc, struct slice *series, struct slice *positions, struct slice *amounts, struct slice *note, struct slice *answer);
 uint32_t NAMED(IN, _read_note)(struct slice *note, struct slice *five);
 
-uint32_t READ(const uint8_t *doc, size_t doc_len, uint32_t *series, size_t series_len, uint32_t *positions, size_t positions_len,
-              int64_t *amounts, size_t amounts_len, uint8_t *note, size_t note_len, uint32_t *answer, size_t answer_len) {
+uint32_t NAMED(AS, _version)(void) {
+    return NAMED(IN, _version)();
+}
+
+uint32_t NAMED(AS, _read)(const uint8_t *doc, size_t doc_len, uint32_t *series, size_t series_len, uint32_t *positions, size_t positions_len,
+                          int64_t *amounts, size_t amounts_len, uint8_t *note, size_t note_len, uint32_t *answer, size_t answer_len) {
     struct slice d = {doc, doc_len}, s = {series, series_len}, p = {positions, positions_len}, a = {amounts, amounts_len}, n = {note, note_len},
                  r = {answer, answer_len};
     return NAMED(IN, _read)(&d, &s, &p, &a, &n, &r);
 }
 
-uint32_t READ_NOTE(const uint8_t *note, size_t note_len, uint32_t *five, size_t five_len) {
+uint32_t NAMED(AS, _read_note)(const uint8_t *note, size_t note_len, uint32_t *five, size_t five_len) {
     struct slice n = {note, note_len}, f = {five, five_len};
     return NAMED(IN, _read_note)(&n, &f);
 }
+
+#endif

@@ -1,14 +1,20 @@
 /*
- * Lumintayag reads documents of Germany's Redispatch 2.0: Beschaffungsanforderung 1.0 (kind 1) and Kostenblatt 1.0 (kind 2).
+ * Lumintayag reads documents of Germany's Redispatch 2.0: Beschaffungsanforderung 1.0 (kind 1) and
+ * Kostenblatt 1.0 (kind 2).
  *
- * The two functions below are in the archive liblibrary.a. They allocate nothing, keep nothing from call to call, open no file and call nothing but
- * memset. They end for every input. What they answer and leave behind is proved for every document and every length of every slice (crates/library,
- * crates/reader, crates/notes); no input is excepted. Threads may call them at the same time, each with slices of its own. The reader needs about
- * 70 KB of stack (64 KiB of it for tags of many attributes).
+ * The functions below are in liblumintayag.a and liblumintayag.so. They allocate nothing, keep nothing from call
+ * to call, open no file and call nothing but memset. They end for every input. What they answer and leave behind
+ * is proved for every document and every length of every slice (crates/library, crates/reader, crates/notes,
+ * crates/readable); no input is excepted. Threads may call them at the same time, each with slices of its own.
+ * lumintayag_read takes 67 KB of stack, whatever the document; a thread that has 128 KiB has enough.
  *
- * Slices. A lent slice is two arguments: a pointer, and a length in elements (not in bytes). The pointer is aligned for its type and not null, also where the
- * length is 0; nothing is read or written past the length. No slice that is written to may overlap another slice of the same call.
- * What stands in a slice that is written to need not be initialized to anything of meaning: what it holds afterwards does not depend on it.
+ * Slices. A lent slice is two arguments: a pointer, and a length in elements (not in bytes). What no proof can see
+ * is left to the caller:
+ * - The pointer is aligned for its type, and as many elements as the length says are there to be read, and where
+ *   the slice is not const to be written. Nothing is read or written past the length.
+ * - With length 0 the pointer may be NULL, as that of an empty std::vector is. With any other length it may not.
+ * - No slice that is written to overlaps another slice of the same call.
+ * What stands in a slice that is written to makes no difference, and need not be initialized.
  */
 #ifndef LUMINTAYAG_H
 #define LUMINTAYAG_H
@@ -19,6 +25,15 @@
 #ifdef __cplusplus
 extern "C" {
 #endif
+
+/*
+ * The version of this header, a.b.c as 10000 a + 100 b + c: 0.1.0. lumintayag_version answers that of the archive
+ * or shared object; a program that checks that the two are equal knows that they belong together.
+ * A function whose arguments, rows or cells are laid out anew gets a new name, and the old name is gone: a
+ * program that knows the old layout is not linked with the new one.
+ */
+#define LUMINTAYAG_VERSION 100
+uint32_t lumintayag_version(void);
 
 /* A longer document is refused with 1. */
 #define LUMINTAYAG_DOCUMENT_MOST 1048576
@@ -34,30 +49,32 @@ extern "C" {
 #define LUMINTAYAG_SERIES_ROW 8
 
 /*
- * Rows that are room for every document: an Interval takes 45 bytes at least and a series 410, in a document of at most 1,048,576. These two
- * numbers are counted from the guideline and not proved; with tables of this room no document should be refused with 4. All of what is lent is
- * made 0 first, so that a caller who knows its sheets lends less and is served quicker.
+ * Rows that are room for every document: an Interval takes 45 bytes at least and a series 410, in a document of
+ * at most 1,048,576. These two numbers are counted from the guideline and not proved; with tables of this room no
+ * document should be refused with 4. All of what is lent is made 0 first, so that a caller who knows its sheets
+ * lends less and is served quicker.
  */
 #define LUMINTAYAG_SERIES_ROOM 2558
 #define LUMINTAYAG_INTERVALS_ROOM 23302
 
 /*
- * Refusals. The place of 2 to 9 is the index of the first byte of the item (tag, text or comment) with the first fault, with 0 for the document's
- * first byte; a document that is over too early has the place that is its length. Where the item has several faults, the smallest number is given.
- * 10 is looked at first, then 1.
+ * Refusals. The place of 2 to 9 is the index of the first byte of the item (tag, text or comment) with the first
+ * fault, with 0 for the document's first byte; a document that is over too early has the place that is its length.
+ * Where the item has several faults, the smallest number is given. 10 is looked at first, then 1.
  */
-#define LUMINTAYAG_ACCEPTED 0       /* the document is read; the place is its length */
-#define LUMINTAYAG_TOO_LONG 1       /* the document is longer than 1,048,576 bytes; place 0 */
-#define LUMINTAYAG_UNREADABLE 2     /* the item is unreadable */
-#define LUMINTAYAG_NOT_DUE 3        /* element not due, too many, too few, wrong end tag, other text, second root, document over too early */
-#define LUMINTAYAG_TABLE_FULL 4     /* a due series or Interval start finds its table full */
-#define LUMINTAYAG_ATTRIBUTE 5      /* attribute missing or unknown */
-#define LUMINTAYAG_FORM 6           /* value against its form or fixed value */
-#define LUMINTAYAG_CODE 7           /* value outside its code list */
-#define LUMINTAYAG_AGAINST 8        /* value or count against another value */
-#define LUMINTAYAG_USED_BEFORE 9    /* TimeSeriesIdentification used before in this document */
+#define LUMINTAYAG_ACCEPTED 0        /* the document is read; the place is its length */
+#define LUMINTAYAG_TOO_LONG 1        /* the document is longer than 1,048,576 bytes; place 0 */
+#define LUMINTAYAG_UNREADABLE 2      /* the item is unreadable */
+#define LUMINTAYAG_NOT_DUE 3         /* element not due, too many, too few, wrong end tag, other text, second
+                                        root, document over too early */
+#define LUMINTAYAG_TABLE_FULL 4      /* a due series or Interval start finds its table full */
+#define LUMINTAYAG_ATTRIBUTE 5       /* attribute missing or unknown */
+#define LUMINTAYAG_FORM 6            /* value against its form or fixed value */
+#define LUMINTAYAG_CODE 7            /* value outside its code list */
+#define LUMINTAYAG_AGAINST 8         /* value or count against another value */
+#define LUMINTAYAG_USED_BEFORE 9     /* TimeSeriesIdentification used before in this document */
 #define LUMINTAYAG_NOTE_TOO_SHORT 10 /* the note buffer has fewer than 16 bytes; place 0 */
-#define LUMINTAYAG_NOT_ONE_NOTE 11  /* lumintayag_read_note only: the bytes aren't one note */
+#define LUMINTAYAG_NOT_ONE_NOTE 11   /* lumintayag_read_note only: the bytes aren't one note */
 
 /* Kinds. 0 is a document whose root was not accepted. */
 #define LUMINTAYAG_BESCHAFFUNGSANFORDERUNG 1
@@ -75,8 +92,9 @@ enum {
 };
 
 /*
- * The cells of a series row: row i is series[8 * i] to series[8 * i + 7]. A start is an index into the document and a length is in bytes between the quotes,
- * so what it shows is doc[start] to doc[start + length - 1], without a 0 after it. Lengths may be 0.
+ * The cells of a series row: row i is series[8 * i] to series[8 * i + 7]. A start is an index into the document
+ * and a length is in bytes between the quotes, so what it shows is doc[start] to doc[start + length - 1], without
+ * a 0 after it. Lengths may be 0.
  */
 enum {
     LUMINTAYAG_IDENTIFICATION = 0, /* start and length of the TimeSeriesIdentification */
@@ -91,16 +109,28 @@ enum {
  *
  * series     rows of eight numbers, in document order. Room for series is series_len / 8, rounded down.
  * positions  the Pos of each interval, in document order, counted over all series.
- * amounts    at the same index its Qty, in thousandths: 12.5 is 12500. Room for intervals is the shorter of positions_len and amounts_len.
+ * amounts    at the same index its Qty, in thousandths: 12.5 is 12500. Room for intervals is the shorter of
+ *            positions_len and amounts_len.
  * note       the first five numbers of the answer as bytes, for the support desk.
- * answer     the seven numbers. Where answer_len is smaller, the first ones; where it is larger, the cells past the seventh are 0.
+ * answer     the seven numbers. Where answer_len is smaller, the first ones; where it is larger, the cells past
+ *            the seventh are 0.
  *
- * On acceptance all cells of the three tables past the last row are 0. On every refusal all cells of the three tables are 0. The bytes of the note
- * buffer past the note are 0, and on refusal 10 all of them. Kind 1: a series has N intervals, with Pos 1 to N. Kind 2 (curve A03): the first Pos of
- * a series is 1, later ones rise and are at most N, and an amount stands until the next Pos.
+ * On acceptance all cells of the three tables past the last row are 0. On every refusal all cells of the three
+ * tables are 0. The bytes of the note buffer past the note are 0, and on refusal 10 all of them.
  *
- * Nothing but the amounts depends on the digits of a price: two documents of equal length that differ only in digits of readable Qty values get the
- * same answer and note, and the same cells but for the amounts of accepted intervals whose own digits differ (proved: docs/AMOUNTS.md).
+ * Pos 1 is the first quarter hour of TimePeriodCovered, and N the last. Kind 1: a series has N intervals, with Pos
+ * 1 to N. Kind 2 (curve A03): the first Pos of a series is 1, later ones rise and are at most N, and an amount
+ * stands until the next Pos, the last one to the end of quarter hour N.
+ *
+ * An amount is megawatts in kind 1; in kind 2 euros by MeasurementUnit: per piece (Z01), per megawatt hour (Z02)
+ * or per hour (Z03). Unit and Direction are no cells of the row. What the format descriptions tell in prose of one
+ * value beside another is judged only where the build scope lists it: a Direction may be absent, and a unit may
+ * stand with any BusinessType. So amounts of two series can be compared where kind, BusinessType, Direction and
+ * MeasurementUnit are the same, which the caller has to see to.
+ *
+ * Nothing but the amounts depends on the digits of a price: two documents of equal length that differ only in
+ * digits of readable Qty values get the same answer and note, and the same cells but for the amounts of accepted
+ * intervals whose own digits differ (proved: docs/ARCHITECTURE.md).
  */
 uint32_t lumintayag_read(const uint8_t *doc, size_t doc_len,
                          uint32_t *series, size_t series_len,
@@ -110,11 +140,18 @@ uint32_t lumintayag_read(const uint8_t *doc, size_t doc_len,
                          uint32_t *answer, size_t answer_len);
 
 /*
- * Reads a note back: exactly five numbers, each shortest and below 2^21, and nothing after; so note_len is the note's length and not that of its buffer.
- * It answers 0, and five holds refusal, place, kind, series and intervals; or it answers 11, and five is all 0. Where five_len is smaller than 5,
- * the first numbers; where it is larger, the cells past the fifth are 0.
+ * Reads a note back: exactly five numbers, each shortest and below 2^21, and nothing after; so note_len is the
+ * note's length and not that of its buffer. It answers 0, and five holds refusal, place, kind, series and
+ * intervals; or it answers 11, and five is all 0. Where five_len is smaller than 5, the first numbers; where it is
+ * larger, the cells past the fifth are 0.
  */
 uint32_t lumintayag_read_note(const uint8_t *note, size_t note_len, uint32_t *five, size_t five_len);
+
+/*
+ * The place of the first unreadable item of a document, or its length where there is none. It looks at bytes,
+ * tags, texts and comments alone: what is due and what a value may be plays no part, nor how long the document is.
+ */
+size_t lumintayag_readable_len(const uint8_t *doc, size_t doc_len);
 
 #ifdef __cplusplus
 }

@@ -1,13 +1,10 @@
 //! Walks the items of a Kostenblatt with the reader, with expat and with quick-xml, side by side.
+use lumintayag_sys::lumintayag_readable_len;
 use side_by_side::{best, document, grouped, peers, print_head, print_row, short, Walk};
-
-extern "C" {
-    fn readable_len(doc: *const u8, len: usize) -> usize;
-}
 
 /// The place of the first unreadable item, or the length.
 fn reader(doc: &[u8]) -> usize {
-    unsafe { readable_len(doc.as_ptr(), doc.len()) }
+    unsafe { lumintayag_readable_len(doc.as_ptr(), doc.len()) }
 }
 
 fn sheets() {

@@ -26,5 +26,5 @@ def deepest(name, above=()):
     return frames[name] + int(sys.argv[3]) + most[0], [f"{name} {frames[name]}"] + most[1]
 
 
-total, way = deepest("lumintayag_read" if "lumintayag_read" in calls else "plain_read")
+total, way = deepest("lumintayag_read")
 print(f"{total} bytes:", ", ".join(way))

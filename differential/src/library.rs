@@ -1,24 +1,7 @@
 //! The proved library, called as C calls it.
 
 use differential::model::{Lengths, Outcome};
-
-extern "C" {
-    fn lumintayag_read(
-        doc: *const u8,
-        doc_len: usize,
-        series: *mut u32,
-        series_len: usize,
-        positions: *mut u32,
-        positions_len: usize,
-        amounts: *mut i64,
-        amounts_len: usize,
-        note: *mut u8,
-        note_len: usize,
-        answer: *mut u32,
-        answer_len: usize,
-    ) -> u32;
-    fn lumintayag_read_note(note: *const u8, len: usize, five: *mut u32, five_len: usize) -> u32;
-}
+use lumintayag_sys::{lumintayag_read, lumintayag_read_note};
 
 /// Cells after those that are lent; none of them may change.
 const GUARD: usize = 3;

@@ -1,21 +1,6 @@
 //! The proved library, called as C calls it.
 
-extern "C" {
-    fn lumintayag_read(
-        doc: *const u8,
-        doc_len: usize,
-        series: *mut u32,
-        series_len: usize,
-        positions: *mut u32,
-        positions_len: usize,
-        amounts: *mut i64,
-        amounts_len: usize,
-        note: *mut u8,
-        note_len: usize,
-        answer: *mut u32,
-        answer_len: usize,
-    ) -> u32;
-}
+use lumintayag_sys::lumintayag_read;
 
 #[derive(Clone, Copy)]
 pub struct Answer {

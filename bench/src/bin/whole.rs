@@ -1,24 +1,8 @@
 //! Reads whole documents by the document reader (validation, tables, note), beside the bare events of expat, quick-xml and libxml2, libxml2's judgement by
 //! the XML Schemas of `peers/`, as a tree and as a stream, and plain scans of the bytes.
+use lumintayag_sys::lumintayag_read;
 use side_by_side::{best, document, grouped, peers, print_head, print_row, short, worst, Walk};
 use std::cell::RefCell;
-
-extern "C" {
-    fn lumintayag_read(
-        doc: *const u8,
-        doc_len: usize,
-        series: *mut u32,
-        series_len: usize,
-        positions: *mut u32,
-        positions_len: usize,
-        amounts: *mut i64,
-        amounts_len: usize,
-        note: *mut u8,
-        note_len: usize,
-        answer: *mut u32,
-        answer_len: usize,
-    ) -> u32;
-}
 
 /// What is lent. All of it is cleared by the reader, so that its size counts.
 struct Lent {

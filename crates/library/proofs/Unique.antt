@@ -1,4 +1,4 @@
--- The contracts of the two exported functions leave one possible answer and one possible content of each lent slice. Assumes nothing.
+-- The contracts of the exported functions leave one possible answer and one possible content of each lent slice. Assumes nothing.
 use Prim.Native.Nat.{ℕ}
 use mathlib.Core.Path.{_≡_}
 use mathlib.Core.List.{List}
@@ -7,6 +7,10 @@ use Rattle.lists.proofs.Unique.{one, both}
 use Rattle.notes.specs.Reader.{noteIn, readRefusal, fiveOf}
 use Rattle.reader.specs.Answer.{Outcome, readOf}
 use Rattle.library.specs.Cells.{cells, sevenOf}
+use Rattle.library.specs.Version.{version}
+
+pub lumintayag-version-one : {r r′ : ℕ} → r ≡ version → r′ ≡ version → r ≡ r′
+lumintayag-version-one = one
 
 -- what the contract says of a refusal and of the series, position and amount tables, the note and the answer's k cells at exit
 pub record Permitted (o : Outcome) (k refusal : ℕ) (series positions : List ℕ) (amounts : List ℤ) (note answer : List ℕ) : Type 0 where

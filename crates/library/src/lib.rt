@@ -12,6 +12,18 @@ ghost use lib.ListN.{length};
 ghost use Rattle.notes.specs.Reader.{noteIn, readRefusal, fiveOf};
 ghost use Rattle.reader.specs.Answer.{readOf};
 ghost use Rattle.library.specs.Cells.{cells, sevenOf};
+ghost use Rattle.library.specs.Version.{version};
+
+// A function whose arguments, cells or rows are laid out anew gets a new name, so that no program is linked with a layout it does not know.
+const VERSION: u32 = 100;
+
+// The version of the exported functions, by which a program tells whether it was compiled with the header of this archive.
+#[no_mangle]
+pub extern "C" fn lumintayag_version() -> u32
+    ensures { λ r. ⌜ r ≡ version ⌝ }
+{
+    VERSION
+}
 
 // The numbers from the first cell on, as far as there are cells, and 0 in those after them.
 fn put_numbers(t: &mut [u32], ns: &[u32])

@@ -1,4 +1,4 @@
-// How far a document is readable, item by item.
+// How far a document is readable, item by item, for C and Rust to call.
 use items::Item;
 use items::item_at;
 use prolog::Begin;
@@ -41,7 +41,7 @@ fn passed_len(s: &[u8]) -> usize
 // The place of the first unreadable item of a document, or its length.
 // Ruled out: the place of the fault inside the item; the length for a document that is cut off in a tag.
 #[no_mangle]
-pub extern "C" fn readable_len(doc: &[u8]) -> usize
+pub extern "C" fn lumintayag_readable_len(doc: &[u8]) -> usize
     ensures { λ r. ⌜ r ≡ readable (now (doc .entry)) ⌝ }
 {
     match first_item(doc) {

@@ -22,6 +22,7 @@
 
 mod sheet;
 
+use lumintayag_sys::{lumintayag_read, lumintayag_read_note};
 pub use sheet::{Series, Sheet};
 
 /// A longer document is refused with 1.
@@ -30,24 +31,6 @@ pub const DOCUMENT_MOST: usize = 1_048_576;
 pub const NOTE_ROOM: usize = 16;
 /// Numbers that a series takes in the series table.
 pub const SERIES_ROW: usize = 8;
-
-extern "C" {
-    fn lumintayag_read(
-        doc: *const u8,
-        doc_len: usize,
-        series: *mut u32,
-        series_len: usize,
-        positions: *mut u32,
-        positions_len: usize,
-        amounts: *mut i64,
-        amounts_len: usize,
-        note: *mut u8,
-        note_len: usize,
-        answer: *mut u32,
-        answer_len: usize,
-    ) -> u32;
-    fn lumintayag_read_note(note: *const u8, note_len: usize, five: *mut u32, five_len: usize) -> u32;
-}
 
 /// What the caller lends to [`read`]. What stands in the slices before makes no difference.
 pub struct Lent<'a> {

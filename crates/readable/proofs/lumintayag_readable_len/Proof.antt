@@ -1,10 +1,10 @@
 use native.Mathlib.Omega.{arith}
 use Rattle.readable.specs.Readable.{readableFrom, readable}
 use borrow.Author.Needs.{needs}
-use Rattle.readable.proofs.readable_len.Statement.{statement}
-use Rattle.readable.proofs.readable_len.Tie as tie
-use Rattle.readable.proofs.readable_len.Reads as reads
-use Rattle.readable.proofs.readable_len.Lts as lts
+use Rattle.readable.proofs.lumintayag_readable_len.Statement.{statement}
+use Rattle.readable.proofs.lumintayag_readable_len.Tie as tie
+use Rattle.readable.proofs.lumintayag_readable_len.Reads as reads
+use Rattle.readable.proofs.lumintayag_readable_len.Lts as lts
 use Rattle.prolog.proofs.first_item.Reads as first-item-reads
 use Rattle.readable.proofs.passed_len.Reads as passed-len-reads
 use Rattle.slices.proofs.rest.Reads as rest-reads
@@ -35,8 +35,8 @@ returns-2 : tie.Need-returns-2
 unfolding readable readableFrom
 returns-2 c = simp (c .before .p .given .1, ← c .before .before .before .first-item .ensures .0)
 
-pub readable-len-spec : {M : Type 1} → statement M
-readable-len-spec =
+pub lumintayag-readable-len-spec : {M : Type 1} → statement M
+lumintayag-readable-len-spec =
     tie.close
     (tie.spec
     first-item-requires

@@ -1,0 +1,12 @@
+//! Prints an archive's version. It names every function, so that it cannot be linked with an archive that lacks one. `build.rs` compiles and runs it.
+#[path = "src/functions.rs"]
+mod functions;
+
+use functions::{lumintayag_read, lumintayag_read_note, lumintayag_readable_len, lumintayag_version};
+
+fn main() {
+    let others = [lumintayag_read as *const (), lumintayag_read_note as *const (), lumintayag_readable_len as *const ()];
+    std::hint::black_box(others);
+    // It takes no argument, and every version has it.
+    println!("{}", unsafe { lumintayag_version() });
+}
