@@ -28,6 +28,7 @@ fn secrets() -> Vec<String> {
 
 /// One text for each public type, with its name.
 fn all(doc: &str, desk: &mut Desk, refused: &mut Desk) -> Vec<(&'static str, String)> {
+    assert!(desk.read(doc.as_bytes()).is_ok());
     let lent = formatted(&desk.lent());
     let refusal = refused.read(&doc.as_bytes()[..doc.len() - 1]).expect_err("a cut");
     let answer = desk.read(doc.as_bytes());
