@@ -55,14 +55,14 @@
 //!
 //! # Features and requirements
 //!
-//! The crate is `no_std`. `alloc`, a default feature, adds [`OwnedSheet`]; without it the crate allocates nothing. It does not panic. A call takes 67 KB of stack.
-//! Environment variable `LUMINTAYAG_DIR` names the folder of the archive at build time, in full.
+//! The crate is `no_std`. The default feature `alloc` adds [`OwnedSheet`]; without it the crate allocates nothing. It does not panic. A call takes 67 KB of stack.
+//! The environment variable `LUMINTAYAG_DIR` names the folder of the archive at build time, as a full path.
 //!
 //! # Later versions
 //!
-//! Kinds and refusals get more names, series more values, and tables wider rows: [`Kind`] and [`Refusal`] are `#[non_exhaustive]`, the fields of rows are behind methods, and
-//! a length that is told by [`Room`] or [`SERIES_ROW`] follows. A sheet may come to have no series. A function of the archive that is laid out anew gets a new name,
-//! and the build ends where the archive lacks one that this crate calls.
+//! Kinds and refusals will get more names, series more values and tables wider rows, and a sheet may come to have no series. So [`Kind`] and [`Refusal`] are
+//! `#[non_exhaustive]`, rows are shown through methods, and tables are sized by [`Room`] and [`SERIES_ROW`]. A function of the archive whose layout changes gets a new
+//! name, so that this crate is not linked with a layout that it does not know.
 #![no_std]
 
 #[cfg(feature = "alloc")]

@@ -32,6 +32,26 @@ impl<'a> Tables<'a> {
 /// What an accepted document says: its series, in document order.
 ///
 /// `Debug` tells the kind and the counts, and nothing of the document.
+///
+/// ```
+/// # #[cfg(feature = "alloc")] {
+/// # let document = include_bytes!(concat!(env!("CARGO_MANIFEST_DIR"), "/../../crates/samples_run/data/two-plain.xml")).to_vec();
+/// # let kept = lumintayag::OwnedSheet::read(document)?;
+/// # let sheet = kept.sheet();
+/// use lumintayag::{Amount, Kind};
+///
+/// if sheet.kind() == Kind::Kostenblatt {
+///     for series in sheet {
+///         // Two intervals here; the first amount stands for quarter hours 1 to 4, the second from 5 to the last.
+///         assert_eq!((series.intervals().len(), series.by_quarter().len()), (2, 96));
+///         let cheapest = series.by_quarter().min_by_key(|&(_, price)| price);
+///         assert_eq!(cheapest, Some((5, Amount::from_thousandths(-3_250))));
+///         assert_eq!(series.amount_at(97), None);
+///     }
+/// }
+/// # }
+/// # Ok::<(), lumintayag::Refused>(())
+/// ```
 #[derive(Clone, Copy, PartialEq, Eq)]
 pub struct Sheet<'a> {
     doc: &'a [u8],
