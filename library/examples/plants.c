@@ -2,9 +2,9 @@
  * The plants of a sheet by price in a quarter hour, cheapest first and like with like. The sheet is invented.
  * usage: plants QUARTER (1 is the first of TimePeriodCovered)
  *
- * A price is ranked beside those of the same BusinessType of a Kostenblatt. More has to be alike: Direction (up or down) and MeasurementUnit (euros per piece,
- * per megawatt hour or per hour) are not in the tables yet, so that a program which goes by them alone cannot tell those apart. In this sheet each BusinessType
- * comes with one Direction and one unit; that of another has to be known to the desk from elsewhere.
+ * A price is ranked beside those of the same BusinessType of a Kostenblatt alone. Direction (up or down) and MeasurementUnit (euros per piece,
+ * per megawatt hour or per hour) have to be the same too. They are not in the tables yet, so that this program cannot tell them apart: its own sheet
+ * has one Direction and one unit for each BusinessType, and a sheet that mixes them may not be ranked like this.
  */
 #include <inttypes.h>
 #include <stdio.h>

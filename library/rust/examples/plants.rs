@@ -1,9 +1,9 @@
 //! The plants of a sheet by price in a quarter hour, cheapest first and like with like. The sheet is invented.
 //! usage: plants QUARTER (1 is the first of TimePeriodCovered)
 //!
-//! A price is ranked beside those of the same BusinessType of a Kostenblatt. More has to be alike: Direction (up or down) and MeasurementUnit (euros per piece,
-//! per megawatt hour or per hour) are not in the tables yet, so that a program which goes by them alone cannot tell those apart. In this sheet each BusinessType
-//! comes with one Direction and one unit; that of another has to be known to the desk from elsewhere.
+//! A price is ranked beside those of the same BusinessType of a Kostenblatt alone. Direction (up or down) and MeasurementUnit (euros per piece,
+//! per megawatt hour or per hour) have to be the same too. They are not in the tables yet, so that this program cannot tell them apart: its own sheet
+//! has one Direction and one unit for each BusinessType, and a sheet that mixes them may not be ranked like this.
 use lumintayag::{Kind, OwnedSheet};
 use std::process::ExitCode;
 
@@ -12,8 +12,9 @@ const DAY: &str = "2031-02-02T23:00Z/2031-02-03T23:00Z";
 fn plant(id: &str, business_type: &str, object: &str, unit: &str, prices: &[(u32, &str)]) -> String {
     let prices: String = prices.iter().map(|(pos, price)| format!("<Interval><Pos v=\"{pos}\"/><Qty v=\"{price}\"/></Interval>")).collect();
     format!(
-        "<CostTimeSeries><TimeSeriesIdentification v=\"{id}\"/><BusinessType v=\"{business_type}\"/><Direction v=\"A01\"/><Product v=\"8716867000016\"/>\
-        <ResourceObject v=\"{object}\" codingScheme=\"NDE\"/><ResourceProvider v=\"9900000000017\" codingScheme=\"NDE\"/><CurveType v=\"A03\"/>\
+        "<CostTimeSeries><TimeSeriesIdentification v=\"{id}\"/><BusinessType v=\"{business_type}\"/><Direction v=\"A01\"/>\
+        <Product v=\"8716867000016\"/><ResourceObject v=\"{object}\" codingScheme=\"NDE\"/>\
+        <ResourceProvider v=\"9900000000017\" codingScheme=\"NDE\"/><CurveType v=\"A03\"/>\
         <MeasurementUnit v=\"{unit}\"/><Period><TimeInterval v=\"{DAY}\"/><Resolution v=\"PT15M\"/>{prices}</Period></CostTimeSeries>"
     )
 }

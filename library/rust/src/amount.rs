@@ -3,8 +3,8 @@ use core::fmt::{self, Write};
 
 /// A Qty, in thousandths: megawatts in a Beschaffungsanforderung, euros by the series' MeasurementUnit in a Kostenblatt.
 ///
-/// [`Display`](fmt::Display) writes the exact decimal number, with as few decimals as it needs. A precision asks for at least so many, up to three; none
-/// is dropped and nothing is rounded. [`Debug`](fmt::Debug) writes no digit, so that an amount gets into a log only where somebody wants it there.
+/// [`Display`](fmt::Display) writes the exact decimal number, with as few decimals as it needs. A precision asks for at least so many, up to three;
+/// none is dropped and nothing is rounded. [`Debug`](fmt::Debug) writes no digit, so that no amount gets into a log by mistake.
 ///
 /// ```
 /// use lumintayag::Amount;

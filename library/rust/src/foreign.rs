@@ -1,5 +1,5 @@
-//! The archive's functions, called with slices. What `library/lumintayag.h` asks of a caller Rust's slices keep: a pointer is aligned and never null, also
-//! where the length is 0, and a slice that is written to overlaps no other. So nothing outside this file has to be unsafe to call them.
+//! The archive's functions, called with slices. What `library/lumintayag.h` asks of a caller Rust's slices keep: a pointer is aligned and never null,
+//! also where the length is 0, and a slice that is written to overlaps no other. So nothing outside this file has to be unsafe to call them.
 #![allow(unsafe_code)]
 
 /// A longer document is refused with 1.

@@ -1,7 +1,8 @@
 //! Reads documents of Germany's Redispatch 2.0 in memory: Beschaffungsanforderungen 1.0 and Kostenblätter 1.0.
 //!
-//! This crate is the safe face of Lumintayag's reader, whose archive it links. What the reader answers and leaves in its tables is proved, for every document
-//! and every length of every table. That ends at the archive's functions (`library/lumintayag.h`): this crate, which shows the tables row by row, is plain Rust.
+//! This crate is the safe face of Lumintayag's reader, whose archive it links. What the reader answers and leaves in its tables is proved, for every
+//! document and every length of every table. That ends at the archive's functions (`library/lumintayag.h`): this crate, which shows the tables row by
+//! row, is plain Rust.
 //!
 //! [`OwnedSheet`] keeps a document with its tables:
 //!
@@ -37,32 +38,32 @@
 //!
 //! # What an amount is
 //!
-//! An [`Amount`] is a Qty, in thousandths. In a Beschaffungsanforderung it is megawatts. In a Kostenblatt it is euros by the series' MeasurementUnit: per piece
-//! (Z01), per megawatt hour (Z02) or per hour (Z03). So two amounts may be held against each other only where kind, BusinessType, Direction and MeasurementUnit are
-//! the same; the last two are not in the tables yet. Quarter hours count from 1, the first of TimePeriodCovered, which need not begin at midnight, and
-//! [`Series::amount_at`] has no amount past the last one.
+//! An [`Amount`] is a Qty, in thousandths. In a Beschaffungsanforderung it is megawatts. In a Kostenblatt it is euros by the series' MeasurementUnit:
+//! per piece (Z01), per megawatt hour (Z02) or per hour (Z03). So two amounts may be held against each other only where kind, BusinessType, Direction
+//! and MeasurementUnit are the same; the last two are not in the tables yet. Quarter hours count from 1, the first of TimePeriodCovered, which need
+//! not begin at midnight, and [`Series::amount_at`] has no amount past the last one.
 //!
 //! # What is not judged
 //!
-//! Dependencies that the format descriptions tell in prose, but for those that the build scope lists (`docs/GUIDELINE.md`, section 7.3). An accepted Kostenblatt may
-//! lack a Direction that its BusinessType needs, have a MeasurementUnit that does not go with it, or a negative price per start.
+//! Dependencies that the format descriptions tell in prose, but for those that the build scope lists (`docs/GUIDELINE.md`, section 7.3). An accepted
+//! Kostenblatt may lack a Direction that its BusinessType needs, have a MeasurementUnit that does not go with it, or a negative price per start.
 //!
 //! # What gets into a log
 //!
-//! `Debug` of every type here tells kinds, counts and places, and no byte of a document and no amount; nor does the text of an error. `Display` of [`Amount`], and what the
-//! methods of [`Series`] answer, is what the caller asked for. [`OwnedSheet`] is wiped when it is dropped, and [`wipe`] is for memory of the caller's own.
-//! `docs/PRIVACY.md` says what is left to the caller: swap, core dumps, copies.
+//! `Debug` of every type here tells kinds, counts and places, and no byte of a document and no amount; nor does the text of an error. `Display` of
+//! [`Amount`], and what the methods of [`Series`] answer, is what the caller asked for. [`OwnedSheet`] is wiped when it is dropped, and [`wipe`] is
+//! for memory of the caller's own. `docs/PRIVACY.md` says what is left to the caller: swap, core dumps, copies.
 //!
 //! # Features and requirements
 //!
-//! The crate is `no_std`. The default feature `alloc` adds [`OwnedSheet`]; without it the crate allocates nothing. It does not panic. A call takes 67 KB of stack.
-//! The environment variable `LUMINTAYAG_DIR` names the folder of the archive at build time, as a full path.
+//! The crate is `no_std`. The default feature `alloc` adds [`OwnedSheet`]; without it the crate allocates nothing. It does not panic. A call takes
+//! 67 KB of stack. The environment variable `LUMINTAYAG_DIR` names the folder of the archive at build time, as a full path.
 //!
 //! # Later versions
 //!
-//! Kinds and refusals will get more names, series more values and tables wider rows, and a sheet may come to have no series. So [`Kind`] and [`Refusal`] are
-//! `#[non_exhaustive]`, rows are shown through methods, and tables are sized by [`Room`] and [`SERIES_ROW`]. A function of the archive whose layout changes gets a new
-//! name, so that this crate is not linked with a layout that it does not know.
+//! Kinds and refusals will get more names, series more values and tables wider rows, and a sheet may come to have no series. So [`Kind`] and
+//! [`Refusal`] are `#[non_exhaustive]`, rows are shown through methods, and tables are sized by [`Room`] and [`SERIES_ROW`]. A function of the
+//! archive whose layout changes gets a new name, so that this crate is not linked with a layout that it does not know.
 #![no_std]
 
 #[cfg(feature = "alloc")]

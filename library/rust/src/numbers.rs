@@ -9,7 +9,8 @@ pub enum Kind {
     Beschaffungsanforderung,
     /// 2: what a changed hour of a plant costs. Its amounts are euros by the series' MeasurementUnit; one stands until the next Pos.
     Kostenblatt,
-    /// A kind that this version of the crate has no name for. A later one may have: ask for its number by [`number`](Kind::number), and do not match it.
+    /// A kind that this version of the crate has no name for. How long its amounts stand is not known, and none is told for a quarter hour. Do not
+    /// match it: a later version may have a name, and [`number`](Kind::number) stays.
     #[non_exhaustive]
     Other(u32),
 }
@@ -79,7 +80,8 @@ pub enum Refusal {
     NoteTooShort,
     /// 11: the bytes aren't one note. [`read_note`](crate::read_note) tells it by its own error.
     NotOneNote,
-    /// A refusal that this version of the crate has no name for. A later one may have: ask for its number by [`number`](Refusal::number), and do not match it.
+    /// A refusal that this version of the crate has no name for. Do not match it: a later version may have a name, and [`number`](Refusal::number)
+    /// stays.
     #[non_exhaustive]
     Other(u32),
 }

@@ -30,8 +30,8 @@ pub struct OwnedSheet {
 impl OwnedSheet {
     /// Reads a document, in tables that have room for it.
     ///
-    /// The document is moved into memory of its own size, and the vector is wiped, as far as its capacity goes, before it is given back; that also where the document
-    /// is refused.
+    /// The document is moved into memory of its own size, and the vector is wiped, as far as its capacity goes, before it is given back; that also
+    /// where the document is refused.
     ///
     /// # Errors
     ///
@@ -40,8 +40,8 @@ impl OwnedSheet {
         Self::read_with_room(document, Room::EVERY)
     }
 
-    /// Reads a document as [`read`](OwnedSheet::read) does, in tables of the given room. Where that is too little they are made larger, and the document is read again;
-    /// they are never larger than a document of its length needs.
+    /// Reads a document as [`read`](OwnedSheet::read) does, in tables of the given room. Where that is too little they are made larger, and the
+    /// document is read again; they are never larger than a document of its length needs.
     ///
     /// # Errors
     ///

@@ -29,8 +29,8 @@ impl Room {
     /// Room for every document.
     pub const EVERY: Room = Room { series: SERIES_ROOM, intervals: INTERVALS_ROOM };
 
-    /// Room for every document of so many bytes: a series takes 410 at least and an Interval 45, and the last one may be cut off. These two numbers are counted
-    /// from the guideline and not proved; with this room no document should be refused with [`TableFull`](crate::Refusal::TableFull).
+    /// Room for every document of so many bytes: a series takes 410 at least and an Interval 45, and the last one may be cut off. These two numbers
+    /// are counted from the guideline and not proved; with this room no document should be refused with [`TableFull`](crate::Refusal::TableFull).
     pub const fn of_length(bytes: usize) -> Room {
         let bytes = if bytes < DOCUMENT_MOST { bytes } else { DOCUMENT_MOST };
         Room { series: bytes / SERIES_LEAST + 1, intervals: bytes / INTERVAL_LEAST + 1 }

@@ -85,7 +85,7 @@ impl<'a> Sheet<'a> {
         self.len() == 0
     }
 
-    /// Series `index`, counted from 0; `None` past the last one. A row that does not belong to the document is none either; the reader leaves no such row.
+    /// Series `index`, counted from 0; `None` past the last one, and for a row that does not belong to the document. The reader leaves no such row.
     pub fn get(&self, index: usize) -> Option<Series<'a>> {
         let row = self.tables.series.get(index.checked_mul(SERIES_ROW)?..)?.first_chunk::<SERIES_ROW>()?;
         let &[identification, identification_len, object, object_len, business_type, business_type_len, first, count] = row;
@@ -181,8 +181,8 @@ impl fmt::Debug for Rows<'_> {
 
 /// A series of a sheet.
 ///
-/// The prices of two series may be held against each other only where kind, BusinessType, Direction and MeasurementUnit are the same. The last two are not in
-/// the tables yet.
+/// The prices of two series may be held against each other only where kind, BusinessType, Direction and MeasurementUnit are the same. The last two
+/// are not in the tables yet.
 ///
 /// `Debug` tells where its values stand in the document and how many intervals it has, and nothing of what they hold.
 #[derive(Clone, Copy, Debug, PartialEq, Eq)]

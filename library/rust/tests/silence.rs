@@ -19,7 +19,7 @@ fn sheet() -> String {
     kostenblatt(&(plant(NAMES[0], OBJECTS[0], &rows) + &plant(NAMES[1], OBJECTS[1], &rows)))
 }
 
-/// Names, objects, and each four digits of a price, which no count and no place of this sheet has. They are the same in thousandths and with a point between them.
+/// Names, objects, and each four digits of a price, which no count and no place of this sheet has. A price in thousandths has them too.
 fn secrets() -> Vec<String> {
     let digits = PRICES.map(|price| price.chars().filter(char::is_ascii_digit).collect::<Vec<_>>());
     let fours = digits.iter().flat_map(|price| price.windows(4)).map(|four| four.iter().collect());
