@@ -48,7 +48,7 @@ impl fmt::Display for Amount {
             _ => 3,
         };
         let mut text = Text { bytes: [0; 20], len: 0 };
-        match f.precision().unwrap_or(0).min(3).max(needed) {
+        match f.precision().unwrap_or(0).max(needed) {
             0 => write!(text, "{whole}"),
             1 => write!(text, "{whole}.{}", rest / 100),
             2 => write!(text, "{whole}.{:02}", rest / 10),

@@ -30,8 +30,8 @@ pub struct OwnedSheet {
 impl OwnedSheet {
     /// Reads a document, in tables that have room for it.
     ///
-    /// The document is moved into memory of its own size, and the vector is wiped, as far as its capacity goes, before it is given back; that also
-    /// where the document is refused.
+    /// The vector is taken over. Where it has room to spare, the document moves into memory of its own size, and the vector is wiped up to its capacity
+    /// before it is given back. A refused document is wiped too: who wants to look at it reads it with [`read`](crate::read()).
     ///
     /// # Errors
     ///
