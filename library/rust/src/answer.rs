@@ -48,7 +48,7 @@ pub struct Refused {
 }
 
 impl Refused {
-    /// Why.
+    /// Why it is refused.
     pub fn refusal(&self) -> Refusal {
         self.refusal
     }
