@@ -1,142 +1,92 @@
-//! Reads documents of Germany's Redispatch 2.0: Beschaffungsanforderung 1.0 (kind 1) and Kostenblatt 1.0 (kind 2).
+//! Reads documents of Germany's Redispatch 2.0 in memory: Beschaffungsanforderungen 1.0 and Kostenblätter 1.0.
 //!
-//! This crate is a safe interface over the proved reader, which it links. What the reader answers and leaves in the lent slices is proved for every document
-//! and every length of every slice. What is proved ends at the archive's two functions (`library/lumintayag.h`); this crate, which cuts the slices that a row
-//! shows, is plain Rust. It allocates nothing and does not panic.
+//! This crate is the safe face of Lumintayag's reader, whose archive it links. What the reader answers and leaves in its tables is proved, for every
+//! document and every length of every table. That ends at the archive's functions (`library/lumintayag.h`): this crate, which shows the tables row by
+//! row, is plain Rust.
+//!
+//! [`OwnedSheet`] keeps a document with its tables:
 //!
 //! ```
-//! let (mut series, mut positions, mut amounts, mut note) = ([0; 64 * lumintayag::SERIES_ROW], [0; 2048], [0; 2048], [0; lumintayag::NOTE_ROOM]);
-//! let lent = lumintayag::Lent { series: &mut series, positions: &mut positions, amounts: &mut amounts, note: &mut note };
-//! match lumintayag::read(b"<Kostenblatt DtdBDEWNachrichtenVersion=\"1.0\">", lent) {
-//!     lumintayag::Answer::Accepted { sheet, .. } => {
-//!         for series in sheet.iter() {
-//!             println!("{:?} {:?}", series.object, series.amount_at(1));
-//!         }
-//!     }
-//!     lumintayag::Answer::Refused { number, place, note, .. } => {
-//!         assert_eq!((number, place, note), (3, 45, &[0x03, 0x2D, 0x02, 0x00, 0x00][..]));
+//! # #[cfg(feature = "alloc")] {
+//! use lumintayag::{Kind, OwnedSheet};
+//!
+//! # let document = include_bytes!(concat!(env!("CARGO_MANIFEST_DIR"), "/../../crates/samples_run/data/two-plain.xml")).to_vec();
+//! let kept = OwnedSheet::read(document)?;
+//! let sheet = kept.sheet();
+//! assert_eq!((sheet.kind(), sheet.quarters(), sheet.len()), (Kind::Kostenblatt, 96, 1));
+//! for series in sheet {
+//!     if let Some(price) = series.amount_at(41) {
+//!         println!("{} {}: {price}", series.business_type(), series.object());
 //!     }
 //! }
+//! # }
+//! # Ok::<(), lumintayag::Refused>(())
 //! ```
+//!
+//! [`read`] does the same in tables that the caller lends. A document that is refused is an error, which tells why and where:
+//!
+//! ```
+//! use lumintayag::{read, Lent, Refusal, Room};
+//!
+//! const ROOM: Room = Room { series: 64, intervals: 2048 };
+//! let (mut series, mut positions, mut amounts) = ([0; ROOM.series_numbers()], [0; ROOM.intervals], [0; ROOM.intervals]);
+//! let lent = Lent { series: &mut series, positions: &mut positions, amounts: &mut amounts };
+//! let refused = read(b"<Kostenblatt DtdBDEWNachrichtenVersion=\"1.0\">", lent).unwrap_err();
+//! assert_eq!((refused.refusal(), refused.place()), (Refusal::NotDue, 45));
+//! assert_eq!(refused.note().to_string(), "03 2D 02 00 00");
+//! ```
+//!
+//! # What an amount is
+//!
+//! An [`Amount`] is a Qty, in thousandths. In a Beschaffungsanforderung it is megawatts. In a Kostenblatt it is euros by the series' MeasurementUnit:
+//! per piece (Z01), per megawatt hour (Z02) or per hour (Z03). So two amounts may be held against each other only where kind, BusinessType, Direction
+//! and MeasurementUnit are the same; the last two are not in the tables yet. Quarter hours count from 1, the first of TimePeriodCovered, which need
+//! not begin at midnight, and [`Series::amount_at`] has no amount past the last one.
+//!
+//! # What is not judged
+//!
+//! Dependencies that the format descriptions tell in prose, but for those that the build scope lists (`docs/GUIDELINE.md`, section 7.3). An accepted
+//! Kostenblatt may lack a Direction that its BusinessType needs, have a MeasurementUnit that does not go with it, or a negative price per start.
+//!
+//! # What gets into a log
+//!
+//! `Debug` of every type here tells kinds, counts and places, and no byte of a document and no amount; nor does the text of an error. `Display` of
+//! [`Amount`], and what the methods of [`Series`] answer, is what the caller asked for. [`OwnedSheet`] is wiped when it is dropped, and [`wipe`] is
+//! for memory of the caller's own. `docs/PRIVACY.md` says what is left to the caller: swap, core dumps, copies.
+//!
+//! # Features and requirements
+//!
+//! The crate is `no_std`. The default feature `alloc` adds [`OwnedSheet`]; without it the crate allocates nothing. It does not panic. A call takes
+//! 67 KB of stack. The environment variable `LUMINTAYAG_DIR` names the folder of the archive at build time, as a full path.
+//!
+//! # Later versions
+//!
+//! Kinds and refusals will get more names, series more values and tables wider rows, and a sheet may come to have no series. So [`Kind`] and
+//! [`Refusal`] are `#[non_exhaustive]`, rows are shown through methods, and tables are sized by [`Room`] and [`SERIES_ROW`]. A function of the
+//! archive whose layout changes gets a new name, so that this crate is not linked with a layout that it does not know.
 #![no_std]
 
+#[cfg(feature = "alloc")]
+extern crate alloc;
+
+mod amount;
+mod answer;
+mod foreign;
+mod note;
+mod numbers;
+#[cfg(feature = "alloc")]
+mod owned;
+mod room;
 mod sheet;
+mod wipe;
 
-use lumintayag_sys::{lumintayag_read, lumintayag_read_note};
-pub use sheet::{Series, Sheet};
-
-/// A longer document is refused with 1.
-pub const DOCUMENT_MOST: usize = 1_048_576;
-/// Bytes that the note buffer needs; with fewer the document is refused with 10. A note has at most 15.
-pub const NOTE_ROOM: usize = 16;
-/// Numbers that a series takes in the series table.
-pub const SERIES_ROW: usize = 8;
-
-/// What the caller lends to [`read`]. What stands in the slices before makes no difference.
-pub struct Lent<'a> {
-    /// Eight numbers for each series; room is its length divided by 8.
-    pub series: &'a mut [u32],
-    /// One number for each interval; room for intervals is the shorter one of this and `amounts`.
-    pub positions: &'a mut [u32],
-    /// One amount for each interval.
-    pub amounts: &'a mut [i64],
-    /// At least [`NOTE_ROOM`] bytes.
-    pub note: &'a mut [u8],
-}
-
-/// The answer to a document.
-#[derive(Clone, Copy, Debug, PartialEq, Eq)]
-pub enum Answer<'a> {
-    /// The document is read.
-    Accepted {
-        /// 1 for a Beschaffungsanforderung, 2 for a Kostenblatt.
-        kind: u32,
-        /// N: the quarter hours of TimePeriodCovered.
-        quarters: u32,
-        /// The series with their intervals.
-        sheet: Sheet<'a>,
-        /// The note for the support desk: refusal 0, the document's length, the kind, how many series and intervals.
-        note: &'a [u8],
-    },
-    /// The document is refused. All cells of the tables are 0.
-    Refused {
-        /// The refusal's number:
-        ///
-        /// | number | given when |
-        /// |---|---|
-        /// | 10 | the note buffer has fewer than 16 bytes |
-        /// | 1 | the document is longer than 1,048,576 bytes |
-        /// | 2 | the item is unreadable |
-        /// | 3 | element not due, too many, too few, wrong end tag, other text, second root, document over too early |
-        /// | 4 | a due series or Interval start finds its table full |
-        /// | 5 | attribute missing or unknown |
-        /// | 6 | value against its form or fixed value |
-        /// | 7 | value outside its code list |
-        /// | 8 | value or count against another value |
-        /// | 9 | TimeSeriesIdentification used before in this document |
-        number: u32,
-        /// The index of the faulty item's first byte, or the document's length where it is over too early; 0 for 10 and 1.
-        place: u32,
-        /// The kind of a root start before the faulty item, else 0.
-        kind: u32,
-        /// Series start tags before the faulty item.
-        series: u32,
-        /// Interval start tags before the faulty item.
-        intervals: u32,
-        /// The note for the support desk: the five numbers above; of no bytes on 10.
-        note: &'a [u8],
-    },
-}
-
-/// Reads a document into what is lent.
-pub fn read<'a>(doc: &'a [u8], lent: Lent<'a>) -> Answer<'a> {
-    let mut answer = [0u32; 7];
-    // SAFETY: each pointer comes with the length of the slice that it is of, and Rust lends the written ones to nobody else.
-    unsafe {
-        lumintayag_read(
-            doc.as_ptr(),
-            doc.len(),
-            lent.series.as_mut_ptr(),
-            lent.series.len(),
-            lent.positions.as_mut_ptr(),
-            lent.positions.len(),
-            lent.amounts.as_mut_ptr(),
-            lent.amounts.len(),
-            lent.note.as_mut_ptr(),
-            lent.note.len(),
-            answer.as_mut_ptr(),
-            answer.len(),
-        );
-    }
-    let [number, place, kind, series, intervals, quarters, len] = answer;
-    let note = sheet::part(lent.note, 0, len);
-    if number == 0 {
-        let sheet = Sheet::new(doc, lent.series, lent.positions, lent.amounts, series, intervals);
-        return Answer::Accepted { kind, quarters, sheet, note };
-    }
-    Answer::Refused { number, place, kind, series, intervals, note }
-}
-
-/// The five numbers of a note.
-#[derive(Clone, Copy, Debug, PartialEq, Eq)]
-pub struct Note {
-    /// 0, or the refusal's number.
-    pub refusal: u32,
-    /// The place; the document's length where it was accepted.
-    pub place: u32,
-    /// 0, 1 or 2.
-    pub kind: u32,
-    /// How many series.
-    pub series: u32,
-    /// How many intervals.
-    pub intervals: u32,
-}
-
-/// Reads a note back. `None` is refusal 11: the bytes aren't one note, that is, five numbers, each shortest and below 2^21, and nothing after.
-pub fn read_note(note: &[u8]) -> Option<Note> {
-    let mut five = [0u32; 5];
-    // SAFETY: each pointer comes with the length of the slice or array that it is of.
-    let refused = unsafe { lumintayag_read_note(note.as_ptr(), note.len(), five.as_mut_ptr(), five.len()) };
-    let [refusal, place, kind, series, intervals] = five;
-    (refused == 0).then_some(Note { refusal, place, kind, series, intervals })
-}
+pub use amount::Amount;
+pub use answer::{read, Accepted, Lent, Refused};
+pub use foreign::{DOCUMENT_MOST, INTERVALS_ROOM, SERIES_ROOM, SERIES_ROW};
+pub use note::{read_note, NotOneNote, Note};
+pub use numbers::{Kind, Refusal};
+#[cfg(feature = "alloc")]
+pub use owned::OwnedSheet;
+pub use room::Room;
+pub use sheet::{ByQuarter, Intervals, Series, SeriesIter, Sheet};
+pub use wipe::wipe;

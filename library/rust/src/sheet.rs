@@ -1,81 +1,374 @@
 //! The tables of an accepted document, row by row.
-use crate::SERIES_ROW;
+use crate::{Amount, Kind, SERIES_ROW};
+use core::fmt;
+use core::iter::FusedIterator;
+use core::ops::Range;
 
-/// `len` elements from `start` on; none where they are not all there.
-pub(crate) fn part<T>(all: &[T], start: u32, len: u32) -> &[T] {
+/// `len` elements from `start` on; `None` where they are not all there.
+fn part<T>(all: &[T], start: u32, len: u32) -> Option<&[T]> {
     let start = start as usize;
-    start.checked_add(len as usize).and_then(|end| all.get(start..end)).unwrap_or(&[])
+    all.get(start..start.checked_add(len as usize)?)
 }
 
-/// The tables of an accepted document.
-#[derive(Clone, Copy, Debug, PartialEq, Eq)]
+/// The three tables.
+#[derive(Clone, Copy, PartialEq, Eq)]
+pub(crate) struct Tables<'a> {
+    pub(crate) series: &'a [u32],
+    pub(crate) positions: &'a [u32],
+    pub(crate) amounts: &'a [i64],
+}
+
+impl<'a> Tables<'a> {
+    /// Their rows, without the cells past the last one.
+    pub(crate) fn of(self, series: usize, intervals: usize) -> Self {
+        Tables {
+            series: self.series.get(..series.saturating_mul(SERIES_ROW)).unwrap_or_default(),
+            positions: self.positions.get(..intervals).unwrap_or_default(),
+            amounts: self.amounts.get(..intervals).unwrap_or_default(),
+        }
+    }
+}
+
+/// What an accepted document says: its series, in document order.
+///
+/// `Debug` tells the kind and the counts, and nothing of the document.
+///
+/// ```
+/// # #[cfg(feature = "alloc")] {
+/// # let document = include_bytes!(concat!(env!("CARGO_MANIFEST_DIR"), "/../../crates/samples_run/data/two-plain.xml")).to_vec();
+/// # let kept = lumintayag::OwnedSheet::read(document)?;
+/// # let sheet = kept.sheet();
+/// use lumintayag::{Amount, Kind};
+///
+/// if sheet.kind() == Kind::Kostenblatt {
+///     for series in sheet {
+///         // Two intervals here; the first amount stands for quarter hours 1 to 4, the second from 5 to the last.
+///         assert_eq!((series.intervals().len(), series.by_quarter().len()), (2, 96));
+///         let cheapest = series.by_quarter().min_by_key(|&(_, price)| price);
+///         assert_eq!(cheapest, Some((5, Amount::from_thousandths(-3_250))));
+///         assert_eq!(series.amount_at(97), None);
+///     }
+/// }
+/// # }
+/// # Ok::<(), lumintayag::Refused>(())
+/// ```
+#[derive(Clone, Copy, PartialEq, Eq)]
 pub struct Sheet<'a> {
-    /// The document.
-    pub doc: &'a [u8],
-    /// The rows of the series, eight numbers each: start and length of the TimeSeriesIdentification, of the object, of the BusinessType; first interval row;
-    /// interval count.
-    pub rows: &'a [u32],
-    /// The Pos of each interval of all series, in document order.
-    pub positions: &'a [u32],
-    /// The amount of each, in thousandths.
-    pub amounts: &'a [i64],
-}
-
-/// A series, as its row shows it.
-#[derive(Clone, Copy, Debug, PartialEq, Eq)]
-pub struct Series<'a> {
-    /// TimeSeriesIdentification, as it stands in the document.
-    pub identification: &'a [u8],
-    /// InParty (kind 1) or ResourceObject (kind 2).
-    pub object: &'a [u8],
-    /// BusinessType, without the spaces at its ends.
-    pub business_type: &'a [u8],
-    /// The Pos of each of its intervals: the first is 1, later ones rise.
-    pub positions: &'a [u32],
-    /// The amount of each, in thousandths: 12.5 is 12500.
-    pub amounts: &'a [i64],
+    doc: &'a [u8],
+    kind: Kind,
+    quarters: u32,
+    tables: Tables<'a>,
 }
 
 impl<'a> Sheet<'a> {
-    pub(crate) fn new(doc: &'a [u8], rows: &'a [u32], positions: &'a [u32], amounts: &'a [i64], series: u32, intervals: u32) -> Self {
-        let rows = part(rows, 0, series.saturating_mul(SERIES_ROW as u32));
-        Sheet { doc, rows, positions: part(positions, 0, intervals), amounts: part(amounts, 0, intervals) }
+    pub(crate) fn new(doc: &'a [u8], kind: Kind, quarters: u32, tables: Tables<'a>) -> Self {
+        Sheet { doc, kind, quarters, tables }
     }
 
-    /// How many series there are; at least one.
-    #[allow(clippy::len_without_is_empty)]
+    /// What the document is.
+    pub fn kind(&self) -> Kind {
+        self.kind
+    }
+
+    /// N: the quarter hours of TimePeriodCovered. Number 1 is the first of them, whatever time of day it begins at.
+    pub fn quarters(&self) -> u32 {
+        self.quarters
+    }
+
+    /// How many series there are.
     pub fn len(&self) -> usize {
-        self.rows.len() / SERIES_ROW
+        self.tables.series.len() / SERIES_ROW
     }
 
-    /// Series i, counted from 0 in document order; `None` past the last.
-    pub fn get(&self, i: usize) -> Option<Series<'a>> {
-        let &[id, id_len, object, object_len, business, business_len, first, count] = self.rows.chunks_exact(SERIES_ROW).nth(i)? else { return None };
+    /// Whether there is no series.
+    pub fn is_empty(&self) -> bool {
+        self.len() == 0
+    }
+
+    /// Series `index`, counted from 0; `None` past the last one, and for a row that does not belong to the document. The reader leaves no such row.
+    pub fn get(&self, index: usize) -> Option<Series<'a>> {
+        let row = self.tables.series.get(index.checked_mul(SERIES_ROW)?..)?.first_chunk::<SERIES_ROW>()?;
+        let &[identification, identification_len, object, object_len, business_type, business_type_len, first, count] = row;
         Some(Series {
-            identification: part(self.doc, id, id_len),
-            object: part(self.doc, object, object_len),
-            business_type: part(self.doc, business, business_len),
-            positions: part(self.positions, first, count),
-            amounts: part(self.amounts, first, count),
+            identification: View::of(self.doc, identification, identification_len)?,
+            object: View::of(self.doc, object, object_len)?,
+            business_type: View::of(self.doc, business_type, business_type_len)?,
+            intervals: Rows::of(self.tables, first, count)?,
+            covered: self.kind.covered(self.quarters),
         })
     }
 
-    /// The series in document order.
-    pub fn iter(&self) -> impl Iterator<Item = Series<'a>> + 'a {
-        let sheet = *self;
-        (0..sheet.len()).filter_map(move |i| sheet.get(i))
+    /// The series, in document order.
+    pub fn iter(&self) -> SeriesIter<'a> {
+        SeriesIter { sheet: *self, rest: 0..self.len() }
     }
 }
 
-impl<'a> Series<'a> {
-    /// Pos and amount of each interval, in document order.
-    pub fn intervals(&self) -> impl Iterator<Item = (u32, i64)> + 'a {
-        self.positions.iter().copied().zip(self.amounts.iter().copied())
+impl fmt::Debug for Sheet<'_> {
+    fn fmt(&self, f: &mut fmt::Formatter<'_>) -> fmt::Result {
+        f.debug_struct("Sheet")
+            .field("kind", &self.kind)
+            .field("quarters", &self.quarters)
+            .field("series", &self.len())
+            .field("intervals", &self.tables.positions.len())
+            .finish()
+    }
+}
+
+impl<'a> IntoIterator for Sheet<'a> {
+    type Item = Series<'a>;
+    type IntoIter = SeriesIter<'a>;
+
+    fn into_iter(self) -> SeriesIter<'a> {
+        self.iter()
+    }
+}
+
+impl<'a> IntoIterator for &Sheet<'a> {
+    type Item = Series<'a>;
+    type IntoIter = SeriesIter<'a>;
+
+    fn into_iter(self) -> SeriesIter<'a> {
+        self.iter()
+    }
+}
+
+/// A value as it stands in the document.
+#[derive(Clone, Copy, PartialEq, Eq)]
+struct View<'a> {
+    start: u32,
+    text: &'a str,
+}
+
+impl<'a> View<'a> {
+    fn of(doc: &'a [u8], start: u32, len: u32) -> Option<Self> {
+        Some(View { start, text: core::str::from_utf8(part(doc, start, len)?).ok()? })
+    }
+}
+
+/// Where it stands, and not what it says.
+impl fmt::Debug for View<'_> {
+    fn fmt(&self, f: &mut fmt::Formatter<'_>) -> fmt::Result {
+        let start = self.start as usize;
+        write!(f, "{start}..{}", start.saturating_add(self.text.len()))
+    }
+}
+
+/// The intervals of a series: as many positions as amounts, at least one, and the first position is 1.
+#[derive(Clone, Copy, PartialEq, Eq)]
+struct Rows<'a> {
+    positions: &'a [u32],
+    amounts: &'a [i64],
+}
+
+impl<'a> Rows<'a> {
+    fn of(tables: Tables<'a>, first: u32, count: u32) -> Option<Self> {
+        let rows = Rows { positions: part(tables.positions, first, count)?, amounts: part(tables.amounts, first, count)? };
+        (rows.positions.first() == Some(&1)).then_some(rows)
     }
 
-    /// The amount that stands in a quarter hour, counted from 1: that of the last Pos up to it. `None` before the first Pos; past N it is the last amount.
-    pub fn amount_at(&self, quarter: u32) -> Option<i64> {
-        let up_to = self.positions.partition_point(|&pos| pos <= quarter);
-        self.amounts.get(up_to.checked_sub(1)?).copied()
+    fn get(&self, row: usize) -> Option<(u32, Amount)> {
+        Some((*self.positions.get(row)?, Amount::from_thousandths(*self.amounts.get(row)?)))
+    }
+}
+
+/// How many, and not what they hold.
+impl fmt::Debug for Rows<'_> {
+    fn fmt(&self, f: &mut fmt::Formatter<'_>) -> fmt::Result {
+        self.positions.len().fmt(f)
+    }
+}
+
+/// A series of a sheet.
+///
+/// The prices of two series may be held against each other only where kind, BusinessType, Direction and MeasurementUnit are the same. The last two
+/// are not in the tables yet.
+///
+/// `Debug` tells where its values stand in the document and how many intervals it has, and nothing of what they hold.
+#[derive(Clone, Copy, Debug, PartialEq, Eq)]
+pub struct Series<'a> {
+    identification: View<'a>,
+    object: View<'a>,
+    business_type: View<'a>,
+    intervals: Rows<'a>,
+    /// The last quarter hour that has an amount.
+    covered: u32,
+}
+
+impl<'a> Series<'a> {
+    /// TimeSeriesIdentification, as it stands in the document.
+    pub fn identification(&self) -> &'a str {
+        self.identification.text
+    }
+
+    /// InParty in a Beschaffungsanforderung, ResourceObject in a Kostenblatt.
+    pub fn object(&self) -> &'a str {
+        self.object.text
+    }
+
+    /// BusinessType, without the spaces at its ends.
+    pub fn business_type(&self) -> &'a str {
+        self.business_type.text
+    }
+
+    /// Pos and amount of each interval, in document order.
+    pub fn intervals(&self) -> Intervals<'a> {
+        Intervals { intervals: self.intervals, rest: 0..self.intervals.positions.len() }
+    }
+
+    /// The amount of a quarter hour, counted from 1: that of the last Pos up to it. `None` for 0 and past the last quarter hour of TimePeriodCovered.
+    pub fn amount_at(&self, quarter: u32) -> Option<Amount> {
+        if quarter > self.covered {
+            return None;
+        }
+        let up_to = self.intervals.positions.partition_point(|&position| position <= quarter);
+        let (_, amount) = self.intervals.get(up_to.checked_sub(1)?)?;
+        Some(amount)
+    }
+
+    /// Number and amount of each quarter hour of TimePeriodCovered, from 1 on.
+    pub fn by_quarter(&self) -> ByQuarter<'a> {
+        ByQuarter { series: *self, row: 0, rest: 1..self.covered.saturating_add(1) }
+    }
+}
+
+/// The series of a sheet, in document order. See [`Sheet::iter`].
+#[derive(Clone, Debug)]
+pub struct SeriesIter<'a> {
+    sheet: Sheet<'a>,
+    rest: Range<usize>,
+}
+
+impl<'a> Iterator for SeriesIter<'a> {
+    type Item = Series<'a>;
+
+    fn next(&mut self) -> Option<Series<'a>> {
+        self.rest.find_map(|index| self.sheet.get(index))
+    }
+
+    fn size_hint(&self) -> (usize, Option<usize>) {
+        (0, self.rest.size_hint().1)
+    }
+}
+
+impl FusedIterator for SeriesIter<'_> {}
+
+/// Pos and amount of each interval of a series. See [`Series::intervals`].
+#[derive(Clone, Debug)]
+pub struct Intervals<'a> {
+    intervals: Rows<'a>,
+    rest: Range<usize>,
+}
+
+impl Iterator for Intervals<'_> {
+    type Item = (u32, Amount);
+
+    fn next(&mut self) -> Option<(u32, Amount)> {
+        self.intervals.get(self.rest.next()?)
+    }
+
+    fn size_hint(&self) -> (usize, Option<usize>) {
+        self.rest.size_hint()
+    }
+}
+
+impl DoubleEndedIterator for Intervals<'_> {
+    fn next_back(&mut self) -> Option<(u32, Amount)> {
+        self.intervals.get(self.rest.next_back()?)
+    }
+}
+
+impl ExactSizeIterator for Intervals<'_> {}
+impl FusedIterator for Intervals<'_> {}
+
+/// Number and amount of each quarter hour of a series. See [`Series::by_quarter`].
+#[derive(Clone, Debug)]
+pub struct ByQuarter<'a> {
+    series: Series<'a>,
+    /// The interval whose amount stood last.
+    row: usize,
+    rest: Range<u32>,
+}
+
+impl Iterator for ByQuarter<'_> {
+    type Item = (u32, Amount);
+
+    fn next(&mut self) -> Option<(u32, Amount)> {
+        let quarter = self.rest.next()?;
+        let intervals = self.series.intervals;
+        while intervals.positions.get(self.row + 1).is_some_and(|&position| position <= quarter) {
+            self.row += 1;
+        }
+        let (_, amount) = intervals.get(self.row)?;
+        Some((quarter, amount))
+    }
+
+    fn size_hint(&self) -> (usize, Option<usize>) {
+        self.rest.size_hint()
+    }
+}
+
+impl DoubleEndedIterator for ByQuarter<'_> {
+    fn next_back(&mut self) -> Option<(u32, Amount)> {
+        let quarter = self.rest.next_back()?;
+        Some((quarter, self.series.amount_at(quarter)?))
+    }
+}
+
+impl ExactSizeIterator for ByQuarter<'_> {}
+impl FusedIterator for ByQuarter<'_> {}
+
+#[cfg(test)]
+mod tests {
+    use super::*;
+
+    const DOC: &[u8] = "id object A01 \u{E4}".as_bytes();
+    const ROW: [u32; SERIES_ROW] = [0, 2, 3, 6, 10, 3, 1, 2];
+
+    fn sheet<'a>(kind: Kind, series: &'a [u32], positions: &'a [u32]) -> Sheet<'a> {
+        Sheet::new(DOC, kind, 4, Tables { series, positions, amounts: &[10, 20, 30] })
+    }
+
+    fn is_there(row: [u32; SERIES_ROW], positions: &[u32]) -> bool {
+        let series = sheet(Kind::Kostenblatt, &row, positions);
+        assert_eq!(series.get(0).is_some(), series.iter().next().is_some());
+        series.get(0).is_some()
+    }
+
+    #[test]
+    fn a_row_belongs_to_its_document() {
+        let sheet = sheet(Kind::Kostenblatt, &ROW, &[1, 1, 3]);
+        let series = sheet.get(0).expect("a row");
+        assert_eq!((series.identification(), series.object(), series.business_type()), ("id", "object", "A01"));
+        assert!(series.intervals().eq([(1, Amount::from_thousandths(20)), (3, Amount::from_thousandths(30))]));
+        assert!(series.by_quarter().map(|(_, amount)| amount.thousandths()).eq([20, 20, 30, 30]));
+    }
+
+    #[test]
+    fn a_row_that_does_not_belong_is_none() {
+        assert!(is_there(ROW, &[1, 1, 3]));
+        let other = |cell: usize, number| core::array::from_fn(|i| if i == cell { number } else { ROW[i] });
+        let len = DOC.len() as u32;
+        let wrong = [(0, len), (1, len + 1), (2, len), (3, u32::MAX), (4, u32::MAX), (5, len), (6, 2), (6, u32::MAX), (7, 0), (7, 3), (7, u32::MAX)];
+        for (cell, number) in wrong {
+            assert!(!is_there(other(cell, number), &[1, 1, 3]), "{number} in cell {cell}");
+        }
+        assert!(!is_there(other(1, len - 1), &[1, 1, 3]), "half a character");
+        assert!(!is_there(ROW, &[1, 2, 3]), "a first position that is not 1");
+        assert!(!is_there(ROW, &[1, 1]), "fewer positions than amounts");
+    }
+
+    #[test]
+    fn half_a_row_and_no_row_are_none() {
+        for cells in 0..SERIES_ROW {
+            let sheet = sheet(Kind::Kostenblatt, &ROW[..cells], &[1, 1, 3]);
+            assert!(sheet.is_empty() && sheet.get(0).is_none() && sheet.iter().next().is_none());
+        }
+    }
+
+    #[test]
+    fn how_long_an_amount_of_an_unknown_kind_stands_is_not_known() {
+        let series = sheet(Kind::Other(7), &ROW, &[1, 1, 3]).get(0).expect("a row");
+        assert_eq!((series.amount_at(1), series.by_quarter().next(), series.intervals().len()), (None, None, 2));
     }
 }

@@ -2,29 +2,61 @@
 mod common;
 
 use common::*;
-use lumintayag::{Answer, Series};
+use lumintayag::{Accepted, Kind, Refusal, Series};
+
+fn views(series: Series<'_>) -> (&str, &str, &str) {
+    (series.identification(), series.object(), series.business_type())
+}
 
 #[test]
 fn a_kostenblatt_is_shown_row_by_row() {
     let doc = two_plants();
     let mut desk = Desk::large();
-    let Answer::Accepted { kind, quarters, sheet, note } = desk.read(doc.as_bytes()) else { panic!("refused") };
-    assert_eq!((kind, quarters, sheet.len()), (2, 96, 2));
-    assert!(note.len() >= 5 && note.len() <= 15);
-    let first = Series {
-        identification: "Straße ä".as_bytes(),
-        object: b"C0000000017",
-        business_type: b"A01",
-        positions: &[1, 29, 96],
-        amounts: &[84_500, -61_250, 999_999_999_999_999],
-    };
-    let second = Series { identification: b"", object: b"A00000000Z5", business_type: b"A01", positions: &[1, 2], amounts: &[0, -1] };
-    assert_eq!((sheet.get(0), sheet.get(1), sheet.get(2), sheet.get(usize::MAX)), (Some(first), Some(second), None, None));
+    let Accepted { sheet, note, .. } = desk.read(doc.as_bytes()).expect("accepted");
+    assert_eq!((sheet.kind(), sheet.quarters(), sheet.len(), sheet.is_empty()), (Kind::Kostenblatt, 96, 2, false));
+    assert!(note.as_bytes().len() >= 5 && note.as_bytes().len() <= 15);
+    let (first, second) = (sheet.get(0).expect("a first series"), sheet.get(1).expect("a second series"));
+    assert_eq!(views(first), ("Straße ä", "C0000000017", "A01"));
+    assert_eq!(views(second), ("", "A00000000Z5", "A01"));
+    assert_eq!((sheet.get(2), sheet.get(usize::MAX)), (None, None));
     assert_eq!(sheet.iter().collect::<Vec<_>>(), [first, second]);
-    assert_eq!(first.intervals().collect::<Vec<_>>(), [(1, 84_500), (29, -61_250), (96, 999_999_999_999_999)]);
-    let stands: Vec<_> = [0, 1, 28, 29, 95, 96].iter().map(|&q| first.amount_at(q)).collect();
-    assert_eq!(stands, [None, Some(84_500), Some(84_500), Some(-61_250), Some(-61_250), Some(999_999_999_999_999)]);
+    assert!(sheet.into_iter().eq(&sheet));
+    let rows = [(1, amount(84_500)), (29, amount(-61_250)), (96, amount(999_999_999_999_999))];
+    assert!(first.intervals().eq(rows) && first.intervals().rev().eq(rows.into_iter().rev()));
+    assert!(second.intervals().eq([(1, amount(0)), (2, amount(-1))]));
     assert!(desk.series[16..].iter().chain(&desk.positions[5..]).all(|&n| n == 0) && desk.amounts[5..].iter().all(|&a| a == 0));
+}
+
+#[test]
+fn an_amount_stands_until_the_next_position_and_not_past_the_last_quarter_hour() {
+    let doc = two_plants();
+    let mut desk = Desk::large();
+    let sheet = desk.read(doc.as_bytes()).expect("accepted").sheet;
+    let first = sheet.get(0).expect("a first series");
+    let stands = |quarter: u32| match quarter {
+        1..=28 => Some(amount(84_500)),
+        29..=95 => Some(amount(-61_250)),
+        96 => Some(amount(999_999_999_999_999)),
+        _ => None,
+    };
+    for quarter in (0..300).chain([u32::MAX - 1, u32::MAX]) {
+        assert_eq!(first.amount_at(quarter), stands(quarter), "quarter hour {quarter}");
+    }
+    let all = || (1..=96).filter_map(|quarter| Some((quarter, stands(quarter)?)));
+    assert!(first.by_quarter().eq(all()) && first.by_quarter().rev().eq(all().rev()));
+    assert_eq!((first.by_quarter().len(), first.by_quarter().nth(28), first.intervals().len()), (96, Some((29, amount(-61_250))), 3));
+}
+
+#[test]
+fn a_period_may_begin_at_any_minute() {
+    let covered = "2031-02-02T22:07Z/2031-02-02T22:52Z";
+    let doc = kostenblatt_in(covered, &plant_in(covered, "a", "C0000000017", &[(1, "5"), (3, "6")]));
+    let mut desk = Desk::large();
+    let sheet = desk.read(doc.as_bytes()).expect("accepted").sheet;
+    assert_eq!(sheet.quarters(), 3);
+    let all = [(1, amount(5_000)), (2, amount(5_000)), (3, amount(6_000))];
+    assert!(sheet.get(0).expect("a series").by_quarter().eq(all));
+    assert_eq!(sheet.get(0).expect("a series").amount_at(4), None);
 }
 
 #[test]
@@ -32,11 +64,12 @@ fn a_beschaffungsanforderung_has_its_quarter_hours() {
     for (covered, n) in [(DAY, 96), ("2024-03-30T23:00Z/2024-03-31T22:00Z", 92), ("2024-10-26T22:00Z/2024-10-27T23:00Z", 100)] {
         let doc = beschaffungsanforderung(covered, &(request("a", covered, n) + &request("b", covered, n)));
         let mut desk = Desk::large();
-        let Answer::Accepted { kind, quarters, sheet, .. } = desk.read(doc.as_bytes()) else { panic!("refused") };
-        assert_eq!((kind, quarters, sheet.len()), (1, n, 2));
+        let sheet = desk.read(doc.as_bytes()).expect("accepted").sheet;
+        assert_eq!((sheet.kind(), sheet.quarters(), sheet.len()), (Kind::Beschaffungsanforderung, n, 2));
         let b = sheet.get(1).expect("a second series");
-        assert_eq!((b.identification, b.object, b.business_type), (&b"b"[..], &b"11XINVENTED----1"[..], &b"A02"[..]));
-        assert!(b.positions.iter().copied().eq(1..=n) && b.amounts == vec![-1250; n as usize]);
+        assert_eq!(views(b), ("b", "11XINVENTED----1", "A02"));
+        assert!(b.intervals().eq((1..=n).map(|quarter| (quarter, amount(-1_250)))) && b.by_quarter().eq(b.intervals()));
+        assert_eq!((b.amount_at(0), b.amount_at(n).is_some(), b.amount_at(n + 1)), (None, true, None));
     }
 }
 
@@ -44,18 +77,18 @@ fn a_beschaffungsanforderung_has_its_quarter_hours() {
 fn a_mark_and_a_declaration_count_in_places() {
     let doc = format!("\u{FEFF}<?xml version='1.0' encoding=\"utf-8\"?>\n{}", two_plants());
     let mut desk = Desk::large();
-    assert_eq!(verdict(doc.as_bytes(), &mut desk), (0, doc.len() as u32));
-    let Answer::Accepted { sheet, .. } = desk.read(doc.as_bytes()) else { panic!("refused") };
-    assert_eq!(sheet.get(0).map(|s| s.object), Some(&b"C0000000017"[..]));
+    assert_eq!(verdict(doc.as_bytes(), &mut desk), (0, doc.len()));
+    let sheet = desk.read(doc.as_bytes()).expect("accepted").sheet;
+    assert_eq!(sheet.get(0).map(|series| series.object()), Some("C0000000017"));
 }
 
 #[test]
 fn the_first_examples() {
     let root = "<Kostenblatt DtdBDEWNachrichtenVersion=\"1.0\">";
     let other = root.replace("1.0", "1.1");
-    let cases: [(&str, (u32, u32)); 5] = [("", (3, 0)), ("<Kostenblatt>", (5, 0)), ("<Kostenblatt/>", (3, 0)), (root, (3, 45)), (&other, (6, 0))];
-    for (doc, said) in cases {
-        assert_eq!(verdict(doc.as_bytes(), &mut Desk::large()), said, "{doc}");
+    let cases: [(&str, (u32, usize)); 5] = [("", (3, 0)), ("<Kostenblatt>", (5, 0)), ("<Kostenblatt/>", (3, 0)), (root, (3, 45)), (&other, (6, 0))];
+    for (k, (doc, said)) in cases.into_iter().enumerate() {
+        assert_eq!(verdict(doc.as_bytes(), &mut Desk::large()), said, "example {k}");
     }
 }
 
@@ -65,7 +98,7 @@ fn refused(doc: &str, old: &str, new: &str, number: u32, at: &str) {
     let other = format!("{}{new}{}", &doc[..from], &doc[from + old.len()..]);
     let end = (from + at.len()).min(other.len());
     let place = other[..end].rfind(at).expect("the place");
-    assert_eq!(verdict(other.as_bytes(), &mut Desk::large()), (number, place as u32), "{new} for {old}");
+    assert_eq!(verdict(other.as_bytes(), &mut Desk::large()), (number, place), "{number} at {at}");
 }
 
 #[test]
@@ -82,9 +115,34 @@ fn every_refusal_has_its_number_and_place() {
     refused(&doc, "PT15M", "PT60M", 8, "<Resolution v");
     refused(&doc, "TimeSeriesIdentification v=\"\"", "TimeSeriesIdentification v=\"Straße ä\"", 9, "<TimeSeriesIdentification");
     let cut = &doc[..doc.len() - "</Kostenblatt>".len()];
-    assert_eq!(verdict(cut.as_bytes(), &mut Desk::large()), (3, cut.len() as u32));
+    assert_eq!(verdict(cut.as_bytes(), &mut Desk::large()), (3, cut.len()));
     let second = doc.clone() + &doc;
-    assert_eq!(verdict(second.as_bytes(), &mut Desk::large()), (3, doc.len() as u32));
+    assert_eq!(verdict(second.as_bytes(), &mut Desk::large()), (3, doc.len()));
+}
+
+#[test]
+fn a_refusal_is_an_error_that_tells_number_place_and_reason() {
+    fn as_error(doc: &[u8]) -> Result<(), Box<dyn std::error::Error>> {
+        let mut desk = Desk::large();
+        let _ = desk.read(doc)?;
+        Ok(())
+    }
+    let doc = two_plants();
+    assert!(as_error(doc.as_bytes()).is_ok());
+    let told = as_error(&doc.as_bytes()[..45]).expect_err("refused").to_string();
+    assert_eq!(told, "refused with 3 at byte 45: an element, an end tag or text is not due here, or the document ends too early");
+}
+
+#[test]
+fn numbers_and_names_of_refusals_and_kinds() {
+    assert_eq!((Refusal::from_number(0), Kind::from_number(0)), (None, None));
+    for number in 1..100 {
+        let (refusal, kind) = (Refusal::from_number(number).expect("a refusal"), Kind::from_number(number).expect("a kind"));
+        assert_eq!((refusal.number(), kind.number()), (number, number));
+        assert_eq!(matches!(refusal, Refusal::Other { .. }), number > 11);
+        assert_eq!(matches!(kind, Kind::Other { .. }), number > 2);
+        assert!(!refusal.to_string().is_empty() && !kind.to_string().is_empty());
+    }
 }
 
 #[test]
@@ -102,6 +160,6 @@ fn every_cut_is_refused() {
     let doc = two_plants().into_bytes();
     for n in 0..doc.len() {
         let (number, place) = verdict(&doc[..n], &mut Desk::large());
-        assert!((number == 2 && place < n as u32) || (number == 3 && place <= n as u32), "{number} at {place} of {n}");
+        assert!((number == 2 && place < n) || (number == 3 && place <= n), "{number} at {place} of {n}");
     }
 }

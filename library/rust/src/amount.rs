@@ -1,0 +1,81 @@
+//! Amounts, which are printed where they are asked for and nowhere else.
+use core::fmt::{self, Write};
+
+/// A Qty, in thousandths: megawatts in a Beschaffungsanforderung, euros by the series' MeasurementUnit in a Kostenblatt.
+///
+/// [`Display`](fmt::Display) writes the exact decimal number, with as few decimals as it needs. A precision asks for at least so many, up to three;
+/// none is dropped and nothing is rounded. [`Debug`](fmt::Debug) writes no digit, so that no amount gets into a log by mistake.
+///
+/// ```
+/// use lumintayag::Amount;
+///
+/// let price = Amount::from_thousandths(-3_750);
+/// assert_eq!(price.to_string(), "-3.75");
+/// assert_eq!(format!("{price:.3}"), "-3.750");
+/// assert_eq!(format!("{price:>8.1}"), "   -3.75");
+/// assert_eq!(format!("{price:?}"), "Amount(..)");
+/// assert!(price < Amount::from_thousandths(0));
+/// ```
+#[derive(Clone, Copy, PartialEq, Eq, PartialOrd, Ord, Hash)]
+pub struct Amount(i64);
+
+impl Amount {
+    /// The amount of so many thousandths: 12500 is 12.5.
+    pub const fn from_thousandths(thousandths: i64) -> Self {
+        Amount(thousandths)
+    }
+
+    /// How many thousandths it has: 12.5 has 12500. In a document they are below 10^15 in size.
+    pub const fn thousandths(self) -> i64 {
+        self.0
+    }
+}
+
+impl fmt::Debug for Amount {
+    fn fmt(&self, f: &mut fmt::Formatter<'_>) -> fmt::Result {
+        f.write_str("Amount(..)")
+    }
+}
+
+impl fmt::Display for Amount {
+    fn fmt(&self, f: &mut fmt::Formatter<'_>) -> fmt::Result {
+        let size = self.0.unsigned_abs();
+        let (whole, rest) = (size / 1000, size % 1000);
+        let needed = match rest {
+            0 => 0,
+            _ if rest % 100 == 0 => 1,
+            _ if rest % 10 == 0 => 2,
+            _ => 3,
+        };
+        let mut text = Text { bytes: [0; 20], len: 0 };
+        match f.precision().unwrap_or(0).max(needed) {
+            0 => write!(text, "{whole}"),
+            1 => write!(text, "{whole}.{}", rest / 100),
+            2 => write!(text, "{whole}.{:02}", rest / 10),
+            _ => write!(text, "{whole}.{rest:03}"),
+        }?;
+        f.pad_integral(self.0 >= 0, "", text.as_str())
+    }
+}
+
+/// A line that is short enough for every i64 with a point in it.
+struct Text {
+    bytes: [u8; 20],
+    len: usize,
+}
+
+impl Text {
+    fn as_str(&self) -> &str {
+        self.bytes.get(..self.len).and_then(|bytes| core::str::from_utf8(bytes).ok()).unwrap_or_default()
+    }
+}
+
+impl Write for Text {
+    fn write_str(&mut self, s: &str) -> fmt::Result {
+        for byte in s.bytes() {
+            *self.bytes.get_mut(self.len).ok_or(fmt::Error)? = byte;
+            self.len += 1;
+        }
+        Ok(())
+    }
+}

@@ -1,0 +1,146 @@
+//! A document with its tables, on the heap.
+use crate::answer::Told;
+use crate::sheet::Tables;
+use crate::{wipe, Accepted, Lent, Note, Refusal, Refused, Room, Series, SeriesIter, Sheet};
+use alloc::vec;
+use alloc::vec::Vec;
+use core::fmt;
+
+/// An accepted document that is kept with its tables. All of it is [wiped](wipe) when it is dropped.
+///
+/// ```
+/// use lumintayag::{OwnedSheet, DOCUMENT_MOST};
+/// use std::io::Read;
+///
+/// // Room from the start: a vector that grows leaves what it held in memory that nobody wipes.
+/// let mut document = Vec::with_capacity(DOCUMENT_MOST + 1);
+/// std::io::empty().take(DOCUMENT_MOST as u64 + 1).read_to_end(&mut document)?;
+/// match OwnedSheet::read(document) {
+///     Ok(kept) => println!("{} series", kept.sheet().len()),
+///     Err(refused) => println!("{refused}; note {}", refused.note()),
+/// }
+/// # Ok::<(), std::io::Error>(())
+/// ```
+pub struct OwnedSheet {
+    document: Wiped<u8>,
+    cells: Cells,
+    told: Told,
+}
+
+impl OwnedSheet {
+    /// Reads a document, in tables that have room for it.
+    ///
+    /// The vector is taken over. Where it has room to spare, the document moves into memory of its own size, and the vector is wiped up to its capacity
+    /// before it is given back. A refused document is wiped too: who wants to look at it reads it with [`read`](crate::read()).
+    ///
+    /// # Errors
+    ///
+    /// [`Refused`] says why and where.
+    pub fn read(document: Vec<u8>) -> Result<Self, Refused> {
+        Self::read_with_room(document, Room::EVERY)
+    }
+
+    /// Reads a document as [`read`](OwnedSheet::read) does, in tables of the given room. Where that is too little they are made larger, and the
+    /// document is read again; they are never larger than a document of its length needs.
+    ///
+    /// # Errors
+    ///
+    /// [`Refused`] says why and where.
+    pub fn read_with_room(document: Vec<u8>, room: Room) -> Result<Self, Refused> {
+        let document = Wiped(document);
+        let enough = Room::of_length(document.0.len());
+        let room = Room { series: room.series.min(enough.series), intervals: room.intervals.min(enough.intervals) };
+        let (told, cells) = match Cells::filled(&document.0, room) {
+            Err(refused) if refused.refusal() == Refusal::TableFull => Cells::filled(&document.0, enough),
+            answer => answer,
+        }?;
+        Ok(OwnedSheet { document: document.fitted(), cells, told })
+    }
+
+    /// What the document says.
+    pub fn sheet(&self) -> Sheet<'_> {
+        self.told.sheet(&self.document.0, self.cells.tables())
+    }
+
+    /// The note for the support desk.
+    pub fn note(&self) -> Note {
+        self.told.note
+    }
+
+    /// Sheet and note, as [`read`](crate::read()) answers them.
+    pub fn accepted(&self) -> Accepted<'_> {
+        Accepted { sheet: self.sheet(), note: self.note() }
+    }
+
+    /// The document.
+    pub fn document(&self) -> &[u8] {
+        &self.document.0
+    }
+
+    /// The room that its tables have.
+    pub fn room(&self) -> Room {
+        self.cells.room
+    }
+}
+
+/// What the sheet's `Debug` tells, and how long the document is.
+impl fmt::Debug for OwnedSheet {
+    fn fmt(&self, f: &mut fmt::Formatter<'_>) -> fmt::Result {
+        f.debug_struct("OwnedSheet").field("document", &self.document.0.len()).field("room", &self.room()).field("sheet", &self.sheet()).finish()
+    }
+}
+
+impl<'a> IntoIterator for &'a OwnedSheet {
+    type Item = Series<'a>;
+    type IntoIter = SeriesIter<'a>;
+
+    fn into_iter(self) -> SeriesIter<'a> {
+        self.sheet().iter()
+    }
+}
+
+/// The three tables.
+struct Cells {
+    room: Room,
+    series: Wiped<u32>,
+    positions: Wiped<u32>,
+    amounts: Wiped<i64>,
+}
+
+impl Cells {
+    /// Tables of this room, with the document read into them.
+    fn filled(doc: &[u8], room: Room) -> Result<(Told, Self), Refused> {
+        let (series, positions, amounts) = (Wiped::zeros(room.series_numbers()), Wiped::zeros(room.intervals), Wiped::zeros(room.intervals));
+        let mut cells = Cells { room, series, positions, amounts };
+        let told = Told::of(doc, Lent { series: &mut cells.series.0, positions: &mut cells.positions.0, amounts: &mut cells.amounts.0 })?;
+        Ok((told, cells))
+    }
+
+    fn tables(&self) -> Tables<'_> {
+        Tables { series: &self.series.0, positions: &self.positions.0, amounts: &self.amounts.0 }
+    }
+}
+
+/// Cells that are wiped when they are dropped, as far as the vector's capacity goes. It never grows, so that it leaves nothing behind before.
+struct Wiped<T: Copy + Default>(Vec<T>);
+
+impl<T: Copy + Default> Wiped<T> {
+    fn zeros(len: usize) -> Self {
+        Wiped(vec![T::default(); len])
+    }
+
+    /// The same cells, in memory of their own size.
+    fn fitted(self) -> Self {
+        if self.0.capacity() == self.0.len() {
+            return self;
+        }
+        Wiped(self.0.as_slice().into())
+    }
+}
+
+impl<T: Copy + Default> Drop for Wiped<T> {
+    fn drop(&mut self) {
+        self.0.resize(self.0.capacity(), T::default());
+        wipe(&mut self.0);
+    }
+}

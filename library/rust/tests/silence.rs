@@ -1,0 +1,102 @@
+//! `Debug` of every public type tells kinds, counts and places, and nothing of the document.
+mod common;
+
+use common::*;
+use lumintayag::{read_note, Room};
+use std::fmt::Debug;
+
+/// Both forms of `Debug`.
+fn formatted(value: &dyn Debug) -> String {
+    format!("{value:?}\n{value:#?}")
+}
+
+const PRICES: [&str; 3] = ["84848484.848", "-7373737.3", "6262626262.62"];
+const NAMES: [&str; 2] = ["Streng", "geheim"];
+const OBJECTS: [&str; 2] = ["C0000000017", "B1234567890"];
+
+fn sheet() -> String {
+    let rows = [(1, PRICES[0]), (29, PRICES[1]), (81, PRICES[2])];
+    kostenblatt(&(plant(NAMES[0], OBJECTS[0], &rows) + &plant(NAMES[1], OBJECTS[1], &rows)))
+}
+
+/// Names, objects, and each four digits of a price, which no count and no place of this sheet has. A price in thousandths has them too.
+fn secrets() -> Vec<String> {
+    let digits = PRICES.map(|price| price.chars().filter(char::is_ascii_digit).collect::<Vec<_>>());
+    let fours = digits.iter().flat_map(|price| price.windows(4)).map(|four| four.iter().collect());
+    fours.chain(NAMES.into_iter().chain(OBJECTS).map(String::from)).collect()
+}
+
+/// One text for each public type, with its name.
+fn all(doc: &str, desk: &mut Desk, refused: &mut Desk) -> Vec<(&'static str, String)> {
+    assert!(desk.read(doc.as_bytes()).is_ok());
+    let lent = formatted(&desk.lent());
+    let refusal = refused.read(&doc.as_bytes()[..doc.len() - 1]).expect_err("a cut");
+    let answer = desk.read(doc.as_bytes());
+    let accepted = answer.expect("accepted");
+    let (sheet, note) = (accepted.sheet, accepted.note);
+    let series = sheet.get(0).expect("a series");
+    let mut all = vec![
+        ("Lent", lent),
+        ("Accepted", formatted(&accepted) + &formatted(&answer)),
+        ("Refused", formatted(&refusal) + &formatted(&Err::<(), _>(refusal)) + &refusal.to_string()),
+        ("Refusal", formatted(&refusal.refusal()) + &refusal.refusal().to_string()),
+        ("Note", formatted(&note) + &note.to_string()),
+        ("NotOneNote", formatted(&read_note(doc.as_bytes()))),
+        ("Kind", formatted(&sheet.kind())),
+        ("Room", formatted(&Room::of_length(doc.len()))),
+        ("Sheet", formatted(&sheet)),
+        ("SeriesIter", formatted(&sheet.iter())),
+        ("Series", formatted(&series) + &formatted(&sheet.iter().collect::<Vec<_>>())),
+        ("Intervals", formatted(&series.intervals())),
+        ("ByQuarter", formatted(&series.by_quarter())),
+        ("Amount", formatted(&series.amount_at(1)) + &formatted(&series.intervals().collect::<Vec<_>>())),
+    ];
+    #[cfg(feature = "alloc")]
+    all.push(("OwnedSheet", formatted(&lumintayag::OwnedSheet::read(doc.into()))));
+    all.sort();
+    all
+}
+
+/// The names after `pub struct` and `pub enum` in the crate's sources.
+fn public_types() -> Vec<String> {
+    let mut names = Vec::new();
+    for file in std::fs::read_dir(concat!(env!("CARGO_MANIFEST_DIR"), "/src")).expect("the sources") {
+        let source = std::fs::read_to_string(file.expect("a file").path()).expect("a source");
+        let after = source.lines().filter_map(|line| line.strip_prefix("pub struct ").or(line.strip_prefix("pub enum ")));
+        names.extend(after.map(|line| line.split(|c: char| !c.is_alphanumeric()).next().unwrap_or_default().to_string()));
+    }
+    names.retain(|name| cfg!(feature = "alloc") || name != "OwnedSheet");
+    names.sort();
+    names
+}
+
+#[test]
+fn no_byte_of_a_document_and_no_amount() {
+    let doc = sheet();
+    let digits = doc.replace('.', "");
+    let (mut desk, mut refused) = (Desk::large(), Desk::large());
+    let texts = all(&doc, &mut desk, &mut refused);
+    for (k, secret) in secrets().iter().enumerate() {
+        assert!(digits.contains(secret), "secret {k} is in the document");
+        for (name, text) in &texts {
+            assert!(!text.contains(secret), "{name} tells secret {k}");
+        }
+    }
+}
+
+/// No text changes with digits of prices, names or objects.
+#[test]
+fn the_same_for_another_sheet_of_the_same_lengths() {
+    let doc = sheet();
+    let other =
+        doc.replace(PRICES[0], "11111111.111").replace(PRICES[2], "0000000009.99").replace(NAMES[0], "Lieber").replace(OBJECTS[1], "A00000000Z5");
+    assert!(other != doc && other.len() == doc.len());
+    assert!(all(&doc, &mut Desk::large(), &mut Desk::large()) == all(&other, &mut Desk::large(), &mut Desk::large()));
+}
+
+#[test]
+fn every_public_type_is_here() {
+    let texts = all(&sheet(), &mut Desk::large(), &mut Desk::large());
+    let names: Vec<_> = texts.into_iter().map(|(name, _)| name).collect();
+    assert_eq!(public_types(), names);
+}

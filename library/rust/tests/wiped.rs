@@ -1,0 +1,109 @@
+//! Memory is given back empty. The allocator of this program looks for a price, as digits and as thousandths, in each block that it takes back.
+#![allow(unsafe_code)]
+mod common;
+
+use common::*;
+use lumintayag::{wipe, OwnedSheet, Room};
+use std::alloc::{GlobalAlloc, Layout, System};
+use std::cell::Cell;
+use std::hint::black_box;
+use std::panic::{catch_unwind, resume_unwind};
+
+const PRICE: &str = "847362514.938";
+const THOUSANDTHS: i64 = 847_362_514_938;
+
+fn holds_price(block: &[u8]) -> bool {
+    [PRICE.as_bytes(), &THOUSANDTHS.to_ne_bytes()].iter().any(|secret| block.windows(secret.len()).any(|window| window == *secret))
+}
+
+thread_local! {
+    /// Blocks that came back with the price in them, and all that came back.
+    static BACK: Cell<(usize, usize)> = const { Cell::new((0, 0)) };
+}
+
+struct Looking;
+
+// SAFETY: memory comes from the system's allocator and goes back to it. The default `realloc` ends in `dealloc` of this one.
+unsafe impl GlobalAlloc for Looking {
+    unsafe fn alloc(&self, layout: Layout) -> *mut u8 {
+        // SAFETY: the caller keeps what the system asks.
+        unsafe { System.alloc_zeroed(layout) }
+    }
+
+    unsafe fn dealloc(&self, block: *mut u8, layout: Layout) {
+        // SAFETY: the block has this size, nobody else has it any more, and every byte of it was made 0 at first.
+        let found = holds_price(unsafe { std::slice::from_raw_parts(block, layout.size()) });
+        let _ = BACK.try_with(|back| back.set((back.get().0 + usize::from(found), back.get().1 + 1)));
+        // SAFETY: the caller keeps what the system asks.
+        unsafe { System.dealloc(block, layout) }
+    }
+}
+
+#[global_allocator]
+static ALLOCATOR: Looking = Looking;
+
+/// What the work answers; how many blocks it gives back with the price in them, and how many at all.
+fn given_back<T>(work: impl FnOnce() -> T) -> (T, (usize, usize)) {
+    BACK.set((0, 0));
+    let answer = work();
+    (answer, BACK.get())
+}
+
+/// A sheet with the price in it and `end` after it, in a vector with room to spare that has the price too.
+fn document(end: &str) -> Vec<u8> {
+    let mut doc = (kostenblatt(&plant("a", "C0000000017", &[(1, PRICE), (2, "5")])) + end).into_bytes();
+    let mut vector = Vec::with_capacity(doc.len() + 1000);
+    vector.extend_from_slice(&doc);
+    vector.extend_from_slice(PRICE.as_bytes());
+    vector.truncate(doc.len());
+    wipe(&mut doc);
+    vector
+}
+
+#[test]
+fn the_allocator_finds_what_is_not_wiped() {
+    let vector = black_box(document(""));
+    assert_eq!(given_back(|| drop(vector)).1, (1, 1));
+    let amounts = black_box(vec![0, THOUSANDTHS, 0]);
+    assert_eq!(given_back(|| drop(amounts)).1, (1, 1));
+}
+
+#[test]
+fn a_kept_sheet_is_wiped() {
+    for room in [Room::EVERY, Room { series: 1, intervals: 2 }, Room { series: 1, intervals: 1 }] {
+        let vector = document("");
+        let (kept, back) = given_back(|| OwnedSheet::read_with_room(vector, room).expect("accepted"));
+        assert_eq!(back, (0, if room.intervals == 1 { 4 } else { 1 }), "the vector, and tables that were too small");
+        assert_eq!(kept.sheet().get(0).and_then(|series| series.amount_at(1)), Some(amount(THOUSANDTHS)));
+        assert!(holds_price(kept.document()));
+        assert_eq!(given_back(|| drop(kept)).1, (0, 4), "the document and its tables");
+    }
+}
+
+#[test]
+fn a_vector_that_fits_is_kept_as_it_is() {
+    let mut vector = document("");
+    vector.resize(vector.capacity(), b' ');
+    let (kept, back) = given_back(|| OwnedSheet::read(vector).expect("accepted"));
+    assert_eq!(back, (0, 0));
+    assert_eq!(given_back(|| drop(kept)).1, (0, 4));
+}
+
+#[test]
+fn a_refused_document_is_wiped() {
+    let vector = document("x");
+    assert!(holds_price(&vector));
+    let (refused, back) = given_back(|| OwnedSheet::read(vector).is_err());
+    assert_eq!((refused, back), (true, (0, 4)));
+}
+
+#[test]
+fn a_panic_wipes_too() {
+    let vector = document("");
+    let work = || {
+        let _kept = OwnedSheet::read(vector).expect("accepted");
+        resume_unwind(Box::new(()))
+    };
+    let (ended, back) = given_back(|| catch_unwind::<_, ()>(work).is_err());
+    assert_eq!((ended, back.0), (true, 0));
+}
