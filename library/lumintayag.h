@@ -15,6 +15,8 @@
  * - With length 0 the pointer may be NULL, as that of an empty std::vector is. With any other length it may not.
  * - No slice that is written to overlaps another slice of the same call.
  * What stands in a slice that is written to makes no difference, and need not be initialized.
+ *
+ * Document and tables hold prices: docs/PRIVACY.md says what a caller does about copies, swap and core dumps.
  */
 #ifndef LUMINTAYAG_H
 #define LUMINTAYAG_H
