@@ -2,5 +2,6 @@ pub mod Unique
 pub mod Below
 pub mod Consecutive
 pub mod Sundays
+pub mod Packed
 pub mod Midnights
 pub mod Lengths
