@@ -18,7 +18,7 @@ use Rattle.pictures.specs.Picture.{digit}
 use Rattle.numbers.proofs.Reading.{digit-range}
 use Rattle.numbers.specs.Alike.{Like, Alike, none, next}
 use Rattle.digits.specs.Unseen.{Unseen}
-use Rattle.digits.proofs.Low.{Level, char-level}
+use Rattle.trims.proofs.Low.{Level, char-level}
 use Rattle.digits.proofs.Places.{alike-append, alike-length, alike-byte}
 use Rattle.digits.proofs.Tests.{blind-quote, blind-fit, blind-mark}
 

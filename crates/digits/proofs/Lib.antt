@@ -1,4 +1,3 @@
-pub mod Low
 pub mod Near
 pub mod Spans
 pub mod Pieces

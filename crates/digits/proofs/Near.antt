@@ -19,7 +19,7 @@ use Rattle.attributes.specs.Attribute.{quote, fit, valueNext, valueOver, value,
 use Rattle.attributes.specs.declared.Value.{Value}
 use Rattle.attributes.specs.declared.Value.the-variants.{Long, Broken}
 use Rattle.attributes.proofs.Short.{byte-drop}
-use Rattle.digits.proofs.Low.{char-low, char-size, char-near}
+use Rattle.trims.proofs.Low.{char-low, char-size, char-near}
 
 -- x and y begin with the same n bytes
 abbrev pub Front : List ℕ → List ℕ → ℕ → Type 0
