@@ -34,7 +34,7 @@ use Rattle.states.specs.declared.Entry.the-variants.{Nothing, Amount}
 use Rattle.states.specs.declared.Step.{Step}
 use Rattle.states.specs.declared.Step.the-variants.{Next, Refused}
 use Rattle.states.proofs.Judgements.{judged-passed, interval-room}
-use Rattle.blindness.specs.Readable.{namedQty}
+use Rattle.blindness.specs.Readable.{tagNamed, namedQty}
 use Rattle.blindness.proofs.Steps.{row-named, row-role}
 use Rattle.blindness.proofs.Tables.{allBelow, below, where-true, waits, due, tested, one-tested, two-tested, waits-other, start-due, row-facts, end-waits}
 
@@ -412,7 +412,7 @@ module _ (x : State) (room : Room) (c : ℕ) (k : Counted c room x) (low : x .in
   text-good w = by-cond (Good c room (x .intervals) false) w unmoved (refusal 3 (λ e. omega (arith, e)))
 
   pub step-good : (i : Item) → Good c room (x .intervals) (namedQty i s) (step x (rowsOf 1) (rowsOf 2) i s room)
-  unfolding step stepOn moved rootKind namedQty
+  unfolding step stepOn moved rootKind tagNamed
   step-good (Start t) = tag-good (Start t) t false refl
   step-good (Empty t) = tag-good (Empty t) t true refl
   step-good (End n e) =

@@ -1,12 +1,12 @@
--- The identifications that the series table shows are the same in two documents, from row to row. Assumes nothing.
+-- What the series table shows in two documents goes together, from row to row; where amounts differ, it is the same. Assumes nothing.
 use Prim.Native.Nat.{ℕ, zero, suc, _+_, _-_, _*_, _≤_, _<_}
-use mathlib.Core.Path.{_≡_, refl, sym, _∙_}
+use mathlib.Core.Path.{_≡_, refl, sym, ap, _∙_}
 use mathlib.Core.List.{List, []}
 use mathlib.Core.Logic.{_⊎_, inl, inr, ⊎-elim}
 use native.Mathlib.Omega.{arith}
 use native.Mathlib.Nat.{add-zero}
-use lib.ListN.{length, getD, set, length-set, List·getD-eq-default}
-use lib.Seq.{getD-set-same, getD-set-other}
+use lib.ListN.{length, getD, take, drop, set, length-set, List·getD-eq-default}
+use lib.Seq.{drop-drop, getD-set-same, getD-set-other}
 use Rattle.lists.specs.Zeros.{zeros}
 use Rattle.lists.proofs.Cases.{eqb-cases, ltb-cases, zero-not-one}
 use Rattle.attributes.specs.Attribute.{partOf}
@@ -17,6 +17,28 @@ use Rattle.states.specs.declared.State.{State}
 use Rattle.states.specs.declared.Entry.{Entry}
 use Rattle.states.specs.declared.Entry.the-variants.{Nothing, Series, Identification, Object, BusinessType, Interval, Position, Amount}
 use Rattle.reader.specs.Rows.{quoted, cell, withView, seriesAfter, identificationAt, used, usedBefore}
+use Rattle.blindness.proofs.Steps.{Values}
+
+-- What a value that is brought does to the series table, in x and in y, where R joins the two values.
+pub record Tabled (R : List ℕ → List ℕ → Type 0) (brought : Entry) (x y : List ℕ) : Type 1 where
+  -- what a table shows in x and in y goes together
+  pub Shows : List ℕ → Type 0
+  pub none : (n : ℕ) → Shows (zeros n)
+  pub next : (at : ℕ) (v : Span) (s s′ : List ℕ) (st : State) (e : Entry) (t : List ℕ) → s ≡ drop at x → s′ ≡ drop at y → Shows t
+      → Values R brought e (quoted v s) (quoted v s′) → Shows (seriesAfter at v s st e t)
+  -- an identification is used before in the one as in the other
+  pub used : (v : Span) (s s′ t : List ℕ) → Shows t → (n : ℕ) (e : Entry) → Values R brought e (quoted v s) (quoted v s′)
+      → usedBefore x t v s n e ≡ usedBefore y t v s′ n e
+  -- the rows hold the same
+  pub after : (at : ℕ) (v : Span) (s s′ : List ℕ) (st : State) (e : Entry) (t : List ℕ) → Values R brought e (quoted v s) (quoted v s′)
+      → seriesAfter at v s st e t ≡ seriesAfter at v s′ st e t
+
+-- a value of an item is a part of its document
+pub value-part : (doc : List ℕ) (at : ℕ) (s : List ℕ) (v : Span) → s ≡ drop at doc → quoted v s ≡ partOf doc (at + v .start) (v .len)
+unfolding quoted partOf
+value-part doc at s v e = rw e (ap (take (v .len)) (drop-drop (v .start) at doc))
+
+-- ---- amounts: each row shows the same identification in x and in y
 
 zero-cell : (n k : ℕ) → getD (zeros n) k 0 ≡ 0
 zero-cell zero k = refl
@@ -46,10 +68,10 @@ row-short doc t start len i h =
 
 module _ (x y : List ℕ) where
   -- each row shows the same identification in x and in y
-  abbrev pub Shown : List ℕ → Type 0
+  abbrev Shown : List ℕ → Type 0
   Shown t = (i : ℕ) → identificationAt x t i ≡ identificationAt y t i
 
-  pub shown-none : (n : ℕ) → Shown (zeros n)
+  shown-none : (n : ℕ) → Shown (zeros n)
   unfolding identificationAt partOf
   shown-none n i = rw (zero-cell n (8 * i + 1))
 
@@ -83,7 +105,7 @@ module _ (x y : List ℕ) where
           ∙ row-kept doc t (8 * n) start i (λ z. q (omega (arith, z))) (λ z. omega (arith, z))
 
   -- v is where the value of the item at the place `at` stands
-  pub shown-after : (at : ℕ) (v : Span) (s : List ℕ) (st : State) (e : Entry) (t : List ℕ) → Shown t
+  shown-after : (at : ℕ) (v : Span) (s : List ℕ) (st : State) (e : Entry) (t : List ℕ) → Shown t
       → (e ≡ Identification → partOf x (at + v .start) (v .len) ≡ partOf y (at + v .start) (v .len)) → Shown (seriesAfter at v s st e t)
   unfolding seriesAfter withView cell
   shown-after at v s st Nothing t h p = h
@@ -102,29 +124,45 @@ module _ (x y : List ℕ) where
   used-same t h zero id = refl
   used-same t h (suc n) id = rw (h n, used-same t h n id)
 
-  -- v is where the values stand in s and in s′
-  module _ (v : Span) (s s′ : List ℕ) (t : List ℕ) (h : Shown t) where
-    pub before-same : (n : ℕ) (e : Entry) → (e ≡ Amount) ⊎ (quoted v s ≡ quoted v s′) → usedBefore x t v s n e ≡ usedBefore y t v s′ n e
+  module _ (R : List ℕ → List ℕ → Type 0) where
+    same-used : (v : Span) (s s′ t : List ℕ) → Shown t → (n : ℕ) (e : Entry) → Values R Amount e (quoted v s) (quoted v s′)
+        → usedBefore x t v s n e ≡ usedBefore y t v s′ n e
     unfolding usedBefore
-    before-same n Nothing q = refl
-    before-same n Series q = refl
-    before-same n Identification (inl e) = absurd (zero-not-one (cc))
-    before-same n Identification (inr e) = rw e (used-same t h (n - 1) (quoted v s′))
-    before-same n Object q = refl
-    before-same n BusinessType q = refl
-    before-same n Interval q = refl
-    before-same n (Position p) q = refl
-    before-same n Amount q = refl
+    same-used v s s′ t h n Nothing q = refl
+    same-used v s s′ t h n Series q = refl
+    same-used v s s′ t h n Identification (inl e) = let z = e .0 in absurd (zero-not-one (cc))
+    same-used v s s′ t h n Identification (inr e) = rw e (used-same t h (n - 1) (quoted v s′))
+    same-used v s s′ t h n Object q = refl
+    same-used v s s′ t h n BusinessType q = refl
+    same-used v s s′ t h n Interval q = refl
+    same-used v s s′ t h n (Position p) q = refl
+    same-used v s s′ t h n Amount q = refl
 
-pub after-same : (at : ℕ) (v : Span) (s s′ : List ℕ) (st : State) (e : Entry) (t : List ℕ) → (e ≡ Amount) ⊎ (quoted v s ≡ quoted v s′)
-    → seriesAfter at v s st e t ≡ seriesAfter at v s′ st e t
-unfolding seriesAfter
-after-same at v s s′ st Nothing t q = refl
-after-same at v s s′ st Series t q = refl
-after-same at v s s′ st Identification t q = refl
-after-same at v s s′ st Object t q = refl
-after-same at v s s′ st BusinessType t (inl e) = absurd (zero-not-one (cc))
-after-same at v s s′ st BusinessType t (inr e) = rw e
-after-same at v s s′ st Interval t q = refl
-after-same at v s s′ st (Position p) t q = refl
-after-same at v s s′ st Amount t q = refl
+    same-after : (at : ℕ) (v : Span) (s s′ : List ℕ) (st : State) (e : Entry) (t : List ℕ) → Values R Amount e (quoted v s) (quoted v s′)
+        → seriesAfter at v s st e t ≡ seriesAfter at v s′ st e t
+    unfolding seriesAfter
+    same-after at v s s′ st Nothing t q = refl
+    same-after at v s s′ st Series t q = refl
+    same-after at v s s′ st Identification t q = refl
+    same-after at v s s′ st Object t q = refl
+    same-after at v s s′ st BusinessType t (inl e) = let z = e .0 in absurd (zero-not-one (cc))
+    same-after at v s s′ st BusinessType t (inr e) = rw e
+    same-after at v s s′ st Interval t q = refl
+    same-after at v s s′ st (Position p) t q = refl
+    same-after at v s s′ st Amount t q = refl
+
+    pub amounts-tabled : Tabled R Amount x y
+    amounts-tabled =
+        record {
+          Shows = Shown;
+          none = shown-none;
+          next = λ at v s s′ st e t ex ey h q.
+              shown-after at v s st e t h
+              (λ id.
+              ⊎-elim
+              (λ z. let am = z .0 in absurd (zero-not-one (cc)))
+              (λ z. sym (value-part x at s v ex) ∙ z ∙ value-part y at s′ v ey)
+              q);
+          used = same-used;
+          after = same-after;
+        }
