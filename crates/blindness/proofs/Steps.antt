@@ -20,11 +20,12 @@ use Rattle.structure.specs.Rows.{nameOf, startOf}
 use Rattle.structure.specs.declared.Due.{Due}
 use Rattle.structure.specs.declared.Due.the-variants.{Row, NotDue}
 use Rattle.structure.proofs.Means.{start-means}
-use Rattle.guideline.specs.Columns.{formOf, collapsed, roleOf}
+use Rattle.columns.specs.Columns.{formOf, collapsed, roleOf}
 use Rattle.guideline.specs.Rows.{beschaffungsanforderung, kostenblatt, rowsOf}
+use Rattle.guideline.proofs.Each.{of-table}
 use Rattle.rules.specs.declared.Held.{Held}
 use Rattle.states.specs.Attributes.{valueOf, schemeRefusal, judgeTag}
-use Rattle.states.specs.Moves.{heldOf, valuesJudged, judgedAt, startJudged, entryOf, startedBy, startedAt, started, moved, rootKind, kindTold, stepOn, step}
+use Rattle.states.specs.Moves.{heldOf, valuesJudged, judgedAt, startJudged, entryOf, startedBy, startedAt, started, moved, rootKind, kindTold, step}
 use Rattle.states.specs.declared.State.{State}
 use Rattle.states.specs.declared.Room.{Room}
 use Rattle.states.specs.declared.Entry.{Entry}
@@ -45,13 +46,9 @@ unfoldable allFit : List ℕ → Bool
 allFit [] = true
 allFit (w ∷ ws) = cond (fitsQty w) (allFit ws) false
 
-one-fits : allFit (rowsOf 1) ≡ true
+all-fit : (kind : ℕ) → allFit (rowsOf kind) ≡ true
 unfolding allFit fitsQty rowsOf beschaffungsanforderung kostenblatt elementNo numberIn names same nameOf formOf collapsed roleOf
-one-fits = refl
-
-two-fits : allFit (rowsOf 2) ≡ true
-unfolding allFit fitsQty rowsOf beschaffungsanforderung kostenblatt elementNo numberIn names same nameOf formOf collapsed roleOf
-two-fits = refl
+all-fit = of-table allFit refl
 
 -- a row past the end bears no name
 none-fits : fitsQty 0 ≡ true
@@ -82,12 +79,9 @@ row-named rows r true name q e = start-means rows r name q true e .1 .named
 row-named rows r false name q e =
     ⊎-elim (λ g. rw (g .itself) (g .named)) (λ g. g .1 .named) (start-means rows r name q false e .1)
 
--- a row that a tag named Qty takes, of either kind
-pub row-role : (kind : ℕ) (r : ℕ) → nameOf (getD (cond (eqb kind 1) (rowsOf 1) (rowsOf 2)) r 0) ≡ elementNo (text "Qty")
-    → roleOf (getD (cond (eqb kind 1) (rowsOf 1) (rowsOf 2)) r 0) ≡ 10
-row-role kind r e =
-    let rows = cond (eqb kind 1) (rowsOf 1) (rowsOf 2) in
-    qty-row (getD rows r 0) (row-fits rows r (by-cond (λ (l : List ℕ). allFit l ≡ true) (eqb kind 1) one-fits two-fits)) e .role
+-- a row that a tag named Qty takes, of any kind
+pub row-role : (kind : ℕ) (r : ℕ) → nameOf (getD (rowsOf kind) r 0) ≡ elementNo (text "Qty") → roleOf (getD (rowsOf kind) r 0) ≡ 10
+row-role kind r e = qty-row (getD (rowsOf kind) r 0) (row-fits (rowsOf kind) r (all-fit kind)) e .role
 
 -- a tag in s and in s′
 module _ (t : Tag) (s s′ : List ℕ) (p : PartsSame t s s′) where
@@ -127,38 +121,28 @@ start-brings t s rows fit name e x kind empty room = by (startOf rows (x .row) (
 
 module _ (x : State) (s s′ : List ℕ) (room : Room) where
   abbrev stepped : Item → List ℕ → Step
-  stepped i l = step x (rowsOf 1) (rowsOf 2) i l room
+  stepped i l = step x i l room
 
   -- the number of a tag's name, and the `v` of a tag that bears another
   number : (t : Tag) → TagSays t s s′ → (elementNo (partOf s′ 1 (t .name)) ≡ elementNo (text "Qty")) ⊎ (valueIn s (t .v) ≡ valueIn s′ (t .v))
   number t p = ⊎-elim (λ e. inl (ap elementNo (sym (p .parts .name) ∙ e))) inr (p .v)
 
+  tag-same : (t : Tag) → TagSays t s s′ → (empty : Bool) (kind : ℕ)
+      → started x kind (rowsOf kind) (elementNo (partOf s′ 1 (t .name))) t s empty room ≡ started x kind (rowsOf kind) (elementNo (partOf s′ 1 (t .name))) t s′ empty room
+  tag-same t p empty kind = start-same t s s′ (p .parts) (rowsOf kind) (all-fit kind) (elementNo (partOf s′ 1 (t .name))) (number t p) x kind empty room
+
   pub step-same : (i : Item) → Says i s s′ → stepped i s ≡ stepped i s′
-  unfolding step stepOn kindTold rootKind moved Says
-  step-same (Start t) p =
-      rw (p .parts .name)
-      (rw (
-        start-same t s s′ (p .parts) (rowsOf 1) one-fits (elementNo (partOf s′ 1 (t .name))) (number t p) x,
-        start-same t s s′ (p .parts) (rowsOf 2) two-fits (elementNo (partOf s′ 1 (t .name))) (number t p) x,
-      ))
-  step-same (Empty t) p =
-      rw (p .parts .name)
-      (rw (
-        start-same t s s′ (p .parts) (rowsOf 1) one-fits (elementNo (partOf s′ 1 (t .name))) (number t p) x,
-        start-same t s s′ (p .parts) (rowsOf 2) two-fits (elementNo (partOf s′ 1 (t .name))) (number t p) x,
-      ))
+  unfolding step kindTold rootKind moved Says
+  step-same (Start t) p = rw (p .parts .name) (tag-same t p false (kindTold x (Start t) s′))
+  step-same (Empty t) p = rw (p .parts .name) (tag-same t p true (kindTold x (Empty t) s′))
   step-same (End n e) p = rw p
   step-same (Text w e) p = refl
   step-same (Comment e) p = refl
   step-same (Unreadable q) p = refl
 
   tag-brings : (t : Tag) (empty : Bool) → partOf s 1 (t .name) ≡ text "Qty" → (kind : ℕ)
-      → BringsAmount (cond (eqb kind 1) (started x kind (rowsOf 1) (elementNo (partOf s 1 (t .name))) t s empty room)
-      (started x kind (rowsOf 2) (elementNo (partOf s 1 (t .name))) t s empty room))
-  tag-brings t empty e kind =
-      by-cond BringsAmount (eqb kind 1)
-      (start-brings t s (rowsOf 1) one-fits (elementNo (partOf s 1 (t .name))) (ap elementNo e) x kind empty room)
-      (start-brings t s (rowsOf 2) two-fits (elementNo (partOf s 1 (t .name))) (ap elementNo e) x kind empty room)
+      → BringsAmount (started x kind (rowsOf kind) (elementNo (partOf s 1 (t .name))) t s empty room)
+  tag-brings t empty e kind = start-brings t s (rowsOf kind) (all-fit kind) (elementNo (partOf s 1 (t .name))) (ap elementNo e) x kind empty room
 
   brings-entry : (y : Step) (x′ : State) (e : Entry) → y ≡ Next x′ e → BringsAmount y → e ≡ Amount
   unfolding BringsAmount
@@ -167,7 +151,7 @@ module _ (x : State) (s s′ : List ℕ) (room : Room) where
   -- an item that brings anything but an amount has the same value
   pub step-brings : (i : Item) → Says i s s′ → (x′ : State) (e : Entry) → stepped i s ≡ Next x′ e
       → (e ≡ Amount) ⊎ (quoted (spanOf i) s ≡ quoted (spanOf i) s′)
-  unfolding step stepOn moved Says spanOf quoted partOf
+  unfolding step moved Says spanOf quoted partOf
   step-brings (Start t) p x′ e q =
       ⊎-elim (λ z. inl (brings-entry (stepped (Start t) s) x′ e q (tag-brings t false z (kindTold x (Start t) s)))) inr (p .v)
   step-brings (Empty t) p x′ e q =
