@@ -8,7 +8,6 @@ use lib.ListN.{length, drop, set}
 use Rattle.lists.proofs.Cases.{past-cond, zero-not-one}
 use Rattle.tags.specs.declared.Span.{Span}
 use Rattle.items.specs.declared.Item.{Item}
-use Rattle.guideline.specs.Rows.{rowsOf}
 use Rattle.states.specs.Moves.{step}
 use Rattle.states.specs.declared.State.{State}
 use Rattle.states.specs.declared.Room.{Room}
@@ -60,16 +59,16 @@ module _ (name : List ℕ) (R : List ℕ → List ℕ → Type 0) (brought : Ent
     pair-step : stepOf x ser room (at-item at i s) st ≡ stepOf y ser room (at-item at i s′) st
     unfolding stepOf withoutUsed
     pair-step =
-        by (step st (rowsOf 1) (rowsOf 2) i s room) refl ∙ ap (withoutUsed y ser i s′) (step-same name R brought rows st s s′ room i p)
+        by (step st i s room) refl ∙ ap (withoutUsed y ser i s′) (step-same name R brought rows st s s′ room i p)
       where
-        by : (q : Step) → step st (rowsOf 1) (rowsOf 2) i s room ≡ q → withoutUsed x ser i s q ≡ withoutUsed y ser i s′ q
+        by : (q : Step) → step st i s room ≡ q → withoutUsed x ser i s q ≡ withoutUsed y ser i s′ q
         by (Next st′ e) z = rw (shown .used (spanOf i) s s′ ser h (st′ .series) e (step-brings name R brought rows st s s′ room i p st′ e z))
         by (Refused n) z = refl
 
     pair-brings : (st′ : State) (e : Entry) → stepOf x ser room (at-item at i s) st ≡ Next st′ e → Values R brought e (quoted (spanOf i) s) (quoted (spanOf i) s′)
     unfolding stepOf
     pair-brings st′ e z =
-        step-brings name R brought rows st s s′ room i p st′ e (unrefused x ser i s (step st (rowsOf 1) (rowsOf 2) i s room) st′ e z)
+        step-brings name R brought rows st s s′ room i p st′ e (unrefused x ser i s (step st i s room) st′ e z)
 
     pair-shown : (st′ : State) (e : Entry) → stepOf x ser room (at-item at i s) st ≡ Next st′ e → shown .Shows (seriesAfter at (spanOf i) s st′ e ser)
     pair-shown st′ e z = shown .next at (spanOf i) s s′ st′ e ser ex ey h (pair-brings st′ e z)

@@ -20,11 +20,12 @@ use Rattle.structure.specs.Rows.{nameOf, startOf}
 use Rattle.structure.specs.declared.Due.{Due}
 use Rattle.structure.specs.declared.Due.the-variants.{Row, NotDue}
 use Rattle.structure.proofs.Means.{start-means}
-use Rattle.guideline.specs.Columns.{formOf, collapsed, roleOf}
+use Rattle.columns.specs.Columns.{formOf, collapsed, roleOf}
 use Rattle.guideline.specs.Rows.{beschaffungsanforderung, kostenblatt, rowsOf}
+use Rattle.guideline.proofs.Each.{of-table}
 use Rattle.rules.specs.declared.Held.{Held}
 use Rattle.states.specs.Attributes.{valueOf, schemeRefusal, judgeTag}
-use Rattle.states.specs.Moves.{heldOf, valuesJudged, judgedAt, startJudged, entryOf, startedBy, startedAt, started, moved, rootKind, kindTold, stepOn, step}
+use Rattle.states.specs.Moves.{heldOf, valuesJudged, judgedAt, startJudged, entryOf, startedBy, startedAt, started, moved, rootKind, kindTold, step}
 use Rattle.states.specs.declared.State.{State}
 use Rattle.states.specs.declared.Room.{Room}
 use Rattle.states.specs.declared.Entry.{Entry}
@@ -101,18 +102,22 @@ module _ (name : List ℕ) (R : List ℕ → List ℕ → Type 0) (brought : Ent
               let j = startJudged x kind rows r t s empty room in by-cond Brings (eqb (j .number) 0) (row-blind r q e .brings (j .first)) tt
           by NotDue q = tt
 
-  pub record BlindKinds : Type 0 where
-    pub one : BlindRows (rowsOf 1)
-    pub two : BlindRows (rowsOf 2)
+  abbrev pub BlindKinds : Type 0
+  BlindKinds = (kind : ℕ) → BlindRows (rowsOf kind)
 
   module _ (rows : BlindKinds) (x : State) (s s′ : List ℕ) (room : Room) where
     abbrev stepped : Item → List ℕ → Step
-    stepped i l = step x (rowsOf 1) (rowsOf 2) i l room
+    stepped i l = step x i l room
+
+    -- a tag, by the rows of a kind
+    tag-same : (t : Tag) → TagSays name R t s s′ → (empty : Bool) (kind : ℕ)
+        → started x kind (rowsOf kind) (elementNo (partOf s 1 (t .name))) t s empty room ≡ started x kind (rowsOf kind) (elementNo (partOf s′ 1 (t .name))) t s′ empty room
+    tag-same t p empty kind = start-same (rowsOf kind) (rows kind) t s s′ p x kind empty room
 
     pub step-same : (i : Item) → Says name R i s s′ → stepped i s ≡ stepped i s′
-    unfolding step stepOn kindTold rootKind moved Says
-    step-same (Start t) p = rw (start-same (rowsOf 1) (rows .one) t s s′ p x, start-same (rowsOf 2) (rows .two) t s s′ p x, p .parts .name)
-    step-same (Empty t) p = rw (start-same (rowsOf 1) (rows .one) t s s′ p x, start-same (rowsOf 2) (rows .two) t s s′ p x, p .parts .name)
+    unfolding step kindTold rootKind moved Says
+    step-same (Start t) p = tag-same t p false (kindTold x (Start t) s) ∙ rw (p .parts .name)
+    step-same (Empty t) p = tag-same t p true (kindTold x (Empty t) s) ∙ rw (p .parts .name)
     step-same (End n e) p = rw p
     step-same (Text w e) p = refl
     step-same (Comment e) p = refl
@@ -123,24 +128,17 @@ module _ (name : List ℕ) (R : List ℕ → List ℕ → Type 0) (brought : Ent
     brings-entry y x′ e q b = rw q at b
 
     tag-brings : (t : Tag) (empty : Bool) (kind : ℕ) → TagSays name R t s s′ → (x′ : State) (e : Entry)
-        → cond (eqb kind 1) (started x kind (rowsOf 1) (elementNo (partOf s 1 (t .name))) t s empty room)
-        (started x kind (rowsOf 2) (elementNo (partOf s 1 (t .name))) t s empty room) ≡ Next x′ e
+        → started x kind (rowsOf kind) (elementNo (partOf s 1 (t .name))) t s empty room ≡ Next x′ e
         → Values R brought e (valueIn s (t .v)) (valueIn s′ (t .v))
     tag-brings t empty kind p x′ e q =
         ⊎-elim
-        (λ z. inl (
-          brings-entry _ x′ e q
-              (by-cond Brings (eqb kind 1)
-              (start-brings (rowsOf 1) (rows .one) t s s′ p x kind empty room (z .0))
-              (start-brings (rowsOf 2) (rows .two) t s s′ p x kind empty room (z .0))),
-          z .1,
-        ))
+        (λ z. inl (brings-entry _ x′ e q (start-brings (rowsOf kind) (rows kind) t s s′ p x kind empty room (z .0)), z .1))
         inr
         (p .v)
 
     -- an item that brings anything else has the same value
     pub step-brings : (i : Item) → Says name R i s s′ → (x′ : State) (e : Entry) → stepped i s ≡ Next x′ e → Values R brought e (quoted (spanOf i) s) (quoted (spanOf i) s′)
-    unfolding step stepOn moved Says spanOf quoted partOf
+    unfolding step moved Says spanOf quoted partOf
     step-brings (Start t) p x′ e q = tag-brings t false (kindTold x (Start t) s) p x′ e q
     step-brings (Empty t) p x′ e q = tag-brings t true (kindTold x (Empty t) s) p x′ e q
     step-brings (End n m) p x′ e q = inr refl
@@ -159,13 +157,9 @@ unfoldable allFit : List ℕ → Bool
 allFit [] = true
 allFit (w ∷ ws) = cond (fitsQty w) (allFit ws) false
 
-one-fits : allFit (rowsOf 1) ≡ true
+all-fit : (kind : ℕ) → allFit (rowsOf kind) ≡ true
 unfolding allFit fitsQty rowsOf beschaffungsanforderung kostenblatt elementNo numberIn names same nameOf formOf collapsed roleOf
-one-fits = refl
-
-two-fits : allFit (rowsOf 2) ≡ true
-unfolding allFit fitsQty rowsOf beschaffungsanforderung kostenblatt elementNo numberIn names same nameOf formOf collapsed roleOf
-two-fits = refl
+all-fit = of-table allFit refl
 
 -- a row past the end bears no name
 none-fits : fitsQty 0 ≡ true
@@ -190,12 +184,9 @@ qty-row w h e =
     let g = both-true (collapsed w) (f .1) in
     record { form = eqb-true (formOf w) 10 (f .0); spaces = g .0; role = eqb-true (roleOf w) 10 (g .1) }
 
--- of either kind
-pub row-role : (kind : ℕ) (r : ℕ) → nameOf (getD (cond (eqb kind 1) (rowsOf 1) (rowsOf 2)) r 0) ≡ elementNo (text "Qty")
-    → roleOf (getD (cond (eqb kind 1) (rowsOf 1) (rowsOf 2)) r 0) ≡ 10
-row-role kind r e =
-    let rows = cond (eqb kind 1) (rowsOf 1) (rowsOf 2) in
-    qty-row (getD rows r 0) (row-fits rows r (by-cond (λ (l : List ℕ). allFit l ≡ true) (eqb kind 1) one-fits two-fits)) e .role
+-- a row that a tag named Qty takes, of any kind
+pub row-role : (kind : ℕ) (r : ℕ) → nameOf (getD (rowsOf kind) r 0) ≡ elementNo (text "Qty") → roleOf (getD (rowsOf kind) r 0) ≡ 10
+row-role kind r e = qty-row (getD (rowsOf kind) r 0) (row-fits (rowsOf kind) r (all-fit kind)) e .role
 
 -- no row of a Qty tells its digits apart
 qty-blind : (rows : List ℕ) → allFit rows ≡ true → BlindRows (text "Qty") Alike Amount rows
@@ -206,4 +197,4 @@ qty-blind rows fit =
     }
 
 pub qty-kinds : BlindKinds (text "Qty") Alike Amount
-qty-kinds = record { one = qty-blind (rowsOf 1) one-fits; two = qty-blind (rowsOf 2) two-fits }
+qty-kinds kind = qty-blind (rowsOf kind) (all-fit kind)

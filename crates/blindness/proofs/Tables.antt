@@ -15,10 +15,10 @@ use Rattle.elements.specs.Names.{names, numberIn, elementNo}
 use Rattle.structure.specs.Rows.{nameOf, parentOf, required, repeated, endsIn, endsAtOnce, startOf, endOf}
 use Rattle.structure.specs.declared.Due.the-variants.{Row}
 use Rattle.structure.proofs.Means.{start-means, end-means}
-use Rattle.guideline.specs.Columns.{roleOf}
+use Rattle.columns.specs.Columns.{roleOf}
 use Rattle.guideline.specs.Rows.{beschaffungsanforderung, kostenblatt, rowsOf}
+use Rattle.guideline.proofs.Each.{of-table}
 
--- a test that is asked only after another
 -- a test that is asked only where another holds
 pub where-true : (t : Bool) {b : Bool} → cond t b true ≡ true → t ≡ true → b ≡ true
 where-true true h e = h
@@ -68,13 +68,9 @@ tested rows =
     allBelow (length rows)
     (λ r. cond (rowTest rows r (getD rows r 0) (getD rows (r + 1) 0)) (allBelow (length rows) (λ q. startTest rows r (getD rows r 0) q (getD rows q 0))) false)
 
-pub one-tested : tested (rowsOf 1) ≡ true
+pub all-tested : (kind : ℕ) → tested (rowsOf kind) ≡ true
 unfolding tested rowTest startTest due waits rowsOf beschaffungsanforderung kostenblatt elementNo numberIn names same nameOf parentOf required repeated endsAtOnce endsIn roleOf
-one-tested = refl
-
-pub two-tested : tested (rowsOf 2) ≡ true
-unfolding tested rowTest startTest due waits rowsOf beschaffungsanforderung kostenblatt elementNo numberIn names same nameOf parentOf required repeated endsAtOnce endsIn roleOf
-two-tested = refl
+all-tested = of-table tested refl
 
 six : (a b c d e : Bool) {f : Bool} → cond a (cond b (cond c (cond d (cond e f false) false) false) false) false ≡ true
     → (a ≡ true) × (b ≡ true) × (c ≡ true) × (d ≡ true) × (e ≡ true) × (f ≡ true)

@@ -17,7 +17,7 @@ use Rattle.trims.specs.Trim.{dropped}
 use Rattle.tags.specs.declared.Span.{Span}
 use Rattle.numbers.specs.Amount.{amountOf}
 use Rattle.structure.specs.Rows.{parentOf}
-use Rattle.guideline.specs.Columns.{roleOf}
+use Rattle.columns.specs.Columns.{roleOf}
 use Rattle.states.specs.Attributes.{there}
 use Rattle.states.specs.Moves.{entryOf}
 use Rattle.states.specs.declared.State.{State}

@@ -1,10 +1,10 @@
--- What is known of the two structure tables. They lie alike: the root is row 1, a series row 12, its Period row p, and then TimeInterval, Resolution,
+-- What is known of the rows of each kind. They lie alike: the root is row 1, a series row 12, its Period row p, and then TimeInterval, Resolution,
 -- Interval, Pos and Qty. Assumes nothing.
 use Prim.Native.Nat.{ℕ, zero, suc, _+_, _≤_, _<_}
 use mathlib.Core.Path.{_≡_, refl}
 use mathlib.Core.List.{List, [], _∷_}
 use mathlib.Core.Bool.{Bool, true, false, cond, not}
-use mathlib.Core.Logic.{_⊎_, ⊎-elim}
+use mathlib.Core.Logic.{⊎-elim}
 use lib.Dec.{eqb, leb, ltb}
 use lib.ListN.{length, getD}
 use borrow.Author.Tests.{eq-eqb, ne-eqb, eqb-true, le-leb, lt-ltb, ltb-true, not-true}
@@ -12,16 +12,17 @@ use Rattle.lists.proofs.Cases.{bool-cases, both-true, never}
 use Rattle.slices.specs.Same.{same}
 use Rattle.elements.specs.Names.{names, numberIn, elementNo}
 use Rattle.structure.specs.Rows.{nameOf, parentOf, required, repeated, endsIn, endsAtOnce}
-use Rattle.guideline.specs.Columns.{formOf, collapsed, roleOf}
-use Rattle.guideline.specs.Kinds.{kindOf}
+use Rattle.columns.specs.Columns.{formOf, collapsed, roleOf, periodRole}
+use Rattle.guideline.specs.Kinds.{kindOne, kindTwo, isKind, kindOf}
 use Rattle.guideline.specs.Rows.{beschaffungsanforderung, kostenblatt, rowsOf}
+use Rattle.guideline.proofs.Each.{of-kind, rowWith}
 use Rattle.states.specs.Attributes.{asksV}
 use Rattle.blindness.proofs.Tables.{allBelow, below, where-true}
 use Rattle.trees.specs.Trees.{wellMade}
-use Rattle.trees.proofs.Made.{one-well-made, two-well-made}
+use Rattle.trees.proofs.Made.{well-made}
 
 abbrev pub Known : ℕ → Type 0
-Known kind = (kind ≡ 1) ⊎ (kind ≡ 2)
+Known kind = isKind kind ≡ true
 
 -- the row that row q stands in
 abbrev pub home : ℕ → ℕ → ℕ
@@ -209,13 +210,10 @@ tested kind p well h =
       told = eqb-true (kindOf (nameOf (getD rows 1 0))) kind (t 28);
     }
 
-laid-one : Laid 1
-unfolding rowsOf beschaffungsanforderung kostenblatt elementNo numberIn names same parentOf required repeated roleOf formOf collapsed asksV nameOf kindOf endsAtOnce endsIn
-laid-one = tested 1 26 one-well-made refl
-
-laid-two : Laid 2
-unfolding rowsOf beschaffungsanforderung kostenblatt elementNo numberIn names same parentOf required repeated roleOf formOf collapsed asksV nameOf kindOf endsAtOnce endsIn
-laid-two = tested 2 28 two-well-made refl
+-- the Period of each kind stands in the row that has its role
+abbrev periodIn : ℕ → ℕ
+periodIn kind = rowWith periodRole (rowsOf kind)
 
 pub laid : (kind : ℕ) → Known kind → Laid kind
-laid kind k = ⊎-elim (λ e. rw e laid-one) (λ e. rw e laid-two) k
+unfolding rowsOf beschaffungsanforderung kostenblatt elementNo numberIn names same parentOf required repeated roleOf formOf collapsed asksV nameOf kindOf kindOne kindTwo endsAtOnce endsIn
+laid kind known = tested kind (periodIn kind) (well-made kind known) (of-kind (λ k. all (tests k (periodIn k))) refl kind known)

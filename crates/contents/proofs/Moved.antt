@@ -7,16 +7,18 @@ use mathlib.Core.Logic.{⊎-elim}
 use native.Mathlib.Omega.{arith}
 use lib.Dec.{eqb}
 use lib.ListN.{getD}
-use Rattle.lists.proofs.Cases.{bool-cases, by-cond, eqb-cases}
+use borrow.Author.Tests.{ne-eqb}
+use Rattle.lists.proofs.Cases.{bool-cases, eqb-cases}
 use Rattle.items.specs.declared.Tag.{Tag}
 use Rattle.items.specs.declared.Item.{Item}
 use Rattle.items.specs.declared.Item.the-variants.{Text}
-use Rattle.structure.specs.Rows.{startOf, endOf, overOf}
+use Rattle.structure.specs.Rows.{startOf, endOf}
 use Rattle.structure.specs.declared.Due.{Due}
 use Rattle.structure.specs.declared.Due.the-variants.{Row, NotDue}
-use Rattle.guideline.specs.Columns.{roleOf}
+use Rattle.columns.specs.Columns.{roleOf}
 use Rattle.guideline.specs.Rows.{rowsOf}
-use Rattle.states.specs.Moves.{cutShort, startJudged, entryOf, startedBy, startedAt, started, endRefusal, endedAt, ended, moved, kindTold, stepOn, step}
+use Rattle.guideline.proofs.Each.{kind-some}
+use Rattle.states.specs.Moves.{cutShort, startJudged, entryOf, startedBy, startedAt, started, endRefusal, endedAt, ended, moved, kindTold, step}
 use Rattle.states.specs.declared.State.{State}
 use Rattle.states.specs.declared.Room.{Room}
 use Rattle.states.specs.declared.Entry.{Entry}
@@ -25,8 +27,7 @@ use Rattle.states.specs.declared.Step.{Step}
 use Rattle.states.specs.declared.Step.the-variants.{Next, Refused}
 use Rattle.reader.specs.Items.{Placed}
 use Rattle.reader.specs.Rows.{spanOf, seriesAfter, positionsAfter, amountsAfter, usedBefore}
-use Rattle.reader.specs.Reading.{Tables, refusedAt, acceptedAt, withoutUsed, tablesAfter}
-use Rattle.reader.specs.Reading.{endedAt as overAt}
+use Rattle.reader.specs.Reading.{Tables, withoutUsed, tablesAfter}
 use Rattle.contents.specs.Said.{Said}
 use Rattle.contents.specs.Spelled.{saidBy}
 use Rattle.contents.specs.Legal.{positionOf}
@@ -89,31 +90,22 @@ tables-still x st t = refl
 
 -- ---- an item that may not stand in a document
 
-pub dark-text : (st : State) (one two : List ℕ) (e : ℕ) (s : List ℕ) (room : Room) → step st one two (Text false e) s room ≡ Refused 3
-unfolding step stepOn moved
-dark-text st one two e s room = by-cond (λ (y : Step). y ≡ Refused 3) (eqb (kindTold st (Text false e) s) 1) refl refl
+pub dark-text : (st : State) (e : ℕ) (s : List ℕ) (room : Room) → step st (Text false e) s room ≡ Refused 3
+unfolding step moved
+dark-text st e s room = refl
 
 -- ---- the rows that are looked at
 
+pub step-told : (st : State) (kind : ℕ) (i : Item) (s : List ℕ) (room : Room) → kindTold st i s ≡ kind
+    → step st i s room ≡ moved st kind (rowsOf kind) i s room
+unfolding step
+step-told st kind i s room e = rw e
+
 -- where the kind is told
-pub step-told : (st : State) (kind : ℕ) → Known kind → (i : Item) (s : List ℕ) (room : Room) → kindTold st i s ≡ kind
-    → step st (rowsOf 1) (rowsOf 2) i s room ≡ moved st kind (rowsOf kind) i s room
-unfolding step stepOn
-step-told st kind known i s room e = ⊎-elim (λ (k : kind ≡ 1). rw (e, k)) (λ (k : kind ≡ 2). rw (e, k)) known
-
-known-some : (kind : ℕ) → Known kind → eqb kind 0 ≡ false
-known-some kind known = ⊎-elim (λ (k : kind ≡ 1). rw k) (λ (k : kind ≡ 2). rw k) known
-
 pub step-in : (kind : ℕ) → Known kind → (r : ℕ) (o : Bool) (y : Tally) (i : Item) (s : List ℕ) (room : Room)
-    → step (stateOf kind r o y) (rowsOf 1) (rowsOf 2) i s room ≡ moved (stateOf kind r o y) kind (rowsOf kind) i s room
+    → step (stateOf kind r o y) i s room ≡ moved (stateOf kind r o y) kind (rowsOf kind) i s room
 unfolding kindTold stateOf
-step-in kind known r o y i s room = step-told (stateOf kind r o y) kind known i s room (rw (known-some kind known))
-
--- where the document is over
-pub over-known : (kind : ℕ) → Known kind → (place : ℕ) (st : State) → st .kind ≡ kind
-    → overAt (rowsOf 1) (rowsOf 2) place st ≡ cond (overOf (rowsOf kind) (st .row) (st .inside)) (acceptedAt place st) (refusedAt 3 place st)
-unfolding overAt
-over-known kind known place st e = ⊎-elim (λ (k : kind ≡ 1). rw (e, k)) (λ (k : kind ≡ 2). rw (e, k)) known
+step-in kind known r o y i s room = step-told (stateOf kind r o y) kind i s room (rw (ne-eqb kind 0 (kind-some kind known)))
 
 -- ---- a step whose TimeSeriesIdentification is new, and one whose is not
 

@@ -10,7 +10,7 @@ use lib.ListN.{length, getD, set, drop, length-set}
 use lib.Seq.{getD-set-same, getD-set-other}
 use Rattle.slices.specs.Run.{run}
 use Rattle.trims.specs.Trim.{space, dropped}
-use Rattle.guideline.specs.Columns.{roleOf}
+use Rattle.columns.specs.Columns.{roleOf}
 use Rattle.states.specs.Attributes.{there}
 use Rattle.states.specs.Moves.{entryOf}
 use Rattle.reader.specs.Items.{Placed}

@@ -9,7 +9,7 @@ use lib.Dec.{eqb}
 use lib.IntN.{ℤ, pos}
 use lib.ListN.{length, getD, take, length-replicate}
 use Rattle.lists.specs.Zeros.{zeros}
-use Rattle.guideline.specs.Columns.{roleOf}
+use Rattle.columns.specs.Columns.{roleOf}
 use Rattle.reader.specs.Items.{Placed}
 use Rattle.reader.specs.Reading.{blank, tablesAfter}
 use Rattle.trees.specs.Trees.{Trees, none, element, EachConforms, Conforms}

@@ -18,7 +18,8 @@ use Rattle.structure.specs.Rows.{nameOf}
 use Rattle.prolog.specs.Prolog.{begin}
 use Rattle.prolog.specs.declared.Begin.{Begin}
 use Rattle.prolog.specs.declared.Begin.the-variants.{From, Unreadable}
-use Rattle.guideline.specs.Rows.{beschaffungsanforderung, kostenblatt, rowsOf}
+use Rattle.guideline.specs.Kinds.{kindOf}
+use Rattle.guideline.specs.Rows.{rowsOf}
 use Rattle.states.specs.Moves.{begun}
 use Rattle.states.specs.declared.Room.{Room}
 use Rattle.reader.specs.Items.{Placed, itemsFrom}
@@ -196,10 +197,6 @@ module _ (doc : List ℕ) (ns np na nb : ℕ) (wide : 16 ≤ nb) (small : length
 
 -- ---- there is one content
 
-root-names : nameOf (getD (rowsOf 1) 1 0) ≡ nameOf (getD (rowsOf 2) 1 0) → ⊥
-unfolding rowsOf beschaffungsanforderung kostenblatt elementNo numberIn names same nameOf
-root-names e = omega (arith, e)
-
 -- the first tag of a content that conforms is its root's
 first-tag : (kind : ℕ) → Known kind → (c : Trees Said) → Conforms (rowsOf kind) 0 c
     → (s : Said) × (rest : List (Sign Said)) × (spell (rowsOf kind) c ≡ Opens s (nameOf (getD (rowsOf kind) 1 0)) ∷ rest)
@@ -219,11 +216,9 @@ same-names kind other k o c d a b e =
     let g = first-tag other o d b in
     opened-name (f .0) (g .0) _ _ (f .1) (g .1) (sym (f .2) ∙ e ∙ g .2)
 
+-- and its name tells the kind
 same-kind : (kind other : ℕ) → Known kind → Known other → nameOf (getD (rowsOf kind) 1 0) ≡ nameOf (getD (rowsOf other) 1 0) → kind ≡ other
-same-kind kind other (inl a) (inl b) e = a ∙ sym b
-same-kind kind other (inr a) (inr b) e = a ∙ sym b
-same-kind kind other (inl a) (inr b) e = absurd (root-names (rw (a, b) at e))
-same-kind kind other (inr a) (inl b) e = absurd (root-names (sym (rw (a, b) at e)))
+same-kind kind other k o e = sym (laid kind k .told) ∙ ap kindOf e ∙ laid other o .told
 
 begins-once : (doc : List ℕ) (n m : ℕ) → begin doc ≡ From n → begin doc ≡ From m → n ≡ m
 begins-once doc n m a b = let e : From n ≡ From m = sym a ∙ b in cc

@@ -9,7 +9,7 @@ use Rattle.characters.specs.Says.{says}
 use Rattle.attributes.specs.Attribute.{partOf}
 use Rattle.trims.specs.Trim.{dropped}
 use Rattle.numbers.specs.Amount.{amountOf}
-use Rattle.guideline.specs.Columns.{isSeries, isInterval, isObject, isBusinessType, isPos, isQty}
+use Rattle.columns.specs.Columns.{seriesRole, intervalRole, objectRole, businessRole, posRole, qtyRole}
 use Rattle.reader.specs.Rows.{thousandthsOf}
 use Rattle.guideline.specs.Rows.{rowsOf}
 use Rattle.reader.specs.Reading.{Tables}
@@ -28,15 +28,15 @@ sum (n ∷ ns) = n + sum ns
 
 module _ (rows : List ℕ) (c : Trees Said) where
   unfoldable pub objects : List (List ℕ)
-  objects = map (λ (s : Said). bytes (s .v)) (those (hasRole isObject) rows c)
+  objects = map (λ (s : Said). bytes (s .v)) (those (hasRole objectRole) rows c)
 
   -- "of its BusinessType, spaces dropped"
   unfoldable pub businessTypes : List (List ℕ)
-  businessTypes = map (λ (s : Said). dropped (bytes (s .v))) (those (hasRole isBusinessType) rows c)
+  businessTypes = map (λ (s : Said). dropped (bytes (s .v))) (those (hasRole businessRole) rows c)
 
   -- how many intervals each series has
   unfoldable pub intervalCounts : List ℕ
-  intervalCounts = map (λ (s : Trees Said). length (those (hasRole isInterval) rows s)) (inEach (hasRole isSeries) rows c)
+  intervalCounts = map (λ (s : Trees Said). length (those (hasRole intervalRole) rows s)) (inEach (hasRole seriesRole) rows c)
 
 -- the part of the document whose start and length two cells have
 unfoldable pub view : List ℕ → List ℕ → ℕ → List ℕ
@@ -53,16 +53,16 @@ pub record RowShows (doc cells : List ℕ) (rows : List ℕ) (c : Trees Said) (i
 
 -- "Intervals take one position and one amount at the same index .. Rows come in document order. Cells past the last row are 0."
 pub record Shows (doc : List ℕ) (t : Tables) (rows : List ℕ) (c : Trees Said) : Type 0 where
-  pub series : (i : ℕ) → i < length (those (hasRole isSeries) rows c) → RowShows doc (t .series) rows c i
-  pub positions : (j : ℕ) → getD (t .positions) j 0 ≡ getD (map positionOf (those (hasRole isPos) rows c)) j 0
-  pub amounts : (j : ℕ) → getD (t .amounts) j (pos 0) ≡ getD (map amountIn (those (hasRole isQty) rows c)) j (pos 0)
+  pub series : (i : ℕ) → i < length (those (hasRole seriesRole) rows c) → RowShows doc (t .series) rows c i
+  pub positions : (j : ℕ) → getD (t .positions) j 0 ≡ getD (map positionOf (those (hasRole posRole) rows c)) j 0
+  pub amounts : (j : ℕ) → getD (t .amounts) j (pos 0) ≡ getD (map amountIn (those (hasRole qtyRole) rows c)) j (pos 0)
 
 -- what is answered, and left in the tables, where a document that spells the content is accepted
 pub record Tells (doc : List ℕ) (o : Outcome) (kind : ℕ) (c : Trees Said) : Type 0 where
   pub accepted : o .answer .refusal ≡ 0
   pub kinds : o .answer .kind ≡ kind
-  pub series : o .answer .series ≡ length (those (hasRole isSeries) (rowsOf kind) c)
-  pub intervals : o .answer .intervals ≡ length (those (hasRole isInterval) (rowsOf kind) c)
+  pub series : o .answer .series ≡ length (those (hasRole seriesRole) (rowsOf kind) c)
+  pub intervals : o .answer .intervals ≡ length (those (hasRole intervalRole) (rowsOf kind) c)
   pub quarters : o .answer .quarters ≡ quartersOf (periodOf (rowsOf kind) c)
   pub tables : Shows doc (o .tables) (rowsOf kind) c
 

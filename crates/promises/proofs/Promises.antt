@@ -27,7 +27,8 @@ use Rattle.contents.specs.Shown.{Tells, SameButPlaces}
 use Rattle.contents.proofs.Theorems.{accepted-legal, legal-accepted, one-content, nothing-but-places}
 use Rattle.promises.specs.Answers.{fiveOf, atOnce}
 use Rattle.promises.specs.Rows.{ZeroPast, InRoom, Sized}
-use Rattle.promises.specs.Items.{before, starts, kindIn, seriesElement, intervalElement, itemsIn, PlaceOf}
+use Rattle.guideline.specs.Kinds.{seriesElement}
+use Rattle.promises.specs.Items.{before, starts, kindIn, intervalElement, itemsIn, PlaceOf}
 use Rattle.promises.specs.Examples.{examples, allPass}
 use Rattle.promises.specs.Sheet.{sheet, sheetOutcome}
 use Rattle.promises.proofs.Answers.{ten-is, ten-only, long-is, long-only, refusal-clears, refusal-known, place-within, place-told, accepted-whole, counts-within, cells-past, rows-kept, counts-told, note-told}

@@ -48,12 +48,9 @@ unfoldable pub acceptedAt : ℕ → State → Found
 acceptedAt place st =
     record { refusal = 0; place = place; kind = st .kind; series = st .series; intervals = st .intervals; quarters = st .quarters }
 
--- "Missing elements show .. at the end of the document.": 3 at the length. `one` and `two` are the rows of the kinds
-unfoldable pub endedAt : List ℕ → List ℕ → ℕ → State → Found
-endedAt one two place st =
-    cond (eqb (st .kind) 1)
-    (cond (overOf one (st .row) (st .inside)) (acceptedAt place st) (refusedAt 3 place st))
-    (cond (overOf two (st .row) (st .inside)) (acceptedAt place st) (refusedAt 3 place st))
+-- "Missing elements show .. at the end of the document.": 3 at the length, by the rows of the kind
+unfoldable pub endedAt : List ℕ → ℕ → State → Found
+endedAt rows place st = cond (overOf rows (st .row) (st .inside)) (acceptedAt place st) (refusedAt 3 place st)
 
 -- an item that moved the state is refused where it brings a TimeSeriesIdentification that was used before
 unfoldable pub withoutUsed : List ℕ → List ℕ → Item → List ℕ → Step → Step
@@ -61,7 +58,7 @@ withoutUsed doc t item s (Next st e) = cond (usedBefore doc t (spanOf item) s (s
 withoutUsed doc t item s (Refused n) = Refused n
 
 unfoldable pub stepOf : List ℕ → List ℕ → Room → Placed → State → Step
-stepOf doc t room x st = withoutUsed doc t (x .item) (x .rest) (step st (rowsOf 1) (rowsOf 2) (x .item) (x .rest) room)
+stepOf doc t room x st = withoutUsed doc t (x .item) (x .rest) (step st (x .item) (x .rest) room)
 
 -- the tables after an item; st is the state after it
 unfoldable pub tablesAfter : Placed → State → Entry → Tables → Tables
@@ -79,7 +76,7 @@ pub record Out : Type 0 where
 
 -- the items that are left, in a state, with the tables so far
 unfoldable pub readItems : List ℕ → Room → List Placed → State → Tables → Out
-readItems doc room [] st t = record { found = endedAt (rowsOf 1) (rowsOf 2) (length doc) st; tables = t }
+readItems doc room [] st t = record { found = endedAt (rowsOf (st .kind)) (length doc) st; tables = t }
 readItems doc room (x ∷ xs) st t =
     elim (stepOf doc (t .series) room x st) [
       | Next st′ e ↦ readItems doc room xs st′ (tablesAfter x st′ e t)

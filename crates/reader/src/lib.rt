@@ -1,8 +1,8 @@
 // The document reader: a sheet comes in, the lent tables are filled, and a note is written.
 mod rows;
 
-use guideline::rows_one;
-use guideline::rows_two;
+use guideline::every_row;
+use guideline::rows_of;
 use items::Item;
 use items::item_at;
 use lists::clear_bytes;
@@ -32,7 +32,7 @@ ghost use Rattle.lists.specs.Zeros.{zeros};
 ghost use Rattle.tables.specs.Cells.{noAmounts};
 ghost use Rattle.items.specs.Item.{itemEnd, itemValue};
 ghost use Rattle.notes.specs.Note.{noteOf, left};
-ghost use Rattle.states.specs.Moves.{step};
+ghost use Rattle.states.specs.Moves.{stepBy};
 ghost use Rattle.reader.specs.Items.{passed};
 ghost use Rattle.reader.specs.Rows.{spanOf, seriesAfter, positionsAfter, amountsAfter};
 ghost use Rattle.reader.specs.Reading.{roomOf, refusedAt, acceptedAt, endedAt, withoutUsed, itemsRead, readInto, readSheet};
@@ -127,19 +127,11 @@ fn accepted_at(place: u32, st: State) -> Found
     }
 }
 
-// At the end of the document. `one` and `two` are the rows of the kinds.
-fn ended_at(place: u32, st: State, one: &[usize], two: &[usize]) -> Found
-    ensures { λ r. ⌜ r ≡ endedAt (now (one .entry)) (now (two .entry)) place st ⌝ }
+// At the end of the document. `rows` are the rows of the kind.
+fn ended_at(place: u32, st: State, rows: &[usize]) -> Found
+    ensures { λ r. ⌜ r ≡ endedAt (now (rows .entry)) place st ⌝ }
 {
-    let row = st.row;
-    let inside = st.inside;
-    if st.kind == 1 {
-        if is_over(one, row, inside) {
-            return accepted_at(place, st);
-        }
-        return refused_at(3, place, st);
-    }
-    if is_over(two, row, inside) {
+    if is_over(rows, st.row, st.inside) {
         return accepted_at(place, st);
     }
     refused_at(3, place, st)
@@ -156,19 +148,18 @@ fn clear_tables(series: &mut [u32], positions: &mut [u32], amounts: &mut [i64])
 }
 
 // An item moves the state, or is refused.
-fn step_in<'a>(
+fn step_in(
     doc: &[u8],
     t: &[u32],
     room: Room,
     item: Item,
     s: &[u8],
     st: State,
-    one: &'a [usize],
-    two: &'a [usize],
+    rows: &[usize],
 ) -> Step
-    ensures { λ r. ⌜ r ≡ withoutUsed (now (doc .entry)) (now (t .entry)) item (now (s .entry)) (step st (now (one .entry)) (now (two .entry)) item (now (s .entry)) room) ⌝ }
+    ensures { λ r. ⌜ r ≡ withoutUsed (now (doc .entry)) (now (t .entry)) item (now (s .entry)) (stepBy st (now (rows .entry)) item (now (s .entry)) room) ⌝ }
 {
-    match st.step(one, two, item, s, room) {
+    match st.step(rows, item, s, room) {
         Step::Next(next, entry) => {
             if is_used_before(doc, t, span_of(item), s, next.series, entry) {
                 return Step::Refused(9);
@@ -215,8 +206,7 @@ fn read_items(
     ensures positions { λ _. ⌜ now (positions .exit) ≡ itemsRead (now (doc .entry)) from (record { series = now (series .entry); positions = now (positions .entry); amounts = now (amounts .entry) }) .tables .positions ⌝ }
     ensures amounts { λ _. ⌜ now (amounts .exit) ≡ itemsRead (now (doc .entry)) from (record { series = now (series .entry); positions = now (positions .entry); amounts = now (amounts .entry) }) .tables .amounts ⌝ }
 {
-    let one = rows_one();
-    let two = rows_two();
+    let rows = every_row();
     let room = room_of(series.len(), positions.len(), amounts.len());
     let mut st = State::begin();
     let mut at = from;
@@ -230,7 +220,7 @@ fn read_items(
             at += item_len(item);
             continue;
         }
-        match step_in(doc, series, room, item, s, st, &one, &two) {
+        match step_in(doc, series, room, item, s, st, &rows) {
             Step::Next(next, entry) => {
                 enter(series, positions, amounts, at, item, s, next, entry);
                 st = next;
@@ -239,7 +229,7 @@ fn read_items(
         }
         at += item_len(item);
     }
-    ended_at(doc.len() as u32, st, &one, &two)
+    ended_at(doc.len() as u32, st, rows_of(&rows, st.kind))
 }
 
 // From the first item on, or not at all where the XML declaration is unreadable.

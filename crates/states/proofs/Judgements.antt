@@ -7,7 +7,7 @@ use native.Mathlib.Omega.{arith}
 use lib.ListN.{getD}
 use borrow.Author.Tests.{leb-false}
 use Rattle.items.specs.declared.Tag.{Tag}
-use Rattle.guideline.specs.Columns.{roleOf}
+use Rattle.columns.specs.Columns.{roleOf}
 use Rattle.rules.specs.Rules.{refused}
 use Rattle.rules.specs.declared.Judged.{Judged}
 use Rattle.states.specs.Attributes.{attributesFit, judgeTag}

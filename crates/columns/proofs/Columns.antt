@@ -5,9 +5,9 @@ use mathlib.Core.Path.{_≡_, ap}
 use native.Mathlib.Omega.{arith}
 use lib.Dec.{eqb}
 use Rattle.structure.specs.Rows.{nameOf, parentOf, required, repeated}
-use Rattle.guideline.specs.Columns.{columns, formOf, collapsed, schemeOf, roleOf}
+use Rattle.columns.specs.Columns.{columns, formOf, collapsed, schemeOf, roleOf}
 
-module _ (n p m a f c s r : ℕ) (hn : n < 256) (hp : p < 256) (hm : m < 2) (ha : a < 2) (hf : f < 64) (hc : c < 2) (hs : s < 32) (hr : r < 16) where
+module _ (n p m a f c s r : ℕ) (hn : n < 256) (hp : p < 256) (hm : m < 2) (ha : a < 2) (hf : f < 256) (hc : c < 2) (hs : s < 256) (hr : r < 256) where
   pub name-back : nameOf (columns n p m a f c s r) ≡ n
   unfolding nameOf
   name-back = omega arith
