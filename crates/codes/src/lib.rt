@@ -57,7 +57,8 @@ fn is_among(codes: &[u8], n: usize, v: &[u8]) -> bool
     false
 }
 
-// Whether a value is in the code list of a number; a number that no list has lists nothing.
+// Whether a value is in the code list of a number; a number that no list has lists nothing. A form can tell 32 lists, so each number below 32 has its row
+// here, and those from 17 on are empty.
 // Ruled out: true for a code of another list, for a code with a space at an end, for an area with a dash lost; false for the last code of a list.
 pub fn is_listed(list: usize, v: &[u8]) -> bool
     ensures { λ r. ⌜ r ≡ listed (codesOf list) (says (now (v .entry))) ⌝ }
@@ -84,6 +85,21 @@ pub fn is_listed(list: usize, v: &[u8]) -> bool
         UNIT_ONE => is_among(b"MAW", 3, v),
         UNIT_TWO => is_among(b"Z01 Z02 Z03", 3, v),
         STATUS => is_among(b"Z01 Z02 Z03 Z04 Z05", 3, v),
+        17 => is_among(b"", 0, v),
+        18 => is_among(b"", 0, v),
+        19 => is_among(b"", 0, v),
+        20 => is_among(b"", 0, v),
+        21 => is_among(b"", 0, v),
+        22 => is_among(b"", 0, v),
+        23 => is_among(b"", 0, v),
+        24 => is_among(b"", 0, v),
+        25 => is_among(b"", 0, v),
+        26 => is_among(b"", 0, v),
+        27 => is_among(b"", 0, v),
+        28 => is_among(b"", 0, v),
+        29 => is_among(b"", 0, v),
+        30 => is_among(b"", 0, v),
+        31 => is_among(b"", 0, v),
         _ => false,
     }
 }
