@@ -2,6 +2,8 @@
 //   NAME refusal place kind series intervals N notelen NOTEHEX S P A
 // notelen is the note's length and NOTEHEX its bytes; S, P and A are the check numbers of the whole series, position and amount tables.
 // The lent buffers are full of old values, so that a cell that the reader leaves as it was shows. A file has at most 262,144 bytes.
+mod sums;
+
 use reader::Answer;
 use slices::first_at;
 use slices::front;

@@ -1,14 +1,14 @@
--- `sums::residue` meets its contract.
+-- `samples_run::sums::residue` meets its contract.
 -- Assumes nothing.
 use mathlib.Core.Path.{sym, ap}
 use borrow.Author.Needs.{needs, sfits-of}
 use native.Mathlib.Omega.{arith}
 use mir.Facts.{toZ-ofZ}
 use Rattle.lists.proofs.Signs.{from-zero, below-zero, back}
-use Rattle.sums.specs.Sums.{residueOf}
-use Rattle.sums.proofs.Residues.{residue-from}
-use Rattle.sums.proofs.residue.Statement.{statement}
-use Rattle.sums.proofs.residue.Tie as tie
+use Rattle.samples_run.specs.Sums.{residueOf}
+use Rattle.samples_run.proofs.Residues.{residue-from}
+use Rattle.samples_run.proofs.sums.residue.Statement.{statement}
+use Rattle.samples_run.proofs.sums.residue.Tie as tie
 
 cast-result : tie.Need-cast-result
 cast-result c = let f = c .before .fits .a in rw (toZ-ofZ f) (from-zero _ f (rw (toZ-ofZ f) at (c .if1 .taken)))

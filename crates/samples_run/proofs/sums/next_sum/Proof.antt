@@ -1,10 +1,10 @@
--- `sums::next_sum` meets its contract.
+-- `samples_run::sums::next_sum` meets its contract.
 -- Assumes nothing.
 use mathlib.Core.Path.{refl}
-use Rattle.sums.specs.Sums.{next}
+use Rattle.samples_run.specs.Sums.{next}
 use borrow.Author.Needs.{needs}
-use Rattle.sums.proofs.next_sum.Statement.{statement}
-use Rattle.sums.proofs.next_sum.Tie as tie
+use Rattle.samples_run.proofs.sums.next_sum.Statement.{statement}
+use Rattle.samples_run.proofs.sums.next_sum.Tie as tie
 
 mul-wide : tie.Need-mul-wide
 mul-wide c = search needs

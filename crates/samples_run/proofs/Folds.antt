@@ -8,7 +8,7 @@ use native.Mathlib.Omega.{arith}
 use lib.IntN.{ℤ, pos}
 use lib.ListN.{length, drop, getD, drop-of-length-le, length-map, List·getD-map}
 use lib.Seq.{drop-cons}
-use Rattle.sums.specs.Sums.{next, sumFrom, residueOf}
+use Rattle.samples_run.specs.Sums.{next, sumFrom, residueOf}
 
 -- i cells are counted, and h is their check number
 pub record Summed (t : List ℕ) (h i : ℕ) : Type 0 where

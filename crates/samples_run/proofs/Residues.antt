@@ -5,7 +5,7 @@ use mathlib.Core.Bool.{true}
 use native.Mathlib.Omega.{arith}
 use lib.IntN.{ℤ, pos, negsuc, natAbs}
 use lib.Signed.{leZ}
-use Rattle.sums.specs.Sums.{residueOf}
+use Rattle.samples_run.specs.Sums.{residueOf}
 
 pub residue-from : (a : ℤ) → leZ (pos 0) a ≡ true → natAbs a % 4294967296 ≡ residueOf a
 unfolding residueOf

@@ -1,4 +1,4 @@
--- `sums::sum_of_amounts` meets its contract. The invariant is `Summed` of the amounts' residues.
+-- `samples_run::sums::sum_of_amounts` meets its contract. The invariant is `Summed` of the amounts' residues.
 -- Assumes nothing.
 use Prim.Native.Nat.{_-_}
 use mathlib.Core.List.{map}
@@ -6,10 +6,10 @@ use native.Mathlib.Omega.{arith}
 use lib.ListN.{length}
 use borrow.Author.Needs.{needs, sfits-of}
 use mir.Facts.{toZ-ofZ}
-use Rattle.sums.specs.Sums.{residueOf}
-use Rattle.sums.proofs.Folds.{Summed, sum-start, sum-amount, sum-amounts}
-use Rattle.sums.proofs.sum_of_amounts.Statement.{statement}
-use Rattle.sums.proofs.sum_of_amounts.Tie as tie
+use Rattle.samples_run.specs.Sums.{residueOf}
+use Rattle.samples_run.proofs.Folds.{Summed, sum-start, sum-amount, sum-amounts}
+use Rattle.samples_run.proofs.sums.sum_of_amounts.Statement.{statement}
+use Rattle.samples_run.proofs.sums.sum_of_amounts.Tie as tie
 
 abbrev Inv-loop : tie.InvT-loop
 Inv-loop t h₀ i₀ h i = Summed (map residueOf t) h i

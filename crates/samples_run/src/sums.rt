@@ -1,7 +1,7 @@
 // Check numbers of lent tables: one number made of all cells in their order, so that a line can show a whole table.
 ghost use mathlib.Core.Path.{_≡_};
 ghost use mathlib.Core.List.{map};
-ghost use Rattle.sums.specs.Sums.{next, sumFrom, residueOf};
+ghost use Rattle.samples_run.specs.Sums.{next, sumFrom, residueOf};
 
 // The check number after one cell more.
 fn next_sum(h: u32, c: u32) -> u32
@@ -24,7 +24,7 @@ fn residue(a: i64) -> u32
 
 // The check number of a table of numbers.
 // Ruled out: a cell left out, the last say, and the cells counted from the back.
-pub fn sum_of_numbers(t: &[u32]) -> u32
+pub(crate) fn sum_of_numbers(t: &[u32]) -> u32
     ensures { λ r. ⌜ r ≡ sumFrom 0 (now (t .entry)) ⌝ }
 {
     let mut h: u32 = 0;
@@ -38,7 +38,7 @@ pub fn sum_of_numbers(t: &[u32]) -> u32
 
 // The check number of a table of amounts.
 // Ruled out: an amount counted without its sign, and its upper half counted in.
-pub fn sum_of_amounts(t: &[i64]) -> u32
+pub(crate) fn sum_of_amounts(t: &[i64]) -> u32
     ensures { λ r. ⌜ r ≡ sumFrom 0 (map residueOf (now (t .entry))) ⌝ }
 {
     let mut h: u32 = 0;

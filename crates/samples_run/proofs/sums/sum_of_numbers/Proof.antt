@@ -1,12 +1,12 @@
--- `sums::sum_of_numbers` meets its contract. The invariant is `Summed`.
+-- `samples_run::sums::sum_of_numbers` meets its contract. The invariant is `Summed`.
 -- Assumes nothing.
 use Prim.Native.Nat.{_-_}
 use native.Mathlib.Omega.{arith}
 use lib.ListN.{length}
 use borrow.Author.Needs.{needs}
-use Rattle.sums.proofs.Folds.{Summed, sum-start, sum-next, sum-end}
-use Rattle.sums.proofs.sum_of_numbers.Statement.{statement}
-use Rattle.sums.proofs.sum_of_numbers.Tie as tie
+use Rattle.samples_run.proofs.Folds.{Summed, sum-start, sum-next, sum-end}
+use Rattle.samples_run.proofs.sums.sum_of_numbers.Statement.{statement}
+use Rattle.samples_run.proofs.sums.sum_of_numbers.Tie as tie
 
 abbrev Inv-loop : tie.InvT-loop
 Inv-loop t h₀ i₀ h i = Summed t h i
