@@ -39,7 +39,8 @@ use Rattle.blindness.specs.Readable.{DifferInQty}
 use Rattle.blindness.specs.Sources.{amountAt, qtyValues, qtyValuesAfter, sourcesOf}
 use Rattle.blindness.proofs.Sources.{unsourced, sourcesFrom, sourceTable}
 use Rattle.blindness.proofs.Counts.{begun-counted}
-use Rattle.blindness.proofs.Order.{items-few, order}
+use Rattle.reader.proofs.Ran.{items-few}
+use Rattle.blindness.proofs.Order.{order}
 use Rattle.blindness.specs.Blind.{amountCell, source, OwnDigitsDiffer, SameButAmounts}
 use Rattle.blindness.proofs.Pairs.{list-cases}
 use Rattle.blindness.specs.Replaced.{Replaced}

@@ -35,7 +35,7 @@ use Rattle.states.specs.declared.Entry.{Entry}
 use Rattle.states.specs.declared.Entry.the-variants.{Nothing, Amount}
 use Rattle.states.specs.declared.Step.{Step}
 use Rattle.states.specs.declared.Step.the-variants.{Next, Refused}
-use Rattle.states.proofs.Judgements.{judged-passed, interval-room}
+use Rattle.states.proofs.Judgements.{judged-passed, interval-room, one-more}
 use Rattle.blindness.specs.Readable.{tagNamed, namedQty}
 use Rattle.blindness.proofs.Steps.{row-named, row-role}
 use Rattle.blindness.proofs.Tables.{waits, due, all-tested, waits-other, start-due, row-facts, end-waits}
@@ -103,10 +103,6 @@ kept-still p w j h =
 kept-interval : (p : State) (w : ℕ) (j : Judged) → roleOf w ≡ 4 → kept p w j ≡ oneInterval p
 unfolding kept
 kept-interval p w j h = rw h
-
-pub one-more : (n : ℕ) → n < 4294967295 → oneMore n ≡ n + 1
-unfolding oneMore
-one-more n h = rw (lt-ltb n 4294967295 h)
 
 not-amount : (role p : ℕ) → (role ≡ 10 → ⊥) → entryOf role p ≡ Amount → ⊥
 unfolding entryOf

@@ -77,13 +77,6 @@ source-set : (p : Placed) (st : State) (e : Entry) (t : List Span) (c : ℕ) →
 unfolding sourcesAfter valueAt
 source-set p st e t c h n = let k : st .intervals - 1 ≡ c = omega (arith, n) in rw (h, k)
 
--- no item has no byte
-pub items-few : (l : List ℕ) (k at : ℕ) → length (itemsAfter k at l) ≤ length l
-unfolding itemsAfter
-items-few [] k at = omega arith
-items-few (b ∷ t) (suc k) at = let h = items-few t k (suc at) in omega (arith, h)
-items-few (b ∷ t) zero at = let h = items-few t (pred (itemEnd (item at (b ∷ t)))) (suc at) in omega (arith, h)
-
 -- the cells before c are as they were, and from c on they have these values
 abbrev pub Ordered : ℕ → List Span → List Span → List Span → Type 0
 Ordered c so r vs = ((j : ℕ) → j < c → getD r j absent ≡ getD so j absent) × ((j : ℕ) → getD r (c + j) absent ≡ getD vs j absent)

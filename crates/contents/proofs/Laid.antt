@@ -8,7 +8,8 @@ use mathlib.Core.Logic.{⊎-elim}
 use lib.Dec.{eqb, leb, ltb}
 use lib.ListN.{length, getD}
 use borrow.Author.Tests.{eq-eqb, ne-eqb, eqb-true, le-leb, lt-ltb, ltb-true, not-true}
-use Rattle.lists.proofs.Cases.{bool-cases, both-true, never}
+use Rattle.lists.proofs.Below.{every, below}
+use Rattle.lists.proofs.Cases.{bool-cases, both-true, never, where-true}
 use Rattle.slices.specs.Same.{same}
 use Rattle.elements.specs.Names.{names, numberIn, elementNo}
 use Rattle.structure.specs.Rows.{nameOf, parentOf, required, repeated, endsIn, endsAtOnce}
@@ -17,7 +18,6 @@ use Rattle.guideline.specs.Kinds.{kindOne, kindTwo, isKind, kindOf}
 use Rattle.guideline.specs.Rows.{beschaffungsanforderung, kostenblatt, rowsOf}
 use Rattle.guideline.proofs.Each.{of-kind, rowWith}
 use Rattle.states.specs.Attributes.{asksV}
-use Rattle.blindness.proofs.Tables.{allBelow, below, where-true}
 use Rattle.trees.specs.Trees.{wellMade}
 use Rattle.trees.proofs.Made.{well-made}
 
@@ -87,10 +87,10 @@ pub record Laid (kind : ℕ) : Type 0 where
 
 -- a test of each row of which something is known
 abbrev wherever : List ℕ → (ℕ → Bool) → (ℕ → Bool) → Bool
-wherever rows given test = allBelow (length rows) (λ q. cond (given q) (test q) true)
+wherever rows given test = every (λ q. cond (given q) (test q) true) (length rows)
 
 at-row : (rows : List ℕ) (given test : ℕ → Bool) → wherever rows given test ≡ true → (q : ℕ) → q < length rows → given q ≡ true → test q ≡ true
-at-row rows given test t q l e = where-true (given q) (below (length rows) (λ q. cond (given q) (test q) true) t q l) e
+at-row rows given test t q l e = where-true (given q) (below (λ q. cond (given q) (test q) true) (length rows) t q l) e
 
 -- row i has n in a column, and no other row has
 abbrev soleTest : List ℕ → (ℕ → ℕ) → ℕ → ℕ → Bool

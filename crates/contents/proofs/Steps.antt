@@ -31,7 +31,7 @@ use Rattle.states.specs.Moves.{heldOf, cutShort, tooMany, noRoom, halfOriginals
 use Rattle.states.specs.declared.State.{State}
 use Rattle.states.specs.declared.Room.{Room}
 use Rattle.states.proofs.Judgements.{Passed, passed-judged, judged-passed, series-room, interval-room}
-use Rattle.blindness.proofs.Counts.{one-more}
+use Rattle.states.proofs.Judgements.{one-more}
 use Rattle.trees.proofs.Made.{both}
 use Rattle.contents.specs.Said.{Said, bytes}
 use Rattle.contents.specs.Spelled.{saidBy}

@@ -56,6 +56,11 @@ pub both-true : (t : Bool) {u : Bool} → cond t u false ≡ true → (t ≡ tru
 both-true true e = (refl, e)
 both-true false e = never e
 
+-- a test that is asked only where another holds
+pub where-true : (t : Bool) {u : Bool} → cond t u true ≡ true → t ≡ true → u ≡ true
+where-true true h e = h
+where-true false h e = never e
+
 -- a number that is none of those below m, nor m
 pub up : (m : ℕ) {k : ℕ} → m ≤ k → (k ≡ m → ⊥) → m + 1 ≤ k
 up m h n = omega arith

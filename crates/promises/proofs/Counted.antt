@@ -27,7 +27,7 @@ use Rattle.reader.specs.Items.{Placed, placed, itemsAfter, itemsFrom}
 use Rattle.reader.specs.Rows.{spanOf, usedBefore}
 use Rattle.reader.specs.Reading.{Tables, Out, blank, roomIn, refusedAt, acceptedAt, endedAt, withoutUsed, stepOf, tablesAfter, readItems, itemsRead, readAfter, readInto, orBlank, readSheet}
 use Rattle.reader.proofs.Ran.{read-next, read-stop, items-over}
-use Rattle.blindness.proofs.Counts.{one-more}
+use Rattle.states.proofs.Judgements.{one-more}
 use Rattle.promises.specs.Rows.{ZeroPast, Sized}
 use Rattle.promises.specs.Items.{startedIn, before, starts, kindIn, intervalElement, itemsBy, itemsIn}
 use Rattle.promises.proofs.Steps.{Stepped, Rises}

@@ -1,5 +1,5 @@
 -- The loop over the items: its invariant, `Ran`, and how it starts, goes on and ends. Assumes nothing.
-use Prim.Native.Nat.{ℕ, zero, suc, _+_, _≤_, _<_}
+use Prim.Native.Nat.{ℕ, zero, suc, pred, _+_, _≤_, _<_}
 use mathlib.Core.Path.{_≡_, refl, sym, ap, _∙_}
 use mathlib.Core.List.{List, [], _∷_}
 use mathlib.Core.Bool.{true}
@@ -154,3 +154,10 @@ module _ {doc : List ℕ} {from : ℕ} {t : Tables} {rows : List ℕ} {room : Ro
   ran-unread {s} {x} {p} h es ex m q =
       let k : p ≡ at = rw (sym ex ∙ q) at (item-placed at s) in
       (k, rw k (ran-stop h es ex m {y = Refused 2} (rw (q, r .all, step-rows st (Unreadable p) s room, unreadable st p s room) refl) refl))
+
+-- no item has no byte
+pub items-few : (l : List ℕ) (k at : ℕ) → length (itemsAfter k at l) ≤ length l
+unfolding itemsAfter
+items-few [] k at = omega arith
+items-few (b ∷ t) (suc k) at = let h = items-few t k (suc at) in omega (arith, h)
+items-few (b ∷ t) zero at = let h = items-few t (pred (itemEnd (item at (b ∷ t)))) (suc at) in omega (arith, h)
