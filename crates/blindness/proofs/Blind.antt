@@ -29,8 +29,7 @@ use Rattle.states.specs.Moves.{begun}
 use Rattle.states.specs.declared.Room.{Room}
 use Rattle.reader.specs.Items.{itemsAfter, itemsFrom}
 use Rattle.reader.specs.Rows.{quoted, thousandthsOf}
-use Rattle.reader.specs.Reading.{Tables, Out, blank, roomOf, refusedAt, roomIn, readItems, itemsRead, readAfter, readInto, orBlank, readSheet}
-use Rattle.reader.proofs.Ran.{tab}
+use Rattle.reader.specs.Reading.{tab, Tables, Out, blank, roomOf, refusedAt, roomIn, readItems, itemsRead, readAfter, readInto, orBlank, readSheet}
 use Rattle.reader.specs.declared.Answer.{Answer}
 use Rattle.reader.specs.Answer.{Outcome, answerOf, told, noted, unnoted, readOf}
 use Rattle.blindness.specs.Readable.{DifferInQty}
