@@ -25,8 +25,8 @@ use Rattle.states.specs.declared.Step.{Step}
 use Rattle.states.specs.declared.Step.the-variants.{Next, Refused}
 use Rattle.reader.specs.Items.{Placed, itemsAfter}
 use Rattle.reader.specs.Rows.{spanOf, seriesAfter, positionsAfter, amountsAfter, usedBefore}
-use Rattle.reader.specs.Reading.{refusedAt, acceptedAt, endedAt, withoutUsed, stepOf, tablesAfter, readItems}
-use Rattle.reader.proofs.Ran.{tab, read-next, read-stop}
+use Rattle.reader.specs.Reading.{tab, refusedAt, acceptedAt, endedAt, withoutUsed, stepOf, tablesAfter, readItems}
+use Rattle.reader.proofs.Ran.{read-next, read-stop}
 use Rattle.blindness.specs.Readable.{namedQty}
 use Rattle.blindness.specs.Sources.{valueAt, qtyValues}
 use Rattle.blindness.proofs.Sources.{sourcesAfter, sourcesIn}

@@ -16,9 +16,9 @@ use Rattle.states.specs.declared.Entry.the-variants.{Nothing, Series, Identific
 use Rattle.states.specs.declared.Step.{Step}
 use Rattle.states.specs.declared.Step.the-variants.{Next, Refused}
 use Rattle.reader.specs.Items.{Placed}
-use Rattle.reader.specs.Rows.{spanOf, quoted, seriesAfter, positionsAfter, amountsAfter, usedBefore}
-use Rattle.reader.specs.Reading.{Out, withoutUsed, stepOf, tablesAfter, readItems}
-use Rattle.reader.proofs.Ran.{tab, read-next, read-stop}
+use Rattle.reader.specs.Rows.{broughtBy, spanOf, quoted, amountsWith, seriesAfter, positionsAfter, amountsAfter, usedBefore}
+use Rattle.reader.specs.Reading.{tab, Out, withoutUsed, stepOf, tablesAfter, readItems}
+use Rattle.reader.proofs.Ran.{read-next, read-stop}
 use Rattle.blindness.specs.Sources.{amountAt}
 use Rattle.blindness.proofs.Sources.{sourcesAfter, sourcesIn}
 use Rattle.blindness.proofs.Pairs.{Says, Aligned, over, pair}
@@ -122,7 +122,7 @@ map-set f (b ∷ l) (suc i) a = ap (λ (t : List _). f b ∷ t) (map-set f l i a
 
 amounts-after : (doc : List ℕ) (at : ℕ) (s : List ℕ) → s ≡ drop at doc → (v : Span) (st : State) (e : Entry) (so : List Span)
     → amountsAfter v s st e (map (amountAt doc) so) ≡ map (amountAt doc) (sourcesAfter at v st e so)
-unfolding amountsAfter sourcesAfter amountAt quoted
+unfolding amountsAfter amountsWith broughtBy sourcesAfter amountAt quoted
 amounts-after doc at s q v st Nothing so = refl
 amounts-after doc at s q v st Series so = refl
 amounts-after doc at s q v st Identification so = refl

@@ -27,7 +27,7 @@ use Rattle.states.specs.declared.Entry.the-variants.{Nothing}
 use Rattle.states.specs.declared.Step.{Step}
 use Rattle.states.specs.declared.Step.the-variants.{Next, Refused}
 use Rattle.reader.specs.Items.{Placed, passed}
-use Rattle.reader.specs.Rows.{usedBefore}
+use Rattle.reader.specs.Rows.{broughtBy, usedWith, usedBefore}
 use Rattle.reader.specs.Reading.{Tables, Out, refusedAt, acceptedAt, withoutUsed, stepOf, tablesAfter, readItems}
 use Rattle.reader.specs.Reading.{endedAt as overAt}
 use Rattle.reader.proofs.Ran.{read-next, read-stop, still, unreadable}
@@ -126,7 +126,7 @@ module _ (doc : List ℕ) (room : Room) (x : Placed) (xs : List Placed) (st : St
   goes-on st′ e z ok = sym (ap (λ (o : Out). o .found .refusal) (read-next doc room x xs st t st′ e z)) ∙ ok
 
   read-pass : passed (x .item) ≡ true → readItems doc room (x ∷ xs) st t ≡ readItems doc room xs st t
-  unfolding withoutUsed usedBefore
+  unfolding withoutUsed usedBefore usedWith broughtBy
   read-pass e =
       read-next doc room x xs st t st Nothing (step-by (Next st Nothing) (still st (x .item) e (x .rest) room))
       ∙ ap (λ (m : Tables). readItems doc room xs st m) (tables-still x st t)

@@ -26,7 +26,7 @@ use Rattle.states.specs.declared.Entry.the-variants.{Nothing, Series, Identific
 use Rattle.states.specs.declared.Step.{Step}
 use Rattle.states.specs.declared.Step.the-variants.{Next, Refused}
 use Rattle.reader.specs.Items.{Placed}
-use Rattle.reader.specs.Rows.{spanOf, seriesAfter, positionsAfter, amountsAfter, usedBefore}
+use Rattle.reader.specs.Rows.{broughtBy, spanOf, fieldAfter, seriesWith, positionsWith, amountsWith, seriesAfter, positionsAfter, amountsAfter, usedWith, usedBefore}
 use Rattle.reader.specs.Reading.{Tables, withoutUsed, tablesAfter}
 use Rattle.contents.specs.Said.{Said}
 use Rattle.contents.specs.Spelled.{saidBy}
@@ -74,7 +74,7 @@ low-less n y l =
 -- they do not look at whether a row is open
 pub tables-inside : (x : Placed) (kind q : ℕ) (a b : Bool) (y : Tally) (e : Entry) (t : Tables)
     → tablesAfter x (stateOf kind q a y) e t ≡ tablesAfter x (stateOf kind q b y) e t
-unfolding tablesAfter stateOf seriesAfter positionsAfter amountsAfter
+unfolding tablesAfter stateOf seriesAfter seriesWith fieldAfter positionsAfter positionsWith amountsAfter amountsWith broughtBy
 tables-inside x kind q a b y Nothing t = refl
 tables-inside x kind q a b y Series t = refl
 tables-inside x kind q a b y Identification t = refl
@@ -85,7 +85,7 @@ tables-inside x kind q a b y (Position p) t = refl
 tables-inside x kind q a b y Amount t = refl
 
 pub tables-still : (x : Placed) (st : State) (t : Tables) → tablesAfter x st Nothing t ≡ t
-unfolding tablesAfter seriesAfter positionsAfter amountsAfter
+unfolding tablesAfter seriesAfter seriesWith positionsAfter positionsWith amountsAfter amountsWith broughtBy
 tables-still x st t = refl
 
 -- ---- an item that may not stand in a document
@@ -218,7 +218,7 @@ module _ (doc : List ℕ) (room : Room) (kind : ℕ) (rows : List ℕ) (p : ℕ)
 
 module _ (doc : List ℕ) (kind : ℕ) (rows : List ℕ) (r : ℕ) (o : Bool) (y : Tally) (ts : List ℕ) (i : Item) (s : List ℕ) (name : ℕ) where
   pub ended-goes : Closed kind rows r o y name (withoutUsed doc ts i s (ended (stateOf kind r o y) rows name))
-  unfolding ended endedAt withoutUsed usedBefore stateOf
+  unfolding ended endedAt withoutUsed usedBefore usedWith broughtBy stateOf
   ended-goes = by (endOf rows r o name) refl
     where
       by : (d : Due) → endOf rows r o name ≡ d → Closed kind rows r o y name (withoutUsed doc ts i s (endedAt (stateOf kind r o y) rows d))
@@ -232,7 +232,7 @@ module _ (doc : List ℕ) (kind : ℕ) (rows : List ℕ) (r : ℕ) (o : Bool) (y
 
   pub went-ends : (q : ℕ) → endOf rows r o name ≡ Row q → Ended kind (getD rows q 0) y
       → withoutUsed doc ts i s (ended (stateOf kind r o y) rows name) ≡ Next (stateOf kind q false y) Nothing
-  unfolding ended endedAt withoutUsed usedBefore stateOf
+  unfolding ended endedAt withoutUsed usedBefore usedWith broughtBy stateOf
   went-ends q z h =
       ap (λ (d : Due). withoutUsed doc ts i s (endedAt (stateOf kind r o y) rows d)) z
       ∙ rw (taken-ended kind rows r o y q h) (ap (λ (st : State). Next st Nothing) (closed-same kind rows r o y q))

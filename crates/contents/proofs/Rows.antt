@@ -1,13 +1,13 @@
 -- What the series table shows of a conforming content: a row for each series, in document order.
 -- Assumes nothing.
-use Prim.Native.Nat.{ℕ, zero, suc, _+_, _-_, _*_, _≤_, _<_}
+use Prim.Native.Nat.{ℕ, zero, suc, _+_, _-_, _≤_, _<_}
 use mathlib.Core.Path.{_≡_, refl, sym, ap, _∙_}
 use mathlib.Core.List.{List, [], _∷_, map, _++_}
 use mathlib.Core.Bool.{true, false, Bool}
 use mathlib.Core.Logic.{inl, inr, ⊎-elim}
 use native.Mathlib.Omega.{arith}
 use lib.Dec.{eqb}
-use lib.ListN.{length, getD, take, set, length-set}
+use lib.ListN.{length, getD, take, length-set}
 use lib.Seq.{getD-set-same, getD-set-other}
 use borrow.Author.Tests.{ne-eqb}
 use Rattle.lists.proofs.Cases.{eqb-cases}
@@ -17,12 +17,15 @@ use Rattle.columns.specs.Columns.{roleOf}
 use Rattle.states.specs.Moves.{entryOf}
 use Rattle.states.specs.declared.State.{State}
 use Rattle.reader.specs.Items.{Placed}
-use Rattle.reader.specs.Rows.{spanOf, seriesAfter}
+use Rattle.series.specs.Row.{cellsOf, cellAt, fieldAt, withField, view}
+use Rattle.series.specs.declared.Field.the-variants.{Identification, Object, BusinessType, FirstRow, Count}
+use Rattle.series.proofs.Rows.{view-as}
+use Rattle.reader.specs.Rows.{broughtBy, spanOf, fieldAfter, seriesWith, seriesAfter}
 use Rattle.reader.specs.Reading.{Tables, tablesAfter}
 use Rattle.trees.specs.Trees.{Trees, none, element, rowsTaken, Stand, Fits, EachConforms}
 use Rattle.contents.specs.Said.{Said}
 use Rattle.contents.specs.Legal.{hasRole, those, inEach, positionOf, identifications}
-use Rattle.contents.specs.Shown.{sum, view, objects, businessTypes, intervalCounts}
+use Rattle.contents.specs.Shown.{sum, objects, businessTypes, intervalCounts}
 use Rattle.contents.proofs.Lists.{lastOf}
 use Rattle.contents.proofs.Laid.{Layout, Valued}
 use Rattle.contents.proofs.Elements.{in-of, own, those-of, Within, none-in, none-there, within-more}
@@ -31,28 +34,27 @@ use Rattle.contents.proofs.Walk.{Tally, opened, walked}
 use Rattle.contents.proofs.Fill.{saidOf, saying, stateOf, tablesWith, filled, Stands}
 use Rattle.contents.proofs.Lifted.{each-said, taken-said}
 use Rattle.contents.proofs.Values.{HasValues}
-use Rattle.contents.proofs.Views.{same-view}
 use Rattle.contents.proofs.Roles.{by-entry}
 use Rattle.contents.proofs.Intervals.{puts}
-use Rattle.contents.proofs.Series.{valueBytes, trimmedBytes, Effect, cell-at, inside}
+use Rattle.contents.proofs.Series.{valueBytes, trimmedBytes, Effect, inside}
 
 -- row n of the series table shows a series
 pub record RowOf (doc cells : List ℕ) (n : ℕ) (id object business : List ℕ) (first count : ℕ) : Type 0 where
-  pub id-shown : view doc cells (8 * n) ≡ id
-  pub object-shown : view doc cells (8 * n + 2) ≡ object
-  pub business-shown : view doc cells (8 * n + 4) ≡ business
-  pub first-shown : getD cells (8 * n + 6) 0 ≡ first
-  pub count-shown : getD cells (8 * n + 7) 0 ≡ count
+  pub id-shown : view doc cells n Identification ≡ id
+  pub object-shown : view doc cells n Object ≡ object
+  pub business-shown : view doc cells n BusinessType ≡ business
+  pub first-shown : fieldAt cells n FirstRow ≡ first
+  pub count-shown : fieldAt cells n Count ≡ count
 
-row-kept : {doc t u : List ℕ} {n : ℕ} {id object business : List ℕ} {first count : ℕ} → ((j : ℕ) → j < 8 * (n + 1) → getD u j 0 ≡ getD t j 0)
+row-kept : {doc t u : List ℕ} {n : ℕ} {id object business : List ℕ} {first count : ℕ} → ((j : ℕ) → j < cellsOf (n + 1) → getD u j 0 ≡ getD t j 0)
     → RowOf doc t n id object business first count → RowOf doc u n id object business first count
 row-kept {doc} {t} {u} {n} k r =
     record {
-      id-shown = same-view doc t u (8 * n) (k (8 * n) (omega arith)) (k (8 * n + 1) (omega arith)) ∙ r .id-shown;
-      object-shown = same-view doc t u (8 * n + 2) (k (8 * n + 2) (omega arith)) (k (8 * n + 2 + 1) (omega arith)) ∙ r .object-shown;
-      business-shown = same-view doc t u (8 * n + 4) (k (8 * n + 4) (omega arith)) (k (8 * n + 4 + 1) (omega arith)) ∙ r .business-shown;
-      first-shown = k (8 * n + 6) (omega arith) ∙ r .first-shown;
-      count-shown = k (8 * n + 7) (omega arith) ∙ r .count-shown;
+      id-shown = view-as doc t u n Identification (k (cellAt n Identification) (omega arith)) (k (cellAt n Identification + 1) (omega arith)) ∙ r .id-shown;
+      object-shown = view-as doc t u n Object (k (cellAt n Object) (omega arith)) (k (cellAt n Object + 1) (omega arith)) ∙ r .object-shown;
+      business-shown = view-as doc t u n BusinessType (k (cellAt n BusinessType) (omega arith)) (k (cellAt n BusinessType + 1) (omega arith)) ∙ r .business-shown;
+      first-shown = k (cellAt n FirstRow) (omega arith) ∙ r .first-shown;
+      count-shown = k (cellAt n Count) (omega arith) ∙ r .count-shown;
     }
 
 pub row-moved : {doc cells : List ℕ} {n m : ℕ} {id object business : List ℕ} {f g count : ℕ} → n ≡ m → f ≡ g
@@ -75,7 +77,7 @@ rows-on doc cells n f m id object business c ids objs kinds counts r rs (suc i) 
 -- between two places of the walk beside the series: m rows from n on are filled
 pub record Filled (doc : List ℕ) (n f : ℕ) (t u : List ℕ) (m : ℕ) (ids objs kinds : List (List ℕ)) (counts : List ℕ) : Type 0 where
   pub size : length u ≡ length t
-  pub before : (j : ℕ) → j < 8 * n → getD u j 0 ≡ getD t j 0
+  pub before : (j : ℕ) → j < cellsOf n → getD u j 0 ≡ getD t j 0
   pub rows : RowsFrom doc u n f m ids objs kinds counts
 
 pub filled-as : {doc : List ℕ} {n n₁ f f₁ : ℕ} {t t₁ u : List ℕ} {m m₁ : ℕ} {ids objs kinds ids₁ objs₁ kinds₁ : List (List ℕ)} {counts counts₁ : List ℕ}
@@ -110,7 +112,7 @@ module _ (rows : List ℕ) (role q : ℕ) (x : Placed) (inner after : Trees Plac
 
 pub series-kept : (r n at : ℕ) (v : Span) (s : List ℕ) (st : State) (l : List ℕ) → (r ≡ 2 → ⊥) → (r ≡ 4 → ⊥) → (r ≡ 6 → ⊥) → (r ≡ 7 → ⊥) → (r ≡ 8 → ⊥)
     → seriesAfter at v s st (entryOf r n) l ≡ l
-unfolding seriesAfter
+unfolding seriesAfter seriesWith broughtBy
 series-kept r n at v s st l a b c d f =
     by-entry (λ e. seriesAfter at v s st e l ≡ l) r n refl (λ e. absurd (a e)) (λ e. absurd (b e)) (λ e. absurd (c e)) (λ e. absurd (d e)) (λ e. absurd (f e))
     (λ e. refl) (λ e. refl)
@@ -148,8 +150,8 @@ module _ (kind : ℕ) (rows : List ℕ) (p : ℕ) (L : Layout rows p) (W : Value
     pub series : y′ .series ≡ y .series + 1
     pub intervals : y′ .intervals ≡ y .intervals + count
     pub size : length t′ ≡ length t
-    pub before : (j : ℕ) → j < 8 * y .series → getD t′ j 0 ≡ getD t j 0
-    pub beyond : (j : ℕ) → 8 * (y .series + 1) ≤ j → getD t′ j 0 ≡ getD t j 0
+    pub before : (j : ℕ) → j < cellsOf (y .series) → getD t′ j 0 ≡ getD t j 0
+    pub beyond : (j : ℕ) → cellsOf (y .series + 1) ≤ j → getD t′ j 0 ≡ getD t j 0
     pub row : RowOf doc t′ (y .series) id object business (y .intervals) count
 
   module _ (q : ℕ) (x : Placed) (inner : Trees Placed) (y : Tally) (t : Tables) (e : q ≡ 12) where
@@ -159,21 +161,21 @@ module _ (kind : ℕ) (rows : List ℕ) (p : ℕ) (L : Layout rows p) (W : Value
     pub opened-series : (tallyIn q x y .series ≡ y .series + 1) × (tallyIn q x y .intervals ≡ y .intervals) × (tallyIn q x y .first ≡ y .intervals)
     opened-series = rw is-two (refl, refl, refl)
 
-    opened-cells : tablesIn q x y t .series ≡ set (t .series) (8 * y .series + 6) (y .intervals)
-    unfolding tablesAfter seriesAfter entryOf stateOf
-    opened-cells = rw (is-two, cell-at (y .series + 1) (y .series) 6 (omega arith))
+    opened-cells : tablesIn q x y t .series ≡ withField (t .series) (y .series) FirstRow (y .intervals)
+    unfolding tablesAfter seriesAfter seriesWith broughtBy fieldAfter entryOf stateOf
+    opened-cells = let d : y .series + 1 - 1 ≡ y .series = omega arith in rw (is-two, d)
 
-    pub opened-before : (j : ℕ) → j < 8 * y .series → getD (tablesIn q x y t .series) j 0 ≡ getD (t .series) j 0
-    opened-before j h = rw opened-cells (getD-set-other (t .series) (8 * y .series + 6) j (y .intervals) 0 (λ d. omega (arith, d, h)))
+    pub opened-before : (j : ℕ) → j < cellsOf (y .series) → getD (tablesIn q x y t .series) j 0 ≡ getD (t .series) j 0
+    opened-before j h = rw opened-cells (getD-set-other (t .series) (cellAt (y .series) FirstRow) j (y .intervals) 0 (λ d. omega (arith, d, h)))
 
-    opened-beyond : (j : ℕ) → 8 * (y .series + 1) ≤ j → getD (tablesIn q x y t .series) j 0 ≡ getD (t .series) j 0
-    opened-beyond j h = rw opened-cells (getD-set-other (t .series) (8 * y .series + 6) j (y .intervals) 0 (λ d. omega (arith, d, h)))
+    opened-beyond : (j : ℕ) → cellsOf (y .series + 1) ≤ j → getD (tablesIn q x y t .series) j 0 ≡ getD (t .series) j 0
+    opened-beyond j h = rw opened-cells (getD-set-other (t .series) (cellAt (y .series) FirstRow) j (y .intervals) 0 (λ d. omega (arith, d, h)))
 
     pub opened-size : length (tablesIn q x y t .series) ≡ length (t .series)
-    opened-size = rw opened-cells (length-set (t .series) (8 * y .series + 6) (y .intervals))
+    opened-size = rw opened-cells (length-set (t .series) (cellAt (y .series) FirstRow) (y .intervals))
 
     module _ (f : Fits rows q (rowsTaken inner)) (c : EachConforms rows inner) (d : Stands doc inner) (g : HasValues rows inner)
-        (room : 8 * (y .series + 1) ≤ length (t .series)) where
+        (room : cellsOf (y .series + 1) ≤ length (t .series)) where
       within : q < length rows
       within = let s = L .size in omega (arith, s, e)
 
@@ -192,7 +194,7 @@ module _ (kind : ℕ) (rows : List ℕ) (p : ℕ) (L : Layout rows p) (W : Value
           ∙ ap (λ (n : ℕ). n + length (those (hasRole 4) rows (saying inner))) (opened-series .1)
 
       -- s has the identification, o the object, b the BusinessType
-      pub rowed : (blank : (j : ℕ) → 8 * y .series ≤ j → getD (t .series) j 0 ≡ 0) (s o b : Said) → those (hasRole 8) rows (saying inner) ≡ s ∷ []
+      pub rowed : (blank : (j : ℕ) → cellsOf (y .series) ≤ j → getD (t .series) j 0 ≡ 0) (s o b : Said) → those (hasRole 8) rows (saying inner) ≡ s ∷ []
           → those (hasRole 6) rows (saying inner) ≡ o ∷ [] → those (hasRole 7) rows (saying inner) ≡ b ∷ []
           → Rowed y (tallyOut q x inner y) (t .series) (tablesOut q x inner y t .series) (valueBytes s) (valueBytes o) (trimmedBytes b)
           (length (those (hasRole 4) rows (saying inner)))
@@ -210,8 +212,8 @@ module _ (kind : ℕ) (rows : List ℕ) (p : ℕ) (L : Layout rows p) (W : Value
           let ids : identifications rows (saying inner) ≡ valueBytes s ∷ [] = ap (map valueBytes) es in
           let objs : objects rows (saying inner) ≡ valueBytes o ∷ [] = ap (map valueBytes) eo in
           let kinds : businessTypes rows (saying inner) ≡ trimmedBytes b ∷ [] = ap (map trimmedBytes) eb in
-          let start : getD (tablesIn q x y t .series) (8 * n + 7) 0 ≡ 0
-          = rw opened-cells (getD-set-other (t .series) (8 * n + 6) (8 * n + 7) (y .intervals) 0 (λ h. omega (arith, h)) ∙ blank (8 * n + 7) (omega arith)) in
+          let start : fieldAt (tablesIn q x y t .series) n Count ≡ 0
+          = rw opened-cells (getD-set-other (t .series) (cellAt n FirstRow) (cellAt n Count) (y .intervals) 0 (λ h. omega (arith, h)) ∙ blank (cellAt n Count) (omega arith)) in
           let counted = k .count (start ∙ (let z : 0 ≡ tallyIn q x y .intervals - tallyIn q x y .first = omega (arith, a₁, a₂) in z)) in
           record {
             series = u ∙ a₀;
@@ -221,11 +223,11 @@ module _ (kind : ℕ) (rows : List ℕ) (p : ℕ) (L : Layout rows p) (W : Value
             beyond = λ j h. k .others j (inr (omega (arith, h))) ∙ opened-beyond j h;
             row =
                 record {
-                  id-shown = k .identification ∙ ap (lastOf (view doc (tablesIn q x y t .series) (8 * n))) ids;
-                  object-shown = k .object ∙ ap (lastOf (view doc (tablesIn q x y t .series) (8 * n + 2))) objs;
-                  business-shown = k .business ∙ ap (lastOf (view doc (tablesIn q x y t .series) (8 * n + 4))) kinds;
+                  id-shown = k .identification ∙ ap (lastOf (view doc (tablesIn q x y t .series) n Identification)) ids;
+                  object-shown = k .object ∙ ap (lastOf (view doc (tablesIn q x y t .series) n Object)) objs;
+                  business-shown = k .business ∙ ap (lastOf (view doc (tablesIn q x y t .series) n BusinessType)) kinds;
                   first-shown =
-                      k .start ∙ rw opened-cells (getD-set-same (t .series) (8 * n + 6) (y .intervals) 0 (omega (arith, room)));
+                      k .start ∙ rw opened-cells (getD-set-same (t .series) (cellAt n FirstRow) (y .intervals) 0 (omega (arith, room)));
                   count-shown = counted ∙ omega (arith, m, first, a₂);
                 };
           }
@@ -360,7 +362,7 @@ module _ (kind : ℕ) (rows : List ℕ) (p : ℕ) (L : Layout rows p) (W : Value
       sym (ap length (those-after rows 2 q x inner after two (o .no-series)))
 
   pub series-filled : (kids : Trees Placed) (y : Tally) (t : Tables) → Stand rows 1 (rowsTaken kids) → EachConforms rows kids → Stands doc kids → HasValues rows kids
-      → 8 * (y .series + seriesIn kids) ≤ length (t .series) → ((j : ℕ) → 8 * y .series ≤ j → getD (t .series) j 0 ≡ 0) → FilledBy kids y t
+      → cellsOf (y .series + seriesIn kids) ≤ length (t .series) → ((j : ℕ) → cellsOf (y .series) ≤ j → getD (t .series) j 0 ≡ 0) → FilledBy kids y t
   unfolding rowsTaken Stand EachConforms Stands HasValues filled saying those
   series-filled none y t s c d g room blank = record { size = refl; before = λ j l. refl; rows = λ i l. absurd (omega (arith, l)) }
   series-filled (element q x inner after) y t s c d g room blank =

@@ -1,6 +1,6 @@
 -- What the elements in a series put into its row of the series table, and that they put nothing into any other row.
 -- Assumes nothing.
-use Prim.Native.Nat.{ℕ, suc, _+_, _-_, _*_, _≤_, _<_}
+use Prim.Native.Nat.{ℕ, suc, _+_, _-_, _≤_, _<_}
 use mathlib.Core.Path.{_≡_, refl, sym, ap, _∙_}
 use mathlib.Core.List.{List, [], _∷_, _++_, map}
 use mathlib.Core.Bool.{true}
@@ -14,12 +14,16 @@ use Rattle.columns.specs.Columns.{roleOf}
 use Rattle.states.specs.Attributes.{there}
 use Rattle.states.specs.Moves.{entryOf}
 use Rattle.reader.specs.Items.{Placed}
-use Rattle.reader.specs.Rows.{spanOf, quoted, cell, withView, seriesAfter}
+use Rattle.series.specs.Row.{cellOf, cellsOf, cellAt, fieldAt, withField, withView, view}
+use Rattle.series.specs.declared.Field.{Field}
+use Rattle.series.specs.declared.Field.the-variants.{Identification, Object, BusinessType, FirstRow, Count}
+use Rattle.series.proofs.Rows.{view-set, view-as, view-kept}
+use Rattle.reader.specs.Rows.{broughtBy, spanOf, quoted, fieldAfter, seriesWith, seriesAfter}
 use Rattle.reader.specs.Reading.{Tables, tablesAfter}
 use Rattle.trees.specs.Trees.{Trees, none, element, rowsTaken, Stand, EachConforms}
 use Rattle.contents.specs.Said.{Said, bytes}
 use Rattle.contents.specs.Legal.{hasRole, those, positionOf, identifications}
-use Rattle.contents.specs.Shown.{view, objects, businessTypes}
+use Rattle.contents.specs.Shown.{objects, businessTypes}
 use Rattle.contents.proofs.Lists.{last-append, lastOf}
 use Rattle.contents.proofs.Laid.{Layout, Valued}
 use Rattle.contents.proofs.Elements.{own, mapped-parts}
@@ -27,7 +31,7 @@ use Rattle.contents.proofs.Shape.{later}
 use Rattle.contents.proofs.Walk.{Tally, opened, walked}
 use Rattle.contents.proofs.Fill.{saidOf, saying, stateOf, tablesWith, filled, Stands}
 use Rattle.contents.proofs.Values.{HasValues}
-use Rattle.contents.proofs.Views.{same-view, whole-view, trimmed-view}
+use Rattle.contents.proofs.Views.{whole-view, trimmed-view}
 use Rattle.contents.proofs.Roles.{Role, is-series, is-interval, is-object, is-business, is-id, is-pos, is-qty, is-other, role-cases}
 
 abbrev pub valueBytes : Said → List ℕ
@@ -35,19 +39,6 @@ valueBytes s = bytes (s .v)
 
 abbrev pub trimmedBytes : Said → List ℕ
 trimmedBytes s = dropped (bytes (s .v))
-
--- a view that is stored at cell c
-stored : (t : List ℕ) (c a n j : ℕ) → (j ≡ c → ⊥) → (j ≡ c + 1 → ⊥) → getD (withView t c a n) j 0 ≡ getD t j 0
-unfolding withView
-stored t c a n j f g = getD-set-other (set t c a) (c + 1) j n 0 g ∙ getD-set-other t c j a 0 f
-
-stored-size : (t : List ℕ) (c a n : ℕ) → length (withView t c a n) ≡ length t
-unfolding withView
-stored-size t c a n = simp length-set
-
--- cells of another view
-other-view : (doc t : List ℕ) (c a n j : ℕ) → (j ≡ c → ⊥) → (j ≡ c + 1 → ⊥) → (j + 1 ≡ c → ⊥) → view doc (withView t c a n) j ≡ view doc t j
-other-view doc t c a n j f g h = same-view doc t (withView t c a n) j (stored t c a n j f g) (stored t c a n (j + 1) h (λ e. f (omega (arith, e))))
 
 -- a count that stays
 still : (y y′ : Tally) → y′ .intervals ≡ y .intervals → y′ .first ≡ y .first → (n : ℕ) → n ≡ y .intervals - y .first → n ≡ y′ .intervals - y′ .first
@@ -59,12 +50,12 @@ pub record Effect (doc : List ℕ) (i : ℕ) (y : Tally) (t : List ℕ) (y′ : 
   pub series : y′ .series ≡ y .series
   pub first : y′ .first ≡ y .first
   pub size : length t′ ≡ length t
-  pub others : (j : ℕ) → (j < 8 * i) ⊎ (8 * i + 8 ≤ j) → getD t′ j 0 ≡ getD t j 0
-  pub start : getD t′ (8 * i + 6) 0 ≡ getD t (8 * i + 6) 0
-  pub count : getD t (8 * i + 7) 0 ≡ y .intervals - y .first → getD t′ (8 * i + 7) 0 ≡ y′ .intervals - y′ .first
-  pub identification : view doc t′ (8 * i) ≡ lastOf (view doc t (8 * i)) ids
-  pub object : view doc t′ (8 * i + 2) ≡ lastOf (view doc t (8 * i + 2)) objs
-  pub business : view doc t′ (8 * i + 4) ≡ lastOf (view doc t (8 * i + 4)) kinds
+  pub others : (j : ℕ) → (j < cellsOf i) ⊎ (cellsOf (i + 1) ≤ j) → getD t′ j 0 ≡ getD t j 0
+  pub start : fieldAt t′ i FirstRow ≡ fieldAt t i FirstRow
+  pub count : fieldAt t i Count ≡ y .intervals - y .first → fieldAt t′ i Count ≡ y′ .intervals - y′ .first
+  pub identification : view doc t′ i Identification ≡ lastOf (view doc t i Identification) ids
+  pub object : view doc t′ i Object ≡ lastOf (view doc t i Object) objs
+  pub business : view doc t′ i BusinessType ≡ lastOf (view doc t i BusinessType) kinds
 
 effect-lists : {doc : List ℕ} {i : ℕ} {y : Tally} {t : List ℕ} {y′ : Tally} {t′ : List ℕ} {ids objs kinds ids₁ objs₁ kinds₁ : List (List ℕ)}
     → ids ≡ ids₁ → objs ≡ objs₁ → kinds ≡ kinds₁ → Effect doc i y t y′ t′ ids objs kinds → Effect doc i y t y′ t′ ids₁ objs₁ kinds₁
@@ -82,33 +73,33 @@ module _ {doc : List ℕ} {i : ℕ} {y : Tally} {t : List ℕ} where
         start = g .start ∙ f .start;
         count = λ e. g .count (f .count e);
         identification =
-            g .identification ∙ ap (λ (d : List ℕ). lastOf d ids₁) (f .identification) ∙ sym (last-append (view doc t (8 * i)) ids ids₁);
-        object = g .object ∙ ap (λ (d : List ℕ). lastOf d objs₁) (f .object) ∙ sym (last-append (view doc t (8 * i + 2)) objs objs₁);
-        business = g .business ∙ ap (λ (d : List ℕ). lastOf d kinds₁) (f .business) ∙ sym (last-append (view doc t (8 * i + 4)) kinds kinds₁);
+            g .identification ∙ ap (λ (d : List ℕ). lastOf d ids₁) (f .identification) ∙ sym (last-append (view doc t i Identification) ids ids₁);
+        object = g .object ∙ ap (λ (d : List ℕ). lastOf d objs₁) (f .object) ∙ sym (last-append (view doc t i Object) objs objs₁);
+        business = g .business ∙ ap (λ (d : List ℕ). lastOf d kinds₁) (f .business) ∙ sym (last-append (view doc t i BusinessType) kinds kinds₁);
       }
 
   -- ---- one element
 
   module _ {y′ : Tally} (es : y′ .series ≡ y .series) (ef : y′ .first ≡ y .first) where
-    interval-effect : 8 * i + 8 ≤ length t → Effect doc i y t y′ (set t (8 * i + 7) (y′ .intervals - y′ .first)) [] [] []
+    interval-effect : cellsOf (i + 1) ≤ length t → Effect doc i y t y′ (withField t i Count (y′ .intervals - y′ .first)) [] [] []
     interval-effect h =
-        let c = 8 * i + 7 in
+        let c = cellAt i Count in
         let v = y′ .intervals - y′ .first in
         record {
           series = es;
           first = ef;
           size = length-set t c v;
           others = λ j o. getD-set-other t c j v 0 (λ e. ⊎-elim (λ z. omega (arith, z, e)) (λ z. omega (arith, z, e)) o);
-          start = getD-set-other t c (8 * i + 6) v 0 (λ e. omega (arith, e));
+          start = getD-set-other t c (cellAt i FirstRow) v 0 (λ e. omega (arith, e));
           count = λ e. getD-set-same t c v 0 (omega (arith, h));
           identification =
-              same-view doc t (set t c v) (8 * i) (getD-set-other t c (8 * i) v 0 (λ e. omega (arith, e))) (getD-set-other t c (8 * i + 1) v 0 (λ e. omega (arith, e)));
+              view-as doc t (set t c v) i Identification (getD-set-other t c (cellAt i Identification) v 0 (λ e. omega (arith, e))) (getD-set-other t c (cellAt i Identification + 1) v 0 (λ e. omega (arith, e)));
           object =
-              same-view doc t (set t c v) (8 * i + 2) (getD-set-other t c (8 * i + 2) v 0 (λ e. omega (arith, e)))
-              (getD-set-other t c (8 * i + 2 + 1) v 0 (λ e. omega (arith, e)));
+              view-as doc t (set t c v) i Object (getD-set-other t c (cellAt i Object) v 0 (λ e. omega (arith, e)))
+              (getD-set-other t c (cellAt i Object + 1) v 0 (λ e. omega (arith, e)));
           business =
-              same-view doc t (set t c v) (8 * i + 4) (getD-set-other t c (8 * i + 4) v 0 (λ e. omega (arith, e)))
-              (getD-set-other t c (8 * i + 4 + 1) v 0 (λ e. omega (arith, e)));
+              view-as doc t (set t c v) i BusinessType (getD-set-other t c (cellAt i BusinessType) v 0 (λ e. omega (arith, e)))
+              (getD-set-other t c (cellAt i BusinessType + 1) v 0 (λ e. omega (arith, e)));
         }
 
     module _ (ei : y′ .intervals ≡ y .intervals) where
@@ -120,74 +111,71 @@ module _ {doc : List ℕ} {i : ℕ} {y : Tally} {t : List ℕ} where
             size = refl;
             others = λ j o. refl;
             start = refl;
-            count = λ e. still y y′ ei ef (getD t (8 * i + 7) 0) e;
+            count = λ e. still y y′ ei ef (fieldAt t i Count) e;
             identification = refl;
             object = refl;
             business = refl;
           }
 
       module _ (a n : ℕ) where
-        -- a view that is stored at one of the first cells of the row
-        view-effect : (c : ℕ) → 8 * i ≤ c → c ≤ 8 * i + 4 → {ids objs kinds : List (List ℕ)}
-            → view doc (withView t c a n) (8 * i) ≡ lastOf (view doc t (8 * i)) ids
-            → view doc (withView t c a n) (8 * i + 2) ≡ lastOf (view doc t (8 * i + 2)) objs
-            → view doc (withView t c a n) (8 * i + 4) ≡ lastOf (view doc t (8 * i + 4)) kinds
-            → Effect doc i y t y′ (withView t c a n) ids objs kinds
-        view-effect c lo hi u v w =
+        -- a view that is set
+        view-effect : (f : Field) → cellOf f + 1 < cellOf FirstRow → {ids objs kinds : List (List ℕ)}
+            → view doc (withView t i f a n) i Identification ≡ lastOf (view doc t i Identification) ids
+            → view doc (withView t i f a n) i Object ≡ lastOf (view doc t i Object) objs
+            → view doc (withView t i f a n) i BusinessType ≡ lastOf (view doc t i BusinessType) kinds
+            → Effect doc i y t y′ (withView t i f a n) ids objs kinds
+        view-effect f low u v w =
+            let s = view-set t i f a n in
             record {
               series = es;
               first = ef;
-              size = stored-size t c a n;
+              size = s .size;
               others = λ j o.
-                  stored t c a n j (λ e. ⊎-elim (λ z. omega (arith, z, e)) (λ z. omega (arith, z, e)) o) (λ e. ⊎-elim (λ z. omega (arith, z, e)) (λ z. omega (arith, z, e)) o);
-              start = stored t c a n (8 * i + 6) (λ e. omega (arith, e)) (λ e. omega (arith, e));
-              count = λ e. still y y′ ei ef (getD (withView t c a n) (8 * i + 7) 0) (stored t c a n (8 * i + 7) (λ f. omega (arith, f)) (λ f. omega (arith, f)) ∙ e);
+                  s .others j (λ e. ⊎-elim (λ z. omega (arith, z, e)) (λ z. omega (arith, z, e)) o) (λ e. ⊎-elim (λ z. omega (arith, z, e)) (λ z. omega (arith, z, e)) o);
+              start = s .others (cellAt i FirstRow) (λ e. omega (arith, e)) (λ e. omega (arith, e));
+              count = λ e. still y y′ ei ef (fieldAt (withView t i f a n) i Count) (s .others (cellAt i Count) (λ h. omega (arith, h)) (λ h. omega (arith, h)) ∙ e);
               identification = u;
               object = v;
               business = w;
             }
 
-        id-effect : {b : List ℕ} → view doc (withView t (8 * i) a n) (8 * i) ≡ b → Effect doc i y t y′ (withView t (8 * i) a n) (b ∷ []) [] []
+        id-effect : {b : List ℕ} → view doc (withView t i Identification a n) i Identification ≡ b → Effect doc i y t y′ (withView t i Identification a n) (b ∷ []) [] []
         id-effect {b} v =
-            view-effect (8 * i) (omega arith) (omega arith) {ids = b ∷ []} {objs = []} {kinds = []} v
-            (other-view doc t (8 * i) a n (8 * i + 2) (λ e. omega (arith, e)) (λ e. omega (arith, e)) (λ e. omega (arith, e)))
-            (other-view doc t (8 * i) a n (8 * i + 4) (λ e. omega (arith, e)) (λ e. omega (arith, e)) (λ e. omega (arith, e)))
+            view-effect Identification (omega arith) {ids = b ∷ []} {objs = []} {kinds = []} v
+            (view-kept doc t i Identification a n i Object (λ e. omega (arith, e)) (λ e. omega (arith, e)) (λ e. omega (arith, e)))
+            (view-kept doc t i Identification a n i BusinessType (λ e. omega (arith, e)) (λ e. omega (arith, e)) (λ e. omega (arith, e)))
 
-        object-effect : {b : List ℕ} → view doc (withView t (8 * i + 2) a n) (8 * i + 2) ≡ b → Effect doc i y t y′ (withView t (8 * i + 2) a n) [] (b ∷ []) []
+        object-effect : {b : List ℕ} → view doc (withView t i Object a n) i Object ≡ b → Effect doc i y t y′ (withView t i Object a n) [] (b ∷ []) []
         object-effect {b} v =
-            view-effect (8 * i + 2) (omega arith) (omega arith) {ids = []} {objs = b ∷ []} {kinds = []}
-            (other-view doc t (8 * i + 2) a n (8 * i) (λ e. omega (arith, e)) (λ e. omega (arith, e)) (λ e. omega (arith, e))) v
-            (other-view doc t (8 * i + 2) a n (8 * i + 4) (λ e. omega (arith, e)) (λ e. omega (arith, e)) (λ e. omega (arith, e)))
+            view-effect Object (omega arith) {ids = []} {objs = b ∷ []} {kinds = []}
+            (view-kept doc t i Object a n i Identification (λ e. omega (arith, e)) (λ e. omega (arith, e)) (λ e. omega (arith, e))) v
+            (view-kept doc t i Object a n i BusinessType (λ e. omega (arith, e)) (λ e. omega (arith, e)) (λ e. omega (arith, e)))
 
-        business-effect : {b : List ℕ} → view doc (withView t (8 * i + 4) a n) (8 * i + 4) ≡ b → Effect doc i y t y′ (withView t (8 * i + 4) a n) [] [] (b ∷ [])
+        business-effect : {b : List ℕ} → view doc (withView t i BusinessType a n) i BusinessType ≡ b → Effect doc i y t y′ (withView t i BusinessType a n) [] [] (b ∷ [])
         business-effect {b} v =
-            view-effect (8 * i + 4) (omega arith) (omega arith) {ids = []} {objs = []} {kinds = b ∷ []}
-            (other-view doc t (8 * i + 4) a n (8 * i) (λ e. omega (arith, e)) (λ e. omega (arith, e)) (λ e. omega (arith, e)))
-            (other-view doc t (8 * i + 4) a n (8 * i + 2) (λ e. omega (arith, e)) (λ e. omega (arith, e)) (λ e. omega (arith, e))) v
+            view-effect BusinessType (omega arith) {ids = []} {objs = []} {kinds = b ∷ []}
+            (view-kept doc t i BusinessType a n i Identification (λ e. omega (arith, e)) (λ e. omega (arith, e)) (λ e. omega (arith, e)))
+            (view-kept doc t i BusinessType a n i Object (λ e. omega (arith, e)) (λ e. omega (arith, e)) (λ e. omega (arith, e))) v
 
-pub cell-at : (n i k : ℕ) → n ≡ suc i → cell n k ≡ 8 * i + k
-unfolding cell
-cell-at n i k e = let d : n - 1 ≡ i = omega (arith, e) in ap (λ (m : ℕ). 8 * m + k) d
-
-cell-first : (n i : ℕ) → n ≡ suc i → cell n 0 ≡ 8 * i
-cell-first n i e = let d = cell-at n i 0 e in omega (arith, d)
+last-row : {n i : ℕ} → n ≡ suc i → n - 1 ≡ i
+last-row e = omega (arith, e)
 
 module _ (kind : ℕ) (doc : List ℕ) where
   pub step-effect : (w q i : ℕ) (x : Placed) (y : Tally) (t : List ℕ) → Role (roleOf w) → (roleOf w ≡ 2 → ⊥) → (6 ≤ roleOf w → there (spanOf (x .item)) ≡ true)
-      → x .rest ≡ drop (x .at) doc → y .series ≡ suc i → 8 * i + 8 ≤ length t
+      → x .rest ≡ drop (x .at) doc → y .series ≡ suc i → cellsOf (i + 1) ≤ length t
       → Effect doc i y t (opened w (saidOf x) y)
       (seriesAfter (x .at) (spanOf (x .item)) (x .rest) (stateOf kind q true (opened w (saidOf x) y)) (entryOf (roleOf w) (positionOf (saidOf x))) t)
       (map valueBytes (own (hasRole 8 w) (saidOf x))) (map valueBytes (own (hasRole 6 w) (saidOf x))) (map trimmedBytes (own (hasRole 7 w) (saidOf x)))
-  unfolding seriesAfter entryOf stateOf
+  unfolding seriesAfter seriesWith broughtBy fieldAfter entryOf stateOf
   step-effect w q i x y t (is-series e) n v s a l = absurd (n e)
-  step-effect w q i x y t (is-interval e) n v s a l = rw (e, cell-at (y .series) i 7 a) (interval-effect refl refl l)
+  step-effect w q i x y t (is-interval e) n v s a l = rw (e, last-row a) (interval-effect refl refl l)
   step-effect w q i x y t (is-object e) n v s a l =
-      rw (e, cell-at (y .series) i 2 a) (object-effect refl refl refl (x .at + spanOf (x .item) .start) (spanOf (x .item) .len) (whole-view doc x s (v (omega (arith, e))) t (8 * i + 2) (omega (arith, l))))
+      rw (e, last-row a) (object-effect refl refl refl (x .at + spanOf (x .item) .start) (spanOf (x .item) .len) (whole-view doc x s (v (omega (arith, e))) t i Object (omega (arith, l))))
   step-effect w q i x y t (is-business e) n v s a l =
-      rw (e, cell-at (y .series) i 4 a) (business-effect refl refl refl (x .at + spanOf (x .item) .start + run space (quoted (spanOf (x .item)) (x .rest)))
-      (length (dropped (quoted (spanOf (x .item)) (x .rest)))) (trimmed-view doc x s (v (omega (arith, e))) t (8 * i + 4) (omega (arith, l))))
+      rw (e, last-row a) (business-effect refl refl refl (x .at + spanOf (x .item) .start + run space (quoted (spanOf (x .item)) (x .rest)))
+      (length (dropped (quoted (spanOf (x .item)) (x .rest)))) (trimmed-view doc x s (v (omega (arith, e))) t i BusinessType (omega (arith, l))))
   step-effect w q i x y t (is-id e) n v s a l =
-      rw (e, cell-first (y .series) i a) (id-effect refl refl refl (x .at + spanOf (x .item) .start) (spanOf (x .item) .len) (whole-view doc x s (v (omega (arith, e))) t (8 * i) (omega (arith, l))))
+      rw (e, last-row a) (id-effect refl refl refl (x .at + spanOf (x .item) .start) (spanOf (x .item) .len) (whole-view doc x s (v (omega (arith, e))) t i Identification (omega (arith, l))))
   step-effect w q i x y t (is-pos e) n v s a l = rw e (kept-effect refl refl refl)
   step-effect w q i x y t (is-qty e) n v s a l = rw e (kept-effect refl refl refl)
   step-effect w q i x y t (is-other b c d e f g h) n v s a l = simp (b, c, d, e, f, g, h) (kept-effect refl refl refl)
@@ -199,7 +187,7 @@ module _ (kind : ℕ) (rows : List ℕ) (p : ℕ) (L : Layout rows p) (W : Value
   no-series h q a b l e = let d = L .only-series q l e in omega (arith, a, b, d)
 
   pub inside : (kids : Trees Placed) (h i : ℕ) (y : Tally) (t : Tables) → 12 ≤ h → h < length rows → Stand rows h (rowsTaken kids) → EachConforms rows kids
-      → Stands doc kids → HasValues rows kids → y .series ≡ suc i → 8 * i + 8 ≤ length (t .series)
+      → Stands doc kids → HasValues rows kids → y .series ≡ suc i → cellsOf (i + 1) ≤ length (t .series)
       → Effect doc i y (t .series) (walked rows (saying kids) y) (filled kind rows kids y t .series)
       (identifications rows (saying kids)) (objects rows (saying kids)) (businessTypes rows (saying kids))
   unfolding walked filled saying rowsTaken Stand EachConforms HasValues Stands tablesAfter identifications objects businessTypes those

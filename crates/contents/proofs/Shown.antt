@@ -1,6 +1,6 @@
 -- The tables that a conforming content fills show it: a row for each series, and a position and an amount for each interval.
 -- Assumes nothing.
-use Prim.Native.Nat.{ℕ, _+_, _*_, _≤_}
+use Prim.Native.Nat.{ℕ, _+_, _≤_}
 use mathlib.Core.Path.{_≡_, refl, sym, ap, _∙_}
 use mathlib.Core.List.{List, map}
 use mathlib.Core.Bool.{true, false}
@@ -11,6 +11,7 @@ use lib.ListN.{length, getD, take, length-replicate}
 use Rattle.lists.specs.Zeros.{zeros}
 use Rattle.columns.specs.Columns.{roleOf}
 use Rattle.reader.specs.Items.{Placed}
+use Rattle.series.specs.Row.{cellsOf}
 use Rattle.reader.specs.Reading.{blank, tablesAfter}
 use Rattle.trees.specs.Trees.{Trees, none, element, EachConforms, Conforms}
 use Rattle.contents.specs.Said.{Said}
@@ -80,7 +81,7 @@ module _ (kind : ℕ) (rows : List ℕ) (p : ℕ) (L : Layout rows p) (W : Value
         ap (λ (l : List ℤ). getD l j (pos 0)) (k .amounts) ∙ sets-shown (pos 0) na (map amountIn (those (hasRole 10) rows (saying kids))) (omega (arith, m, h)) j
 
   root-filled : (x : Placed) (inner : Trees Placed) → Conforms rows 0 (element 1 x inner none) → Stands doc (element 1 x inner none)
-      → HasValues rows (element 1 x inner none) → 8 * seriesIn kind rows p L W doc (element 1 x inner none) ≤ ns
+      → HasValues rows (element 1 x inner none) → cellsOf (seriesIn kind rows p L W doc (element 1 x inner none)) ≤ ns
       → Filled doc 0 0 (zeros ns) (filled kind rows (element 1 x inner none) nothing (blank ns np na) .series) (length (those (hasRole 2) rows (saying (element 1 x inner none))))
       (identifications rows (saying (element 1 x inner none))) (objects rows (saying (element 1 x inner none))) (businessTypes rows (saying (element 1 x inner none)))
       (intervalCounts rows (saying (element 1 x inner none)))
@@ -101,14 +102,14 @@ module _ (kind : ℕ) (rows : List ℕ) (p : ℕ) (L : Layout rows p) (W : Value
       (series-filled kind rows p L W doc inner y t (c .each .0 .stand) (c .each .1) (d .2) (g .1) (omega (arith, m, room, len, a₀))
       (λ j l. ap (λ (k : List ℕ). getD k j 0) z ∙ zero-all 0 ns j))
 
-  shown-series : (kids : Trees Placed) → Conforms rows 0 kids → Stands doc kids → HasValues rows kids → 8 * length (those (hasRole 2) rows (saying kids)) ≤ ns
+  shown-series : (kids : Trees Placed) → Conforms rows 0 kids → Stands doc kids → HasValues rows kids → cellsOf (length (those (hasRole 2) rows (saying kids))) ≤ ns
       → Filled doc 0 0 (zeros ns) (filled kind rows kids nothing (blank ns np na) .series) (length (those (hasRole 2) rows (saying kids)))
       (identifications rows (saying kids)) (objects rows (saying kids)) (businessTypes rows (saying kids)) (intervalCounts rows (saying kids))
   shown-series kids c d g room =
       let h = document-shape rows p L kids c in
       rw (h .is) (root-filled (h .tag) (h .inner) (rw (h .is) at c) (rw (h .is) at d) (rw (h .is) at g) (rw (h .is) at room))
 
-  pub shows : (kids : Trees Placed) → Conforms rows 0 kids → Stands doc kids → HasValues rows kids → 8 * length (those (hasRole 2) rows (saying kids)) ≤ ns
+  pub shows : (kids : Trees Placed) → Conforms rows 0 kids → Stands doc kids → HasValues rows kids → cellsOf (length (those (hasRole 2) rows (saying kids))) ≤ ns
       → length (those (hasRole 4) rows (saying kids)) ≤ np → length (those (hasRole 4) rows (saying kids)) ≤ na
       → Shows doc (filled kind rows kids nothing (blank ns np na)) rows (saying kids)
   shows kids c d g a b e =

@@ -1,6 +1,6 @@
 -- A document is accepted exactly where it spells a legal content; answer and tables are those of the content, and no other content is spelled.
 -- Assumes nothing.
-use Prim.Native.Nat.{ℕ, _+_, _*_, _/_, _≤_, _<_}
+use Prim.Native.Nat.{ℕ, _+_, _≤_, _<_}
 use mathlib.Core.Path.{_≡_, refl, sym, ap, subst, _∙_}
 use mathlib.Core.List.{List, _∷_, map}
 use mathlib.Core.Logic.{_⊎_, inl, inr, ⊎-elim}
@@ -11,7 +11,7 @@ use lib.Dec.{leb}
 use lib.ListN.{length, getD, length-replicate}
 use lib.IntN.{pos}
 use borrow.Author.Tests.{le-ltb}
-use Rattle.lists.proofs.Cases.{leb-cases}
+use Rattle.lists.proofs.Cases.{leb-cases, never}
 use Rattle.slices.specs.Same.{same}
 use Rattle.elements.specs.Names.{names, numberIn, elementNo}
 use Rattle.structure.specs.Rows.{nameOf}
@@ -32,7 +32,11 @@ use Rattle.trees.proofs.Theorems.{one-tree}
 use Rattle.contents.specs.Said.{Said}
 use Rattle.contents.specs.Spelled.{signsOf, Spells, Alike}
 use Rattle.contents.specs.Legal.{periodOf, quartersOf, Legal, HasRoom}
-use Rattle.contents.specs.Shown.{Shows, RowShows, Tells, SameButPlaces, view}
+use Rattle.contents.specs.Shown.{Shows, RowShows, Tells, SameButPlaces}
+use Rattle.series.specs.Row.{isView, cellsOf, rowsIn, fieldAt, view}
+use Rattle.series.specs.declared.Field.{Field}
+use Rattle.series.specs.declared.Field.the-variants.{Identification, Object, BusinessType, FirstRow, Count}
+use Rattle.series.proofs.Rows.{rows-fit}
 use Rattle.contents.proofs.Laid.{Known, laid}
 use Rattle.contents.proofs.Shape.{document-shape}
 use Rattle.contents.proofs.Walk.{nothing, walked}
@@ -52,18 +56,18 @@ unfolding roomIn blank
 blank-room ns np na = rw (length-replicate {A = ℕ} ns 0, length-replicate {A = ℕ} np 0, length-replicate na (pos 0)) refl
 
 -- room for rows is room for their cells
-pub room-cells : (ns np na n m : ℕ) → n ≤ roomOf ns np na .series → m ≤ roomOf ns np na .intervals → (8 * n ≤ ns) × (m ≤ np) × (m ≤ na)
+pub room-cells : (ns np na n m : ℕ) → n ≤ roomOf ns np na .series → m ≤ roomOf ns np na .intervals → (cellsOf n ≤ ns) × (m ≤ np) × (m ≤ na)
 unfolding roomOf
 room-cells ns np na n m a b =
     ⊎-elim
     (λ (y : (np ≤ na) × (leb np na ≡ true)).
-    let c : n ≤ ns / 8 = rw (y .1) at a in
+    let c : n ≤ rowsIn ns = rw (y .1) at a in
     let d : m ≤ np = rw (y .1) at b in
-    (omega arith, d, omega (arith, d, y .0)))
+    (rows-fit n ns c, d, omega (arith, d, y .0)))
     (λ (y : (na < np) × (leb np na ≡ false)).
-    let c : n ≤ ns / 8 = rw (y .1) at a in
+    let c : n ≤ rowsIn ns = rw (y .1) at a in
     let d : m ≤ na = rw (y .1) at b in
-    (omega arith, omega (arith, d, y .0), d))
+    (rows-fit n ns c, omega (arith, d, y .0), d))
     (leb-cases np na)
 
 module _ (doc : List ℕ) (ns np na nb : ℕ) (wide : 16 ≤ nb) (small : length doc ≤ 1048576) where
@@ -81,7 +85,7 @@ module _ (doc : List ℕ) (ns np na nb : ℕ) (wide : 16 ≤ nb) (small : length
   outcome-is n e z =
       let i = into n e in
       sym (read-noted doc ns np na nb wide)
-      ∙ ap (noted nb) (sym (sheet-taken doc ns np na small (ap (λ (o : Out). o .found .refusal) i ∙ z)) ∙ i)
+      ∙ ap (noted nb) (sym (sheet-taken doc ns np na refl small refl (ap (λ (o : Out). o .found .refusal) i ∙ z)) ∙ i)
 
   sheet-found : readSheet doc ns np na .found ≡ readInto doc (blank ns np na) .found
   unfolding readSheet orBlank
@@ -250,19 +254,19 @@ module _ (x y : List ℕ) (o u : Outcome) (kind : ℕ) (c : Trees Said) (t : Tel
   row : (i : ℕ) → i < o .answer .series → RowShows x (o .tables .series) (rowsOf kind) c i × RowShows y (u .tables .series) (rowsOf kind) c i
   row i l = let l′ = rw (t .series) at l in (t .tables .series i l′, v .tables .series i l′)
 
-  views-same : (i : ℕ) → i < o .answer .series → (j : ℕ) → (j ≡ 0) ⊎ ((j ≡ 2) ⊎ (j ≡ 4))
-      → view x (o .tables .series) (8 * i + j) ≡ view y (u .tables .series) (8 * i + j)
-  views-same i l j (inl e) =
-      let r = row i l in
-      let z : 8 * i + j ≡ 8 * i = omega (arith, e) in
-      rw z (r .0 .identification ∙ sym (r .1 .identification))
-  views-same i l j (inr (inl e)) = let r = row i l in rw e (r .0 .object ∙ sym (r .1 .object))
-  views-same i l j (inr (inr e)) = let r = row i l in rw e (r .0 .businessType ∙ sym (r .1 .businessType))
+  views-same : (i : ℕ) → i < o .answer .series → (f : Field) → isView f ≡ true → view x (o .tables .series) i f ≡ view y (u .tables .series) i f
+  views-same i l Identification e = let r = row i l in r .0 .identification ∙ sym (r .1 .identification)
+  views-same i l Object e = let r = row i l in r .0 .object ∙ sym (r .1 .object)
+  views-same i l BusinessType e = let r = row i l in r .0 .businessType ∙ sym (r .1 .businessType)
+  views-same i l FirstRow e = never e
+  views-same i l Count e = never e
 
-  counts-same : (i : ℕ) → i < o .answer .series → (j : ℕ) → (j ≡ 6) ⊎ (j ≡ 7)
-      → getD (o .tables .series) (8 * i + j) 0 ≡ getD (u .tables .series) (8 * i + j) 0
-  counts-same i l j (inl e) = let r = row i l in rw e (r .0 .first ∙ sym (r .1 .first))
-  counts-same i l j (inr e) = let r = row i l in rw e (r .0 .count ∙ sym (r .1 .count))
+  counts-same : (i : ℕ) → i < o .answer .series → (f : Field) → isView f ≡ false → fieldAt (o .tables .series) i f ≡ fieldAt (u .tables .series) i f
+  counts-same i l Identification e = never (sym e)
+  counts-same i l Object e = never (sym e)
+  counts-same i l BusinessType e = never (sym e)
+  counts-same i l FirstRow e = let r = row i l in r .0 .first ∙ sym (r .1 .first)
+  counts-same i l Count e = let r = row i l in r .0 .count ∙ sym (r .1 .count)
 
   same-told : SameButPlaces x o y u
   same-told =

@@ -1,15 +1,17 @@
 -- What the answer and the tables show of a content.
-use Prim.Native.Nat.{ℕ, _+_, _*_, _<_}
+use Prim.Native.Nat.{ℕ, _+_, _<_}
 use mathlib.Core.Path.{_≡_}
 use mathlib.Core.List.{List, [], _∷_, map}
-use mathlib.Core.Logic.{_⊎_}
+use mathlib.Core.Bool.{true, false}
 use lib.IntN.{ℤ, pos}
 use lib.ListN.{length, getD, take}
 use Rattle.characters.specs.Says.{says}
-use Rattle.attributes.specs.Attribute.{partOf}
 use Rattle.trims.specs.Trim.{dropped}
 use Rattle.numbers.specs.Amount.{amountOf}
 use Rattle.columns.specs.Columns.{seriesRole, intervalRole, objectRole, businessRole, posRole, qtyRole}
+use Rattle.series.specs.Row.{isView, fieldAt, view}
+use Rattle.series.specs.declared.Field.{Field}
+use Rattle.series.specs.declared.Field.the-variants.{Identification, Object, BusinessType, FirstRow, Count}
 use Rattle.reader.specs.Rows.{thousandthsOf}
 use Rattle.guideline.specs.Rows.{rowsOf}
 use Rattle.reader.specs.Reading.{Tables}
@@ -38,18 +40,14 @@ module _ (rows : List ℕ) (c : Trees Said) where
   unfoldable pub intervalCounts : List ℕ
   intervalCounts = map (λ (s : Trees Said). length (those (hasRole intervalRole) rows s)) (inEach (hasRole seriesRole) rows c)
 
--- the part of the document whose start and length two cells have
-unfoldable pub view : List ℕ → List ℕ → ℕ → List ℕ
-view doc cells i = partOf doc (getD cells i 0) (getD cells (i + 1) 0)
-
 -- "A series takes eight u32 numbers ..: start and length of its TimeSeriesIdentification; of its object ..; of its BusinessType, spaces dropped; its first
 -- interval row; its interval count." Row i is of series i
 pub record RowShows (doc cells : List ℕ) (rows : List ℕ) (c : Trees Said) (i : ℕ) : Type 0 where
-  pub identification : view doc cells (8 * i) ≡ getD (identifications rows c) i []
-  pub object : view doc cells (8 * i + 2) ≡ getD (objects rows c) i []
-  pub businessType : view doc cells (8 * i + 4) ≡ getD (businessTypes rows c) i []
-  pub first : getD cells (8 * i + 6) 0 ≡ sum (take i (intervalCounts rows c))
-  pub count : getD cells (8 * i + 7) 0 ≡ getD (intervalCounts rows c) i 0
+  pub identification : view doc cells i Identification ≡ getD (identifications rows c) i []
+  pub object : view doc cells i Object ≡ getD (objects rows c) i []
+  pub businessType : view doc cells i BusinessType ≡ getD (businessTypes rows c) i []
+  pub first : fieldAt cells i FirstRow ≡ sum (take i (intervalCounts rows c))
+  pub count : fieldAt cells i Count ≡ getD (intervalCounts rows c) i 0
 
 -- "Intervals take one position and one amount at the same index .. Rows come in document order. Cells past the last row are 0."
 pub record Shows (doc : List ℕ) (t : Tables) (rows : List ℕ) (c : Trees Said) : Type 0 where
@@ -73,8 +71,7 @@ pub record SameButPlaces (x : List ℕ) (o : Outcome) (y : List ℕ) (u : Outcom
   pub series : o .answer .series ≡ u .answer .series
   pub intervals : o .answer .intervals ≡ u .answer .intervals
   pub quarters : o .answer .quarters ≡ u .answer .quarters
-  pub views : (i : ℕ) → i < o .answer .series → (j : ℕ) → (j ≡ 0) ⊎ ((j ≡ 2) ⊎ (j ≡ 4))
-      → view x (o .tables .series) (8 * i + j) ≡ view y (u .tables .series) (8 * i + j)
-  pub counts : (i : ℕ) → i < o .answer .series → (j : ℕ) → (j ≡ 6) ⊎ (j ≡ 7) → getD (o .tables .series) (8 * i + j) 0 ≡ getD (u .tables .series) (8 * i + j) 0
+  pub views : (i : ℕ) → i < o .answer .series → (f : Field) → isView f ≡ true → view x (o .tables .series) i f ≡ view y (u .tables .series) i f
+  pub counts : (i : ℕ) → i < o .answer .series → (f : Field) → isView f ≡ false → fieldAt (o .tables .series) i f ≡ fieldAt (u .tables .series) i f
   pub positions : (j : ℕ) → getD (o .tables .positions) j 0 ≡ getD (u .tables .positions) j 0
   pub amounts : (j : ℕ) → getD (o .tables .amounts) j (pos 0) ≡ getD (u .tables .amounts) j (pos 0)

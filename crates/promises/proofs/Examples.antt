@@ -38,7 +38,8 @@ use Rattle.states.specs.Attributes.{valueOf, schemeRefusal, least, alsoScheme, 
 use Rattle.states.specs.Moves.{oneMore, oneSeries, oneInterval, oneOriginal, lastPos, covering, closedAt, endRefusal, endedAt as tagEnded, ended, begun, heldOf, cutShort, tooMany, noRoom, halfOriginals, valuesJudged, judgedAt, startJudged, placed, kept, entered, entryOf, startedBy, startedAt, started, countRefusal, moved, rootKind, kindTold, step}
 use Rattle.notes.specs.Note.{groupsIn, flat, wrote, left}
 use Rattle.reader.specs.Items.{itemsAfter, itemsFrom}
-use Rattle.reader.specs.Rows.{quoted, cell, withView, thousandthsOf, identificationAt, used, spanOf, seriesAfter, positionsAfter, amountsAfter, usedBefore}
+use Rattle.series.specs.Row.{withView, view}
+use Rattle.reader.specs.Rows.{quoted, thousandthsOf, used, usedIn, usedWith, spanOf, broughtBy, fieldAfter, seriesWith, positionsWith, amountsWith, seriesAfter, positionsAfter, amountsAfter, usedBefore}
 use Rattle.reader.specs.Reading.{acceptedAt, blank, roomOf, refusedAt, endedAt, withoutUsed, stepOf, tablesAfter, readItems, roomIn, itemsRead, readAfter, readInto, orBlank, readSheet}
 use Rattle.reader.specs.Answer.{Outcome, noteFor, answerOf, told, noted, readOf}
 use mathlib.Core.Bool.{true}
@@ -65,8 +66,9 @@ unfolding byte run same begins walk seqLen control single charAt saidBy saidAt s
     collapsed formOf schemeOf roleOf noKind kindOne kindTwo kindAt withinMost takesAnother kindOf hasEnough beschaffungsanforderung kostenblatt rowsOf valueOf schemeRefusal least
     alsoScheme there agree asksV asksScheme noOthers attributesFit judgeTag oneMore oneSeries oneInterval oneOriginal lastPos covering closedAt
     endRefusal tagEnded ended begun heldOf cutShort tooMany noRoom halfOriginals valuesJudged judgedAt startJudged placed kept entered entryOf
-    startedBy startedAt started countRefusal moved rootKind kindTold step groupsIn flat wrote left itemsAfter itemsFrom quoted cell
-    withView thousandthsOf identificationAt used spanOf seriesAfter positionsAfter amountsAfter usedBefore acceptedAt blank roomOf refusedAt
+    startedBy startedAt started countRefusal moved rootKind kindTold step groupsIn flat wrote left itemsAfter itemsFrom quoted
+    withView view thousandthsOf used usedIn usedWith spanOf broughtBy fieldAfter seriesWith positionsWith
+    amountsWith seriesAfter positionsAfter amountsAfter usedBefore acceptedAt blank roomOf refusedAt
     endedAt withoutUsed stepOf tablesAfter readItems roomIn itemsRead readAfter readInto orBlank readSheet noteFor answerOf told noted readOf
 computed = (refl, refl)
 

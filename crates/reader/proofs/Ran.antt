@@ -25,9 +25,9 @@ use Rattle.states.specs.declared.Entry.the-variants.{Nothing}
 use Rattle.states.specs.declared.Step.{Step}
 use Rattle.states.specs.declared.Step.the-variants.{Next, Refused}
 use Rattle.reader.specs.Items.{Placed, placed, itemsAfter, itemsFrom, passed}
-use Rattle.reader.specs.Rows.{spanOf, seriesAfter, positionsAfter, amountsAfter, usedBefore}
+use Rattle.reader.specs.Rows.{broughtBy, seriesWith, positionsWith, amountsWith, seriesAfter, positionsAfter, amountsAfter, usedWith, usedBefore}
 use Rattle.reader.specs.declared.Found.{Found}
-use Rattle.reader.specs.Reading.{Tables, roomIn, refusedAt, endedAt, withoutUsed, stepOf, tablesAfter, readItems, itemsRead}
+use Rattle.reader.specs.Reading.{Tables, tab, out, roomIn, refusedAt, endedAt, withoutUsed, stepOf, tablesAfter, readItems, itemsRead}
 
 skip : (k at : ℕ) (l : List ℕ) → itemsAfter k at l ≡ itemsAfter 0 (at + k) (drop k l)
 unfolding itemsAfter
@@ -67,10 +67,6 @@ module _ (doc : List ℕ) (room : Room) (p : Placed) (xs : List Placed) (st : St
   unfolding readItems
   read-stop n q = rw (readItems, q)
 
--- the tables as the code has them
-abbrev pub tab : List ℕ → List ℕ → List ℤ → Tables
-tab ser pos ams = record { series = ser; positions = pos; amounts = ams }
-
 -- what is left of the items at the place `at` comes to what all of them come to
 pub record Ran (doc : List ℕ) (from : ℕ) (t : Tables) (rows : List ℕ) (room : Room) (ser pos : List ℕ) (ams : List ℤ) (st : State) (at : ℕ) : Type 0 where
   pub all : rows ≡ everyRow
@@ -102,7 +98,7 @@ still st (Unreadable p) w s room = never w
 
 module _ {doc : List ℕ} {from : ℕ} {t : Tables} {rows : List ℕ} {room : Room} {ser pos : List ℕ} {ams : List ℤ} {st : State} {at : ℕ}
     (r : Ran doc from t rows room ser pos ams st at) where
-  pub ran-end : length doc ≤ at → {f : Found} → f ≡ endedAt (rowsIn rows (st .kind)) (length doc) st → record { found = f; tables = tab ser pos ams } ≡ itemsRead doc from t
+  pub ran-end : length doc ≤ at → {f : Found} → f ≡ endedAt (rowsIn rows (st .kind)) (length doc) st → out f ser pos ams ≡ itemsRead doc from t
   unfolding readItems
   ran-end h e = rw (e, r .all, rows-in (st .kind)) (sym (ap (λ (xs : List Placed). readItems doc (roomIn t) xs st (tab ser pos ams)) (items-over doc at h)) ∙ r .left)
 
@@ -116,7 +112,7 @@ module _ {doc : List ℕ} {from : ℕ} {t : Tables} {rows : List ℕ} {room : Ro
     turn ey = sym (rw (r .all, step-rows st x s room, r .rooms, ex, es) at ey)
 
     pub ran-stop : {y : Step} {n : ℕ} → y ≡ withoutUsed doc ser x s (stepBy st rows x s room) → y ≡ Refused n
-        → record { found = refusedAt n at st; tables = tab ser pos ams } ≡ itemsRead doc from t
+        → out (refusedAt n at st) ser pos ams ≡ itemsRead doc from t
     ran-stop {y} {n} ey q =
         sym (read-stop doc (roomIn t) (placed at (drop at doc)) (itemsFrom doc (at + itemEnd x)) st (tab ser pos ams) n (turn ey ∙ q))
         ∙ sym (ap (λ (xs : List Placed). readItems doc (roomIn t) xs st (tab ser pos ams)) ahead)
@@ -124,11 +120,10 @@ module _ {doc : List ℕ} {from : ℕ} {t : Tables} {rows : List ℕ} {room : Ro
 
     pub ran-next : {y : Step} {st′ : State} {e : Entry} {ser′ pos′ : List ℕ} {ams′ : List ℤ} → y ≡ withoutUsed doc ser x s (stepBy st rows x s room) → y ≡ Next st′ e
         → length ser′ ≡ length ser → length pos′ ≡ length pos → length ams′ ≡ length ams
-        → ser′ ≡ seriesAfter at (spanOf x) s st′ e ser → pos′ ≡ positionsAfter st′ e pos → ams′ ≡ amountsAfter (spanOf x) s st′ e ams
+        → tab ser′ pos′ ams′ ≡ tablesAfter (record { at = at; item = x; rest = s }) st′ e (tab ser pos ams)
         → Ran doc from t rows room ser′ pos′ ams′ st′ (at + itemEnd x)
-    unfolding tablesAfter
-    ran-next {y} {st′} {e} {ser′} {pos′} {ams′} ey q ls lp la qs qp qa =
-        let et : tab ser′ pos′ ams′ ≡ tablesAfter (placed at (drop at doc)) st′ e (tab ser pos ams) = rw (qs, qp, qa) (rw (ex, es) refl) in
+    ran-next {y} {st′} {e} {ser′} {pos′} {ams′} ey q ls lp la qt =
+        let et : tab ser′ pos′ ams′ ≡ tablesAfter (placed at (drop at doc)) st′ e (tab ser pos ams) = qt ∙ rw (ex, es) refl in
         record {
           all = r .all;
           rooms = r .rooms;
@@ -144,12 +139,12 @@ module _ {doc : List ℕ} {from : ℕ} {t : Tables} {rows : List ℕ} {room : Ro
 
     -- an item that is passed over
     pub ran-pass : passed x ≡ true → Ran doc from t rows room ser pos ams st (at + itemEnd x)
-    unfolding withoutUsed usedBefore seriesAfter positionsAfter amountsAfter
-    ran-pass w = ran-next {y = Next st Nothing} (rw (r .all, step-rows st x s room, still st x w s room) refl) refl refl refl refl refl refl refl
+    unfolding withoutUsed usedBefore usedWith tablesAfter seriesAfter seriesWith positionsAfter positionsWith amountsAfter amountsWith broughtBy
+    ran-pass w = ran-next {y = Next st Nothing} (rw (r .all, step-rows st x s room, still st x w s room) refl) refl refl refl refl refl
 
   -- "An item is either one of five kinds or a refusal with its place": the loop returns with that place
   pub ran-unread : {s : List ℕ} {x : Item} {p : ℕ} → at < length doc → s ≡ drop at doc → x ≡ item at s → 1 ≤ itemEnd x → x ≡ Unreadable p
-      → (p ≡ at) × (record { found = refusedAt 2 p st; tables = tab ser pos ams } ≡ itemsRead doc from t)
+      → (p ≡ at) × (out (refusedAt 2 p st) ser pos ams ≡ itemsRead doc from t)
   unfolding withoutUsed At
   ran-unread {s} {x} {p} h es ex m q =
       let k : p ≡ at = rw (sym ex ∙ q) at (item-placed at s) in

@@ -1,5 +1,5 @@
 -- The items from front to back: "The first item with a fault decides; where it has several, the smallest number."
-use Prim.Native.Nat.{ℕ, _/_}
+use Prim.Native.Nat.{ℕ}
 use mathlib.Core.List.{List, [], _∷_}
 use mathlib.Core.Bool.{cond}
 use lib.IntN.{ℤ}
@@ -11,6 +11,7 @@ use Rattle.prolog.specs.Prolog.{begin}
 use Rattle.prolog.specs.declared.Begin.{Begin}
 use Rattle.prolog.specs.declared.Begin.the-variants.{From, Unreadable}
 use Rattle.tables.specs.Cells.{noAmounts}
+use Rattle.series.specs.Row.{rowsIn}
 use Rattle.structure.specs.Rows.{overOf}
 use Rattle.guideline.specs.Rows.{rowsOf}
 use Rattle.states.specs.Moves.{begun, step}
@@ -29,13 +30,19 @@ pub record Tables : Type 0 where
   pub positions : List ℕ
   pub amounts : List ℤ
 
+abbrev pub tab : List ℕ → List ℕ → List ℤ → Tables
+tab series positions amounts = record { series = series; positions = positions; amounts = amounts }
+
 -- with all cells 0
 unfoldable pub blank : ℕ → ℕ → ℕ → Tables
 blank ns np na = record { series = zeros ns; positions = zeros np; amounts = noAmounts na }
 
+abbrev pub blankAs : Tables → Tables
+blankAs t = blank (length (t .series)) (length (t .positions)) (length (t .amounts))
+
 -- "Room for series is the table length divided by 8, rounded down. Intervals take one position and one amount at the same index; room is the shorter length."
 unfoldable pub roomOf : ℕ → ℕ → ℕ → Room
-roomOf ns np na = cond (leb np na) (record { series = ns / 8; intervals = np }) (record { series = ns / 8; intervals = na })
+roomOf ns np na = cond (leb np na) (record { series = rowsIn ns; intervals = np }) (record { series = rowsIn ns; intervals = na })
 
 -- "Kind is that of a root start standing in an item before the faulty one, else 0. Series and intervals count their start tags in items before
 -- the faulty one."; "N (0 on every refusal)"
@@ -74,6 +81,9 @@ pub record Out : Type 0 where
   pub found : Found
   pub tables : Tables
 
+abbrev pub out : Found → List ℕ → List ℕ → List ℤ → Out
+out found series positions amounts = record { found = found; tables = tab series positions amounts }
+
 -- the items that are left, in a state, with the tables so far
 unfoldable pub readItems : List ℕ → Room → List Placed → State → Tables → Out
 readItems doc room [] st t = record { found = endedAt (rowsOf (st .kind)) (length doc) st; tables = t }
@@ -106,3 +116,7 @@ orBlank ns np na o = record { found = o .found; tables = cond (eqb (o .found .re
 unfoldable pub readSheet : List ℕ → ℕ → ℕ → ℕ → Out
 readSheet doc ns np na =
     orBlank ns np na (cond (ltb 1048576 (length doc)) (record { found = refusedAt 1 0 begun; tables = blank ns np na }) (readInto doc (blank ns np na)))
+
+-- into tables of these lengths
+abbrev pub sheetInto : List ℕ → Tables → Out
+sheetInto doc t = readSheet doc (length (t .series)) (length (t .positions)) (length (t .amounts))

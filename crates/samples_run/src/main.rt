@@ -5,6 +5,7 @@
 mod sums;
 
 use reader::Answer;
+use series::WIDTH;
 use slices::first_at;
 use slices::front;
 use sums::sum_of_amounts;
@@ -37,7 +38,7 @@ fn print_digits(s: &[u8]) {
 }
 
 fn run_document(doc: &[u8]) {
-    let mut series = [7u32; 512];
+    let mut series = [7u32; 64 * WIDTH];
     let mut positions = [7u32; 2048];
     let mut amounts = [7i64; 2048];
     let mut note = [7u8; 16];

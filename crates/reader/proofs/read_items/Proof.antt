@@ -3,8 +3,8 @@ use mathlib.Core.Path.{refl, sym, ap, _∙_}
 use native.Mathlib.Omega.{arith}
 use borrow.Author.Needs.{needs}
 use lib.ListN.{length, length-drop}
-use Rattle.reader.specs.Reading.{Out, roomIn}
-use Rattle.reader.proofs.Ran.{Ran, tab, ran-start, ran-next, ran-pass, ran-stop, ran-unread, ran-end}
+use Rattle.reader.specs.Reading.{tab, roomIn}
+use Rattle.reader.proofs.Ran.{Ran, ran-start, ran-next, ran-pass, ran-stop, ran-unread, ran-end}
 use Rattle.reader.proofs.read_items.Statement.{statement}
 use Rattle.reader.proofs.read_items.Tie as tie
 use Rattle.reader.proofs.read_items.Reads as reads
@@ -13,7 +13,7 @@ use Rattle.guideline.proofs.every_row.Reads as every-row-reads
 use Rattle.guideline.proofs.rows_of.Reads as rows-of-reads
 use Rattle.items.proofs.item_at.Reads as item-at-reads
 use Rattle.reader.proofs.ended_at.Reads as ended-at-reads
-use Rattle.reader.proofs.enter.Reads as enter-reads
+use Rattle.reader.proofs.rows.enter.Reads as enter-reads
 use Rattle.reader.proofs.is_passed.Reads as is-passed-reads
 use Rattle.reader.proofs.item_len.Reads as item-len-reads
 use Rattle.reader.proofs.refused_at.Reads as refused-at-reads
@@ -67,7 +67,7 @@ same-length-3 : tie.Need-same-length-3 Inv-loop μ-loop
 same-length-3 c = c .before .before .before .before .before .before .before .loop .inv .ams-same
 
 returns : tie.Need-returns Inv-loop μ-loop
-returns c = let e = ran-unread (c .before .before .before .before .before .before .before .loop .inv) (c .before .before .before .before .before .before .loop-test .taken) (c .before .before .before .before .before .rest .ensures .0) (c .before .before .before .before .item-at .ensures .0) (c .before .before .before .before .item-at .ensures .1 .0) (c .before .before .item .given .1) .1 in (c .refused-at .ensures ∙ ap (λ (o : Out). o .found) e, (ap (λ (o : Out). o .tables .series) e, (ap (λ (o : Out). o .tables .positions) e, ap (λ (o : Out). o .tables .amounts) e)))
+returns c = rw (c .refused-at .ensures) (ran-unread (c .before .before .before .before .before .before .before .loop .inv) (c .before .before .before .before .before .before .loop-test .taken) (c .before .before .before .before .before .rest .ensures .0) (c .before .before .before .before .item-at .ensures .0) (c .before .before .before .before .item-at .ensures .1 .0) (c .before .before .item .given .1) .1)
 
 is-passed-requires : tie.Need-is-passed-requires Inv-loop μ-loop
 is-passed-requires c κs = search needs
@@ -115,7 +115,7 @@ same-length-6 : tie.Need-same-length-6 Inv-loop μ-loop
 same-length-6 c = c .before .before .before .before .before .before .before .before .before .before .before .before .before .loop .inv .ams-same
 
 returns-2 : tie.Need-returns-2 Inv-loop μ-loop
-returns-2 c = let e = ran-stop (c .before .before .before .before .before .before .before .before .before .before .before .before .before .loop .inv) (c .before .before .before .before .before .before .before .before .before .before .before .before .loop-test .taken) (c .before .before .before .before .before .before .before .before .before .before .before .rest .ensures .0) (c .before .before .before .before .before .before .before .before .before .before .item-at .ensures .0) (c .before .before .before .before .before .before .before .before .before .before .item-at .ensures .1 .0) (c .before .before .before .before .step-in .ensures) (c .before .before .n .given .1) in (c .refused-at2 .ensures ∙ ap (λ (o : Out). o .found) e, (ap (λ (o : Out). o .tables .series) e, (ap (λ (o : Out). o .tables .positions) e, ap (λ (o : Out). o .tables .amounts) e)))
+returns-2 c = rw (c .refused-at2 .ensures) (ran-stop (c .before .before .before .before .before .before .before .before .before .before .before .before .before .loop .inv) (c .before .before .before .before .before .before .before .before .before .before .before .before .loop-test .taken) (c .before .before .before .before .before .before .before .before .before .before .before .rest .ensures .0) (c .before .before .before .before .before .before .before .before .before .before .item-at .ensures .0) (c .before .before .before .before .before .before .before .before .before .before .item-at .ensures .1 .0) (c .before .before .before .before .step-in .ensures) (c .before .before .n .given .1))
 
 item-len-requires-2 : tie.Need-item-len-requires-2 Inv-loop μ-loop
 item-len-requires-2 c κs = search needs
@@ -127,7 +127,7 @@ loop-less-2 : tie.Need-loop-less-2 Inv-loop μ-loop
 loop-less-2 c = let h = c .before .before .before .before .before .before .before .before .before .before .before .before .before .before .before .before .before .before .before .before .before .loop-test .taken in let g = c .before .before .before .before .before .before .before .before .before .before .before .before .before .before .before .before .before .before .before .before .before .before .before .before .before .before .before .before .before .pre in let z = c .before .before .before .before .before .before .before .before .before .before .before .before .before .before .before .before .before .before .before .item-at .ensures .1 in omega (arith, c .item-len2 .ensures, h, g, z .0, z .1, z .2, ap length (c .before .before .before .before .before .before .before .before .before .before .before .before .before .before .before .before .before .before .before .before .rest .ensures .0), length-drop (c .before .before .before .before .before .before .before .before .before .before .before .before .before .before .before .before .before .before .before .before .before .before .loop .at) (c .before .before .before .before .before .before .before .before .before .before .before .before .before .before .before .before .before .before .before .before .before .before .before .before .before .before .before .before .before .args .doc .now))
 
 loop-again-2 : tie.Need-loop-again-2 Inv-loop μ-loop
-loop-again-2 c = rw (c .item-len2 .ensures) (ran-next (c .before .before .before .before .before .before .before .before .before .before .before .before .before .before .before .before .before .before .before .before .before .before .loop .inv) (c .before .before .before .before .before .before .before .before .before .before .before .before .before .before .before .before .before .before .before .before .before .loop-test .taken) (c .before .before .before .before .before .before .before .before .before .before .before .before .before .before .before .before .before .before .before .before .rest .ensures .0) (c .before .before .before .before .before .before .before .before .before .before .before .before .before .before .before .before .before .before .before .item-at .ensures .0) (c .before .before .before .before .before .before .before .before .before .before .before .before .before .before .before .before .before .before .before .item-at .ensures .1 .0) (c .before .before .before .before .before .before .before .before .before .before .before .before .before .step-in .ensures) (c .before .before .before .before .before .before .before .before .before .before .before .next .given .1) (c .before .before .before .before .before .before .enter .kept .0) (c .before .before .before .before .before .before .enter .kept .1 .0) (c .before .before .before .before .before .before .enter .kept .1 .1 .0) (c .before .before .before .before .before .before .enter .ensures .0) (c .before .before .before .before .before .before .enter .ensures .1 .0) (c .before .before .before .before .before .before .enter .ensures .1 .1))
+loop-again-2 c = rw (c .item-len2 .ensures) (ran-next (c .before .before .before .before .before .before .before .before .before .before .before .before .before .before .before .before .before .before .before .before .before .before .loop .inv) (c .before .before .before .before .before .before .before .before .before .before .before .before .before .before .before .before .before .before .before .before .before .loop-test .taken) (c .before .before .before .before .before .before .before .before .before .before .before .before .before .before .before .before .before .before .before .before .rest .ensures .0) (c .before .before .before .before .before .before .before .before .before .before .before .before .before .before .before .before .before .before .before .item-at .ensures .0) (c .before .before .before .before .before .before .before .before .before .before .before .before .before .before .before .before .before .before .before .item-at .ensures .1 .0) (c .before .before .before .before .before .before .before .before .before .before .before .before .before .step-in .ensures) (c .before .before .before .before .before .before .before .before .before .before .before .next .given .1) (c .before .before .before .before .before .before .enter .kept .0) (c .before .before .before .before .before .before .enter .kept .1 .0) (c .before .before .before .before .before .before .enter .kept .1 .1 .0) (c .before .before .before .before .before .before .enter .ensures))
 
 cast-ended-at : tie.Need-cast-ended-at Inv-loop μ-loop
 cast-ended-at c = let g = c .before .before .before .before .before .before .before .before .pre in omega (arith, g)
@@ -151,7 +151,7 @@ same-length-9 : tie.Need-same-length-9 Inv-loop μ-loop
 same-length-9 c = c .before .before .before .before .loop .inv .ams-same
 
 returns-3 : tie.Need-returns-3 Inv-loop μ-loop
-returns-3 c = let e = ran-end (c .before .before .before .before .loop .inv) (c .before .before .before .loop-test .left) (rw (c .before .rows-of .ensures) at (c .ended-at .ensures)) in (refl ∙ ap (λ (o : Out). o .found) e, (ap (λ (o : Out). o .tables .series) e, (ap (λ (o : Out). o .tables .positions) e, ap (λ (o : Out). o .tables .amounts) e)))
+returns-3 c = ran-end (c .before .before .before .before .loop .inv) (c .before .before .before .loop-test .left) (rw (c .before .rows-of .ensures) at (c .ended-at .ensures))
 
 pub read-items-spec : {M : Type 1} → statement M
 read-items-spec =

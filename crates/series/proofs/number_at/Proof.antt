@@ -1,9 +1,9 @@
 use Rattle.lists.proofs.Tests.{tests}
 use borrow.Author.Needs.{needs}
-use Rattle.reader.proofs.rows.number_at.Statement.{statement}
-use Rattle.reader.proofs.rows.number_at.Tie as tie
-use Rattle.reader.proofs.rows.number_at.Reads as reads
-use Rattle.reader.proofs.rows.number_at.Lts as lts
+use Rattle.series.proofs.number_at.Statement.{statement}
+use Rattle.series.proofs.number_at.Tie as tie
+use Rattle.series.proofs.number_at.Reads as reads
+use Rattle.series.proofs.number_at.Lts as lts
 
 mul-result : tie.Need-mul-result
 mul-result c = search needs
