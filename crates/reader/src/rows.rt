@@ -26,7 +26,7 @@ ghost use Rattle.characters.specs.Says.{says};
 ghost use Rattle.trims.specs.Trim.{space, dropped};
 ghost use Rattle.items.specs.Item.{itemValue};
 ghost use Rattle.numbers.specs.Amount.{amountOf};
-ghost use Rattle.series.specs.declared.Field.the-variants.{Identification, BusinessType};
+ghost use Rattle.series.specs.declared.Field.the-variants.{Identification};
 ghost use Rattle.series.specs.Row.{withView, view};
 ghost use Rattle.reader.specs.Rows.{broughtBy, spanOf, quoted, fieldAfter, thousandthsOf, used, usedIn, usedBefore};
 ghost use Rattle.reader.specs.Reading.{tab, tablesAfter};
@@ -84,14 +84,14 @@ fn last_of(n: u32) -> u32
     n - 1
 }
 
-// Of BusinessType "spaces dropped"; its value is b, which starts at the place `at`.
-fn set_trimmed(t: &mut [u32], row: u32, at: usize, b: &[u8])
+// A view with "spaces dropped"; its value is b, which starts at the place `at`.
+fn set_trimmed(t: &mut [u32], row: u32, f: Field, at: usize, b: &[u8])
     requires { ⌜ at + length (now b) ≤ 4294967295 ⌝ }
-    ensures { λ _. ⌜ now (t .exit) ≡ withView (now (t .entry)) row BusinessType (at + run space (now (b .entry))) (length (dropped (now (b .entry)))) ⌝ }
+    ensures { λ _. ⌜ now (t .exit) ≡ withView (now (t .entry)) row f (at + run space (now (b .entry))) (length (dropped (now (b .entry)))) ⌝ }
 {
     let from = at + leading_spaces(b);
     let len = trimmed(b).len();
-    set_view(t, row, Field::BusinessType, from as u32, len as u32);
+    set_view(t, row, f, from as u32, len as u32);
 }
 
 // A field of the row of the last series; st is the state after the item, which is at the place `at`, and v the value in it.
@@ -109,7 +109,7 @@ fn enter_field(t: &mut [u32], at: usize, v: Span, s: &[u8], st: State, f: Field)
             set_view(t, row, Field::Object, from as u32, v.len as u32);
         }
         Field::BusinessType => {
-            set_trimmed(t, row, from, quoted_of(v, s));
+            set_trimmed(t, row, Field::BusinessType, from, quoted_of(v, s));
         }
         Field::FirstRow => {
             set_field(t, row, Field::FirstRow, st.first);
