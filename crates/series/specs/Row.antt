@@ -1,6 +1,7 @@
 -- "A series takes eight u32 numbers, a length here being in bytes between the quotes: start and length of its TimeSeriesIdentification; of its
 -- object (InParty in kind 1, ResourceObject in kind 2); of its BusinessType, spaces dropped; its first interval row; its interval count."
 use Prim.Native.Nat.{ℕ, _+_, _*_, _/_}
+use mathlib.Core.Path.{_≡_}
 use mathlib.Core.List.{List}
 use mathlib.Core.Bool.{Bool, true, false}
 use lib.ListN.{getD, set}
@@ -47,6 +48,10 @@ withField t i f n = set t (cellAt i f) n
 -- start and length of a view
 unfoldable pub withView : List ℕ → ℕ → Field → ℕ → ℕ → List ℕ
 withView t i f start len = set (set t (cellAt i f) start) (cellAt i f + 1) len
+
+-- a view that shows nothing, and stands nowhere
+abbrev pub NoView : List ℕ → ℕ → Field → Type 0
+NoView t i f = (getD t (cellAt i f) 0 ≡ 0) × (getD t (cellAt i f + 1) 0 ≡ 0)
 
 -- the part of the document that a view shows
 unfoldable pub view : List ℕ → List ℕ → ℕ → Field → List ℕ
