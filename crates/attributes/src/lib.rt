@@ -130,7 +130,7 @@ fn is_plain(b: u8) -> bool
     }
 }
 
-enum Value {
+pub enum Value {
     // so many bytes, and then the quote
     Long(usize),
     Broken,

@@ -12,6 +12,7 @@ use native.Mathlib.Nat.{le-refl}
 use lib.ListN.{length, getD, drop, replicate, length-replicate, length-map, length-drop, List·getD-map, List·getD-eq-default}
 use borrow.Author.Tests.{eqb-true, eq-eqb, ltb-false}
 use Rattle.lists.specs.Zeros.{zeros}
+use Rattle.slices.specs.Text.{text}
 use Rattle.lists.proofs.Cases.{bool-cases, leb-cases, ltb-cases}
 use Rattle.characters.specs.Says.{says, saysAfter}
 use Rattle.attributes.specs.Attribute.{partOf}
@@ -26,23 +27,29 @@ use Rattle.prolog.specs.declared.Begin.{Begin}
 use Rattle.prolog.specs.declared.Begin.the-variants.{From, Unreadable}
 use Rattle.tables.specs.Cells.{noAmounts}
 use Rattle.states.specs.Moves.{begun}
-use Rattle.states.specs.declared.Room.{Room}
+use Rattle.states.specs.declared.Entry.the-variants.{Amount}
+use Rattle.numbers.specs.Alike.{Alike}
+use Rattle.digits.proofs.Chars.{digits-unseen}
 use Rattle.reader.specs.Items.{itemsAfter, itemsFrom}
 use Rattle.reader.specs.Rows.{quoted, thousandthsOf}
-use Rattle.reader.specs.Reading.{Tables, Out, blank, roomOf, refusedAt, roomIn, readItems, itemsRead, readAfter, readInto, orBlank, readSheet}
-use Rattle.reader.proofs.Ran.{tab}
+use Rattle.reader.specs.Reading.{tab, Tables, Out, blank, roomOf, refusedAt, readAfter, readInto, orBlank, readSheet}
 use Rattle.reader.specs.declared.Answer.{Answer}
-use Rattle.reader.specs.Answer.{Outcome, answerOf, told, noted, unnoted, readOf}
+use Rattle.reader.specs.Answer.{answerOf, told, noted, unnoted, readOf}
 use Rattle.blindness.specs.Readable.{DifferInQty}
 use Rattle.blindness.specs.Sources.{amountAt, qtyValues, qtyValuesAfter, sourcesOf}
 use Rattle.blindness.proofs.Sources.{unsourced, sourcesFrom, sourceTable}
 use Rattle.blindness.proofs.Counts.{begun-counted}
-use Rattle.blindness.proofs.Order.{items-few, order}
+use Rattle.reader.proofs.Ran.{items-few}
+use Rattle.blindness.proofs.Order.{order}
 use Rattle.blindness.specs.Blind.{amountCell, source, OwnDigitsDiffer, SameButAmounts}
 use Rattle.blindness.proofs.Pairs.{list-cases}
-use Rattle.blindness.proofs.Aligned.{tail-of, SameItems, aligned}
-use Rattle.blindness.proofs.Shown.{shown-none}
-use Rattle.blindness.proofs.Runs.{SameOut, run-same, Parts, run-said}
+use Rattle.blindness.specs.Replaced.{Replaced}
+use Rattle.blindness.proofs.Aligned.{tail-of}
+use Rattle.blindness.proofs.Mixed.{between, first-replaced, second-replaced}
+use Rattle.blindness.proofs.Steps.{qty-kinds}
+use Rattle.blindness.proofs.Shown.{amounts-tabled}
+use Rattle.blindness.proofs.Runs.{Parts, run-said}
+use Rattle.blindness.proofs.Told.{itemsOut, items-read, SameTold, told-join, replaced-same}
 
 -- ---- the amounts of a document are those at their sources
 
@@ -65,24 +72,12 @@ parts-after doc [] k at e = tt
 parts-after doc (b ∷ t) (suc k) at e = parts-after doc t k (suc at) (tail-of doc at b t e)
 parts-after doc (b ∷ t) zero at e = (e, parts-after doc t (pred (itemEnd (item at (b ∷ t)))) (suc at) (tail-of doc at b t e))
 
-room-blank : (ns np na : ℕ) → roomIn (blank ns np na) ≡ roomOf ns np na
-unfolding roomIn blank
-room-blank ns np na = rw (length-replicate {A = ℕ} ns 0, length-replicate {A = ℕ} np 0, length-replicate {A = ℤ} na (pos 0))
-
 module _ (doc : List ℕ) (ns np na : ℕ) where
-  -- the items from the place n on, into blank tables
-  abbrev itemsOut : ℕ → List ℤ → Out
-  itemsOut n ams = readItems doc (roomOf ns np na) (itemsFrom doc n) begun (tab (zeros ns) (zeros np) ams)
-
-  items-read : (n : ℕ) → itemsRead doc n (blank ns np na) ≡ itemsOut n (noAmounts na)
-  unfolding itemsRead blank
-  items-read n = ap (λ (r : Room). readItems doc r (itemsFrom doc n) begun (blank ns np na)) (room-blank ns np na)
-
   into-said : (b : Begin) → readAfter doc (blank ns np na) b .tables .amounts ≡ map (amountAt doc) (sourcesFrom doc ns np na b)
   unfolding readAfter sourcesFrom itemsFrom blank
   into-said (From n) =
-      ap (λ (o : Out). o .tables .amounts) (items-read n)
-      ∙ ap (λ (ams : List ℤ). itemsOut n ams .tables .amounts) (none-said doc na)
+      ap (λ (o : Out). o .tables .amounts) (items-read doc ns np na n)
+      ∙ ap (λ (ams : List ℤ). itemsOut doc ns np na n ams .tables .amounts) (none-said doc na)
       ∙ run-said doc (roomOf ns np na) (itemsFrom doc n) (parts-after doc (drop n doc) 0 n refl) begun (zeros ns) (zeros np) (unsourced na)
   into-said (Unreadable p) = none-said doc na
 
@@ -198,82 +193,22 @@ module _ (doc : List ℕ) (ns np na : ℕ) where
 
 -- ---- two documents
 
-out-same : {o o′ : Out} → o ≡ o′ → SameOut o o′
-out-same e = record { found = ap (λ (o : Out). o .found) e; series = ap (λ (o : Out). o .tables .series) e; positions = ap (λ (o : Out). o .tables .positions) e }
-
-out-trans : {a b c d : Out} → a ≡ b → SameOut b c → d ≡ c → SameOut a d
-out-trans p q r = rw (p, r) q
-
-module _ (ns np na : ℕ) where
-  chosen-same : (t : Bool) (a b : Tables) → a .series ≡ b .series → a .positions ≡ b .positions
-      → (cond t a (blank ns np na) .series ≡ cond t b (blank ns np na) .series) × (cond t a (blank ns np na) .positions ≡ cond t b (blank ns np na) .positions)
-  chosen-same true a b p q = (p, q)
-  chosen-same false a b p q = (refl, refl)
-
-  blank-same : {o o′ : Out} → SameOut o o′ → SameOut (orBlank ns np na o) (orBlank ns np na o′)
-  unfolding orBlank
-  blank-same {o} {o′} h =
-      let c = chosen-same (eqb (o′ .found .refusal) 0) (o .tables) (o′ .tables) (h .series) (h .positions) in
-      record { found = h .found; series = rw (h .found) (c .0); positions = rw (h .found) (c .1) }
-
-module _ (x y : List ℕ) (ns np na : ℕ) (long : length x ≡ length y) (h : SameItems x y) where
-  runs : SameOut (itemsOut x ns np na (h .from) (noAmounts na)) (itemsOut y ns np na (h .from) (noAmounts na))
-      × (sourcesFrom x ns np na (From (h .from)) ≡ sourcesFrom y ns np na (From (h .from)))
-  unfolding sourcesFrom
-  runs =
-      run-same x y (roomOf ns np na) long (h .items) begun (zeros ns) (zeros np) (noAmounts na) (noAmounts na) (unsourced na) (shown-none x y ns)
-
-  into-same : SameOut (readInto x (blank ns np na)) (readInto y (blank ns np na))
-  unfolding readInto readAfter
-  into-same = rw (h .first, h .second) (out-trans (items-read x ns np na (h .from)) (runs .0) (items-read y ns np na (h .from)))
-
-  sheet-same : SameOut (readSheet x ns np na) (readSheet y ns np na)
-  unfolding readSheet
-  sheet-same =
-      rw long
-      (⊎-elim
-      (λ l. rw l (out-same refl))
-      (λ l. rw l (blank-same ns np na into-same))
-      (bool-cases (ltb 1048576 (length y))))
-
-  sources-same : sourcesFrom x ns np na (begin x) ≡ sourcesFrom y ns np na (begin y)
-  sources-same = rw (h .first, h .second) (runs .1)
-
--- all but the amounts
-record SameTold (o o′ : Outcome) : Type 0 where
-  answer : o .answer ≡ o′ .answer
-  note : o .note ≡ o′ .note
-  series : o .tables .series ≡ o′ .tables .series
-  positions : o .tables .positions ≡ o′ .tables .positions
-
-told-itself : (o : Outcome) → SameTold o o
-told-itself o = record { answer = refl; note = refl; series = refl; positions = refl }
-
-noted-same : (nb : ℕ) {o o′ : Out} → SameOut o o′ → SameTold (noted nb o) (noted nb o′)
-unfolding noted
-noted-same nb h = record { answer = rw (h .found); note = rw (h .found); series = h .series; positions = h .positions }
-
 module _ (x y : List ℕ) (ns np na nb : ℕ) where
-  -- and where these come from
+  -- all but the amounts, and where these come from
   abbrev Same : Type 0
   Same = SameTold (readOf x ns np na nb) (readOf y ns np na nb) × (sourceTable x ns np na nb ≡ sourceTable y ns np na nb)
 
-  items-told : length x ≡ length y → SameItems x y → SameTold (readOf x ns np na nb) (readOf y ns np na nb)
-  unfolding readOf
-  items-told long h =
-      ⊎-elim
-      (λ l. rw l (told-itself (unnoted ns np na nb)))
-      (λ l. rw l (noted-same nb (sheet-same x y ns np na long h)))
-      (bool-cases (ltb nb 16))
+module _ (ns np na nb : ℕ) where
+  qty-same : (x y : List ℕ) → Replaced (text "Qty") Alike x y → Same x y ns np na nb
+  qty-same x y d = replaced-same (text "Qty") Alike Amount digits-unseen qty-kinds x y (amounts-tabled x y Alike) d ns np na nb
 
-  all-same : DifferInQty x y → Same
-  unfolding sourceTable
-  all-same d =
-      ⊎-elim
-      (λ e. rw e (told-itself (readOf y ns np na nb), refl))
-      (λ h. let t = items-told (d .long) h in (t, rw (t .answer, sources-same x y ns np na (d .long) h)))
-      (aligned x y d)
+  all-same : (x y : List ℕ) → DifferInQty x y → Same x y ns np na nb
+  all-same x y d =
+      let p = qty-same x (between x y d) (first-replaced x y d) in
+      let q = qty-same y (between x y d) (second-replaced x y d) in
+      (told-join (p .0) (q .0), p .1 ∙ sym (q .1))
 
+module _ (x y : List ℕ) (ns np na nb : ℕ) where
   -- on every refusal no cell has a source
   refused-source : (k : ℕ) → eqb (readOf x ns np na nb .answer .refusal) 0 ≡ false → source ns np na nb x k ≡ absent
   unfolding sourcesOf
@@ -290,7 +225,7 @@ module _ (x y : List ℕ) (ns np na nb : ℕ) where
   unfolding amountAt
   cell-same k e = cell-said x ns np na nb k ∙ ap (λ (l : List ℕ). thousandthsOf (amountOf (says (dropped l)))) e ∙ sym (cell-said y ns np na nb k)
 
-  cells : Same → (k : ℕ) → (amountCell ns np na nb x k ≡ amountCell ns np na nb y k) ⊎ OwnDigitsDiffer ns np na nb x y k
+  cells : Same x y ns np na nb → (k : ℕ) → (amountCell ns np na nb x k ≡ amountCell ns np na nb y k) ⊎ OwnDigitsDiffer ns np na nb x y k
   cells h k =
       let own = own-same k (h .1) in
       ⊎-elim
@@ -317,7 +252,7 @@ module _ (x y : List ℕ) (ns np na nb : ℕ) where
 
   pub blind : DifferInQty x y → SameButAmounts ns np na nb x y
   blind d =
-      let h = all-same d in
+      let h = all-same ns np na nb x y d in
       record {
         answer = h .0 .answer;
         note = h .0 .note;

@@ -19,14 +19,14 @@ use Rattle.prolog.specs.Prolog.{markLen, beginAfter, begin}
 use Rattle.pictures.specs.Picture.{digit}
 use Rattle.reader.specs.Items.{itemsAfter, itemsFrom}
 use Rattle.digits.specs.Items.{InV}
-use Rattle.blindness.specs.Readable.{namedQty, InQty, InQtyAfter, QtyDigit}
+use Rattle.blindness.specs.Readable.{tagNamed, InTags, InTagsAfter, QtyDigit}
 
 -- the 5 in a Qty, due or not
 pub qty-digit : QtyDigit (text "<Qty v=\"5\"/>") 8
-unfolding QtyDigit InQtyAfter InQty InV namedQty digit byte begin beginAfter markLen begins same itemsFrom itemsAfter item startTag tagItem tagOf ends endsAfter onto keep named twice noted oneMore noneKnown absent piece pieceAfter attribute attributeName attributeQuote attributeEnd opening openingFrom value valueNext valueOver walk charAt seqLen control single quote fit nameStart nameByte white run partOf
+unfolding QtyDigit InTagsAfter InTags InV tagNamed digit byte begin beginAfter markLen begins same itemsFrom itemsAfter item startTag tagItem tagOf ends endsAfter onto keep named twice noted oneMore noneKnown absent piece pieceAfter attribute attributeName attributeQuote attributeEnd opening openingFrom value valueNext valueOver walk charAt seqLen control single quote fit nameStart nameByte white run partOf
 qty-digit = (refl, inl (8, refl, (refl, (omega arith, omega arith))))
 
 -- and the one in a Pos
 pub pos-digit : QtyDigit (text "<Pos v=\"5\"/>") 8 → ⊥
-unfolding QtyDigit InQtyAfter InQty InV namedQty digit byte begin beginAfter markLen begins same itemsFrom itemsAfter item startTag tagItem tagOf ends endsAfter onto keep named twice noted oneMore noneKnown absent piece pieceAfter attribute attributeName attributeQuote attributeEnd opening openingFrom value valueNext valueOver walk charAt seqLen control single quote fit nameStart nameByte white run partOf
+unfolding QtyDigit InTagsAfter InTags InV tagNamed digit byte begin beginAfter markLen begins same itemsFrom itemsAfter item startTag tagItem tagOf ends endsAfter onto keep named twice noted oneMore noneKnown absent piece pieceAfter attribute attributeName attributeQuote attributeEnd opening openingFrom value valueNext valueOver walk charAt seqLen control single quote fit nameStart nameByte white run partOf
 pos-digit h = ⊎-elim (λ z. let e : _≡_ {A = Bool} false true = z .2 .0 in zero-not-one (cc)) (λ z. z .1) (h .1)

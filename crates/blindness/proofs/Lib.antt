@@ -1,11 +1,12 @@
-pub mod Fronts
 pub mod Pairs
 pub mod Aligned
+pub mod Mixed
 pub mod Tables
 pub mod Steps
 pub mod Shown
 pub mod Sources
 pub mod Runs
+pub mod Told
 pub mod Counts
 pub mod Order
 pub mod Blind

@@ -6,7 +6,6 @@ use mathlib.Core.Bool.{Bool, true, false, cond}
 use mathlib.Core.Logic.{⊎-elim}
 use native.Mathlib.Omega.{arith}
 use native.Mathlib.Nat.{add-zero}
-use lib.Dec.{eqb}
 use lib.IntN.{ℤ}
 use lib.ListN.{length, getD, set, length-set}
 use lib.Seq.{getD-set-same, getD-set-other}
@@ -26,34 +25,26 @@ use Rattle.states.specs.declared.Step.{Step}
 use Rattle.states.specs.declared.Step.the-variants.{Next, Refused}
 use Rattle.reader.specs.Items.{Placed, itemsAfter}
 use Rattle.reader.specs.Rows.{spanOf, seriesAfter, positionsAfter, amountsAfter, usedBefore}
-use Rattle.reader.specs.Reading.{refusedAt, acceptedAt, endedAt, withoutUsed, stepOf, tablesAfter, readItems}
-use Rattle.reader.proofs.Ran.{tab, read-next, read-stop}
+use Rattle.reader.specs.Reading.{tab, refusedAt, acceptedAt, endedAt, withoutUsed, stepOf, tablesAfter, readItems}
+use Rattle.reader.proofs.Ran.{read-next, read-stop}
 use Rattle.blindness.specs.Readable.{namedQty}
 use Rattle.blindness.specs.Sources.{valueAt, qtyValues}
 use Rattle.blindness.proofs.Sources.{sourcesAfter, sourcesIn}
 use Rattle.blindness.proofs.Runs.{unrefused, sources-next}
-use Rattle.blindness.proofs.Counts.{rowsIn, Counted, Passed, Good, step-good, over-waits}
+use Rattle.blindness.proofs.Counts.{Counted, Passed, Good, step-good, over-waits}
 
 -- at the end of the document
-ended-over : (place : ℕ) (x : State) → endedAt (rowsOf 1) (rowsOf 2) place x .refusal ≡ 0 → overOf (rowsIn (x .kind)) (x .row) (x .inside) ≡ true
+ended-over : (rows : List ℕ) (place : ℕ) (x : State) → endedAt rows place x .refusal ≡ 0 → overOf rows (x .row) (x .inside) ≡ true
 unfolding endedAt refusedAt acceptedAt
-ended-over place x h =
-    ⊎-elim
-    (λ y. rw y (over (overOf (rowsOf 1) (x .row) (x .inside)) (rw y at h)))
-    (λ y. rw y (over (overOf (rowsOf 2) (x .row) (x .inside)) (rw y at h)))
-    (bool-cases (eqb (x .kind) 1))
+ended-over rows place x h = over (overOf rows (x .row) (x .inside)) h
   where
     over : (t : Bool) → cond t (acceptedAt place x) (refusedAt 3 place x) .refusal ≡ 0 → t ≡ true
     over true e = refl
     over false e = absurd (omega (arith, e))
 
-ended-intervals : (place : ℕ) (x : State) → endedAt (rowsOf 1) (rowsOf 2) place x .intervals ≡ x .intervals
+ended-intervals : (rows : List ℕ) (place : ℕ) (x : State) → endedAt rows place x .intervals ≡ x .intervals
 unfolding endedAt refusedAt acceptedAt
-ended-intervals place x =
-    ⊎-elim
-    (λ y. rw y (⊎-elim (λ u. rw u) (λ u. rw u) (bool-cases (overOf (rowsOf 1) (x .row) (x .inside)))))
-    (λ y. rw y (⊎-elim (λ u. rw u) (λ u. rw u) (bool-cases (overOf (rowsOf 2) (x .row) (x .inside)))))
-    (bool-cases (eqb (x .kind) 1))
+ended-intervals rows place x = ⊎-elim (λ u. rw u) (λ u. rw u) (bool-cases (overOf rows (x .row) (x .inside)))
 
 -- an item that is refused has a number
 refused-number : (doc t : List ℕ) (i : Item) (s : List ℕ) (c : ℕ) (room : Room) (m : ℕ) (b : Bool) (q : Step) (n : ℕ)
@@ -86,13 +77,6 @@ source-set : (p : Placed) (st : State) (e : Entry) (t : List Span) (c : ℕ) →
 unfolding sourcesAfter valueAt
 source-set p st e t c h n = let k : st .intervals - 1 ≡ c = omega (arith, n) in rw (h, k)
 
--- no item has no byte
-pub items-few : (l : List ℕ) (k at : ℕ) → length (itemsAfter k at l) ≤ length l
-unfolding itemsAfter
-items-few [] k at = omega arith
-items-few (b ∷ t) (suc k) at = let h = items-few t k (suc at) in omega (arith, h)
-items-few (b ∷ t) zero at = let h = items-few t (pred (itemEnd (item at (b ∷ t)))) (suc at) in omega (arith, h)
-
 -- the cells before c are as they were, and from c on they have these values
 abbrev pub Ordered : ℕ → List Span → List Span → List Span → Type 0
 Ordered c so r vs = ((j : ℕ) → j < c → getD r j absent ≡ getD so j absent) × ((j : ℕ) → getD r (c + j) absent ≡ getD vs j absent)
@@ -124,7 +108,7 @@ module _ (doc : List ℕ) (room : Room) where
       (ok : readItems doc room (p ∷ xs) x (tab ser pos ams) .found .refusal ≡ 0)
       (ih : (x′ : State) (ser′ pos′ : List ℕ) (ams′ : List ℤ) (so′ : List Span) (c′ : ℕ) → Before xs x′ so′ c′
       → readItems doc room xs x′ (tab ser′ pos′ ams′) .found .refusal ≡ 0 → Read xs x′ ser′ pos′ ams′ so′ c′) where
-    good : Good c room (x .intervals) (namedQty (p .item) (p .rest)) (step x (rowsOf 1) (rowsOf 2) (p .item) (p .rest) room)
+    good : Good c room (x .intervals) (namedQty (p .item) (p .rest)) (step x (p .item) (p .rest) room)
     good = step-good x room c (h .counted) (let l = h .low in omega (arith, l)) (p .rest) (p .item)
 
     -- after an item that came to x′ with the entry e
@@ -179,20 +163,20 @@ module _ (doc : List ℕ) (room : Room) where
     by-step : (q : Step) → stepOf doc ser room p x ≡ q → Read (p ∷ xs) x ser pos ams so c
     unfolding stepOf refusedAt
     by-step (Next x′ e) z =
-        let y = unrefused doc ser (p .item) (p .rest) (step x (rowsOf 1) (rowsOf 2) (p .item) (p .rest) room) x′ e z in
-        let g = passed-good c room (x .intervals) (namedQty (p .item) (p .rest)) (step x (rowsOf 1) (rowsOf 2) (p .item) (p .rest) room) x′ e y good in
+        let y = unrefused doc ser (p .item) (p .rest) (step x (p .item) (p .rest) room) x′ e z in
+        let g = passed-good c room (x .intervals) (namedQty (p .item) (p .rest)) (step x (p .item) (p .rest) room) x′ e y good in
         ⊎-elim (λ t. by-qty x′ e z g t) (λ t. by-other x′ e z g t) (bool-cases (namedQty (p .item) (p .rest)))
     by-step (Refused n) z =
         absurd
-        (refused-number doc ser (p .item) (p .rest) c room (x .intervals) (namedQty (p .item) (p .rest)) (step x (rowsOf 1) (rowsOf 2) (p .item) (p .rest) room) n good z
+        (refused-number doc ser (p .item) (p .rest) c room (x .intervals) (namedQty (p .item) (p .rest)) (step x (p .item) (p .rest) room) n good z
         (rw (read-stop doc room p xs x (tab ser pos ams) n z) at ok))
 
   pub order : (xs : List Placed) (x : State) (ser pos : List ℕ) (ams : List ℤ) (so : List Span) (c : ℕ) → Before xs x so c
       → readItems doc room xs x (tab ser pos ams) .found .refusal ≡ 0 → Read xs x ser pos ams so c
   unfolding readItems sourcesIn qtyValues
   order [] x ser pos ams so c h ok =
-      let w = over-waits x (ended-over (length doc) x ok) in
+      let w = over-waits x (ended-over (rowsOf (x .kind)) (length doc) x ok) in
       let n : x .intervals ≡ c + 0 = rw w at (h .counted .count) in
-      ((λ j l. refl, λ j. h .empty (c + j) (omega arith)), ended-intervals (length doc) x ∙ n)
+      ((λ j l. refl, λ j. h .empty (c + j) (omega arith)), ended-intervals (rowsOf (x .kind)) (length doc) x ∙ n)
   order (p ∷ xs) x ser pos ams so c h ok =
       by-step p xs x ser pos ams so c h ok (λ x′ ser′ pos′ ams′ so′ c′ h′ ok′. order xs x′ ser′ pos′ ams′ so′ c′ h′ ok′) (stepOf doc ser room p x) refl

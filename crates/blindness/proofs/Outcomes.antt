@@ -5,9 +5,8 @@ use mathlib.Core.List.{List}
 use mathlib.Core.Logic.{_⊎_, inl, inr, ⊎-elim}
 use lib.IntN.{ℤ, pos}
 use lib.ListN.{getD}
-use Rattle.reader.specs.Answer.{readOf}
+use Rattle.reader.specs.Answer.{readOf, Permitted}
 use Rattle.reader.specs.declared.Answer.{Answer}
-use Rattle.reader.proofs.Unique.{Permitted}
 use Rattle.blindness.specs.Readable.{DifferInQty}
 use Rattle.blindness.specs.Blind.{OwnDigitsDiffer}
 use Rattle.blindness.proofs.Blind.{blind}

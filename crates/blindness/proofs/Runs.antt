@@ -3,15 +3,11 @@
 use Prim.Native.Nat.{ℕ, zero, suc, _+_, _-_}
 use mathlib.Core.Path.{_≡_, refl, sym, ap, _∙_}
 use mathlib.Core.List.{List, [], _∷_, map}
-use mathlib.Core.Logic.{_⊎_, ⊎-elim}
 use lib.IntN.{ℤ}
-use lib.ListN.{length, drop, take, set}
-use lib.Seq.{drop-drop}
+use lib.ListN.{length, drop, set}
 use Rattle.lists.proofs.Cases.{past-cond, zero-not-one}
-use Rattle.attributes.specs.Attribute.{partOf}
 use Rattle.tags.specs.declared.Span.{Span}
 use Rattle.items.specs.declared.Item.{Item}
-use Rattle.guideline.specs.Rows.{rowsOf}
 use Rattle.states.specs.Moves.{step}
 use Rattle.states.specs.declared.State.{State}
 use Rattle.states.specs.declared.Room.{Room}
@@ -20,22 +16,17 @@ use Rattle.states.specs.declared.Entry.the-variants.{Nothing, Series, Identific
 use Rattle.states.specs.declared.Step.{Step}
 use Rattle.states.specs.declared.Step.the-variants.{Next, Refused}
 use Rattle.reader.specs.Items.{Placed}
-use Rattle.reader.specs.Rows.{spanOf, quoted, seriesAfter, positionsAfter, amountsAfter, usedBefore}
-use Rattle.reader.specs.Reading.{Out, withoutUsed, stepOf, tablesAfter, readItems}
-use Rattle.reader.proofs.Ran.{tab, read-next, read-stop}
+use Rattle.reader.specs.Rows.{broughtBy, spanOf, quoted, amountsWith, seriesAfter, positionsAfter, amountsAfter, usedBefore}
+use Rattle.reader.specs.Reading.{tab, Out, withoutUsed, stepOf, tablesAfter, readItems}
+use Rattle.reader.proofs.Ran.{read-next, read-stop}
 use Rattle.blindness.specs.Sources.{amountAt}
 use Rattle.blindness.proofs.Sources.{sourcesAfter, sourcesIn}
 use Rattle.blindness.proofs.Pairs.{Says, Aligned, over, pair}
-use Rattle.blindness.proofs.Steps.{step-same, step-brings}
-use Rattle.blindness.proofs.Shown.{Shown, shown-after, before-same, after-same}
+use Rattle.blindness.proofs.Steps.{Values, BlindKinds, step-same, step-brings}
+use Rattle.blindness.proofs.Shown.{Tabled, value-part}
 
 abbrev at-item : ℕ → Item → List ℕ → Placed
 at-item at i s = record { at = at; item = i; rest = s }
-
--- a value of an item is a part of its document
-value-part : (doc : List ℕ) (at : ℕ) (s : List ℕ) (v : Span) → s ≡ drop at doc → quoted v s ≡ partOf doc (at + v .start) (v .len)
-unfolding quoted partOf
-value-part doc at s v e = rw e (ap (take (v .len)) (drop-drop (v .start) at doc))
 
 -- an item that is not refused moved the state so before it was asked for a used identification
 pub unrefused : (doc t : List ℕ) (i : Item) (s : List ℕ) (q : Step) (st : State) (e : Entry) → withoutUsed doc t i s q ≡ Next st e → q ≡ Next st e
@@ -55,77 +46,72 @@ module _ (doc : List ℕ) (room : Room) (p : Placed) (xs : List Placed) (st : St
   unfolding sourcesIn
   sources-stop n q = rw (sourcesIn, q)
 
--- a pair of items
-module _ (x y : List ℕ) (at : ℕ) (i : Item) (s s′ : List ℕ) (ex : s ≡ drop at x) (ey : s′ ≡ drop at y) (p : Says i s s′)
-    (room : Room) (st : State) (ser : List ℕ) (h : Shown x y ser) where
-  pair-step : stepOf x ser room (at-item at i s) st ≡ stepOf y ser room (at-item at i s′) st
-  unfolding stepOf withoutUsed
-  pair-step =
-      by (step st (rowsOf 1) (rowsOf 2) i s room) refl ∙ ap (withoutUsed y ser i s′) (step-same st s s′ room i p)
-    where
-      by : (q : Step) → step st (rowsOf 1) (rowsOf 2) i s room ≡ q → withoutUsed x ser i s q ≡ withoutUsed y ser i s′ q
-      by (Next st′ e) z = rw (before-same x y (spanOf i) s s′ ser h (st′ .series) e (step-brings st s s′ room i p st′ e z))
-      by (Refused n) z = refl
-
-  pair-brings : (st′ : State) (e : Entry) → stepOf x ser room (at-item at i s) st ≡ Next st′ e → (e ≡ Amount) ⊎ (quoted (spanOf i) s ≡ quoted (spanOf i) s′)
-  unfolding stepOf
-  pair-brings st′ e z =
-      step-brings st s s′ room i p st′ e (unrefused x ser i s (step st (rowsOf 1) (rowsOf 2) i s room) st′ e z)
-
-  pair-shown : (st′ : State) (e : Entry) → stepOf x ser room (at-item at i s) st ≡ Next st′ e → Shown x y (seriesAfter at (spanOf i) s st′ e ser)
-  pair-shown st′ e z =
-      shown-after x y at (spanOf i) s st′ e ser h
-      (λ id.
-      ⊎-elim
-      (λ am. absurd (zero-not-one (cc)))
-      (λ q. sym (value-part x at s (spanOf i) ex) ∙ q ∙ value-part y at s′ (spanOf i) ey)
-      (pair-brings st′ e z))
-
 -- two runs that differ in their amounts alone
 pub record SameOut (o o′ : Out) : Type 0 where
   pub found : o .found ≡ o′ .found
   pub series : o .tables .series ≡ o′ .tables .series
   pub positions : o .tables .positions ≡ o′ .tables .positions
 
-module _ (x y : List ℕ) (room : Room) where
-  abbrev Runs : List Placed → List Placed → State → List ℕ → List ℕ → List ℤ → List ℤ → List Span → Type 0
-  Runs xs ys st ser pos ax ay so =
-      SameOut (readItems x room xs st (tab ser pos ax)) (readItems y room ys st (tab ser pos ay))
-      × (sourcesIn x room xs st ser so ≡ sourcesIn y room ys st ser so)
+module _ (name : List ℕ) (R : List ℕ → List ℕ → Type 0) (brought : Entry) (rows : BlindKinds name R brought) (x y : List ℕ) (shown : Tabled R brought x y) where
+  -- a pair of items
+  module _ (at : ℕ) (i : Item) (s s′ : List ℕ) (ex : s ≡ drop at x) (ey : s′ ≡ drop at y) (p : Says name R i s s′)
+      (room : Room) (st : State) (ser : List ℕ) (h : shown .Shows ser) where
+    pair-step : stepOf x ser room (at-item at i s) st ≡ stepOf y ser room (at-item at i s′) st
+    unfolding stepOf withoutUsed
+    pair-step =
+        by (step st i s room) refl ∙ ap (withoutUsed y ser i s′) (step-same name R brought rows st s s′ room i p)
+      where
+        by : (q : Step) → step st i s room ≡ q → withoutUsed x ser i s q ≡ withoutUsed y ser i s′ q
+        by (Next st′ e) z = rw (shown .used (spanOf i) s s′ ser h (st′ .series) e (step-brings name R brought rows st s s′ room i p st′ e z))
+        by (Refused n) z = refl
 
-  module _ (xs ys : List Placed) (at : ℕ) (i : Item) (s s′ : List ℕ) (ex : s ≡ drop at x) (ey : s′ ≡ drop at y) (p : Says i s s′)
-      (st : State) (ser pos : List ℕ) (ax ay : List ℤ) (so : List Span) (h : Shown x y ser)
-      (ih : (st′ : State) (ser′ pos′ : List ℕ) (ax′ ay′ : List ℤ) (so′ : List Span) → Shown x y ser′ → Runs xs ys st′ ser′ pos′ ax′ ay′ so′) where
-    run-pair : (q : Step) → stepOf x ser room (at-item at i s) st ≡ q → Runs (at-item at i s ∷ xs) (at-item at i s′ ∷ ys) st ser pos ax ay so
-    unfolding tablesAfter
-    run-pair (Next st′ e) z =
-        let z′ = sym (pair-step x y at i s s′ ex ey p room st ser h) ∙ z in
-        rw (
-          read-next x room (at-item at i s) xs st (tab ser pos ax) st′ e z,
-          read-next y room (at-item at i s′) ys st (tab ser pos ay) st′ e z′,
-          sources-next x room (at-item at i s) xs st ser so st′ e z,
-          sources-next y room (at-item at i s′) ys st ser so st′ e z′,
-          ← after-same at (spanOf i) s s′ st′ e ser (pair-brings x y at i s s′ ex ey p room st ser h st′ e z),
-        )
-        (ih st′ (seriesAfter at (spanOf i) s st′ e ser) (positionsAfter st′ e pos) (amountsAfter (spanOf i) s st′ e ax) (amountsAfter (spanOf i) s′ st′ e ay)
-        (sourcesAfter at (spanOf i) st′ e so) (pair-shown x y at i s s′ ex ey p room st ser h st′ e z))
-    run-pair (Refused n) z =
-        let z′ = sym (pair-step x y at i s s′ ex ey p room st ser h) ∙ z in
-        rw (
-          read-stop x room (at-item at i s) xs st (tab ser pos ax) n z,
-          read-stop y room (at-item at i s′) ys st (tab ser pos ay) n z′,
-          sources-stop x room (at-item at i s) xs st ser so n z,
-          sources-stop y room (at-item at i s′) ys st ser so n z′,
-        )
-        (record { found = refl; series = refl; positions = refl }, refl)
+    pair-brings : (st′ : State) (e : Entry) → stepOf x ser room (at-item at i s) st ≡ Next st′ e → Values R brought e (quoted (spanOf i) s) (quoted (spanOf i) s′)
+    unfolding stepOf
+    pair-brings st′ e z =
+        step-brings name R brought rows st s s′ room i p st′ e (unrefused x ser i s (step st i s room) st′ e z)
 
-  pub run-same : length x ≡ length y → {xs ys : List Placed} → Aligned x y xs ys
-      → (st : State) (ser pos : List ℕ) (ax ay : List ℤ) (so : List Span) → Shown x y ser → Runs xs ys st ser pos ax ay so
-  unfolding readItems sourcesIn
-  run-same long over st ser pos ax ay so h = (record { found = rw long; series = refl; positions = refl }, refl)
-  run-same long (pair {xs} {ys} at i s s′ ex ey p r) st ser pos ax ay so h =
-      run-pair xs ys at i s s′ ex ey p st ser pos ax ay so h (λ st′ ser′ pos′ ax′ ay′ so′ h′. run-same long r st′ ser′ pos′ ax′ ay′ so′ h′)
-      (stepOf x ser room (at-item at i s) st) refl
+    pair-shown : (st′ : State) (e : Entry) → stepOf x ser room (at-item at i s) st ≡ Next st′ e → shown .Shows (seriesAfter at (spanOf i) s st′ e ser)
+    pair-shown st′ e z = shown .next at (spanOf i) s s′ st′ e ser ex ey h (pair-brings st′ e z)
+
+  module _ (room : Room) where
+    abbrev Runs : List Placed → List Placed → State → List ℕ → List ℕ → List ℤ → List ℤ → List Span → Type 0
+    Runs xs ys st ser pos ax ay so =
+        SameOut (readItems x room xs st (tab ser pos ax)) (readItems y room ys st (tab ser pos ay))
+        × (sourcesIn x room xs st ser so ≡ sourcesIn y room ys st ser so)
+
+    module _ (xs ys : List Placed) (at : ℕ) (i : Item) (s s′ : List ℕ) (ex : s ≡ drop at x) (ey : s′ ≡ drop at y) (p : Says name R i s s′)
+        (st : State) (ser pos : List ℕ) (ax ay : List ℤ) (so : List Span) (h : shown .Shows ser)
+        (ih : (st′ : State) (ser′ pos′ : List ℕ) (ax′ ay′ : List ℤ) (so′ : List Span) → shown .Shows ser′ → Runs xs ys st′ ser′ pos′ ax′ ay′ so′) where
+      run-pair : (q : Step) → stepOf x ser room (at-item at i s) st ≡ q → Runs (at-item at i s ∷ xs) (at-item at i s′ ∷ ys) st ser pos ax ay so
+      unfolding tablesAfter
+      run-pair (Next st′ e) z =
+          let z′ = sym (pair-step at i s s′ ex ey p room st ser h) ∙ z in
+          rw (
+            read-next x room (at-item at i s) xs st (tab ser pos ax) st′ e z,
+            read-next y room (at-item at i s′) ys st (tab ser pos ay) st′ e z′,
+            sources-next x room (at-item at i s) xs st ser so st′ e z,
+            sources-next y room (at-item at i s′) ys st ser so st′ e z′,
+            ← shown .after at (spanOf i) s s′ st′ e ser (pair-brings at i s s′ ex ey p room st ser h st′ e z),
+          )
+          (ih st′ (seriesAfter at (spanOf i) s st′ e ser) (positionsAfter st′ e pos) (amountsAfter (spanOf i) s st′ e ax) (amountsAfter (spanOf i) s′ st′ e ay)
+          (sourcesAfter at (spanOf i) st′ e so) (pair-shown at i s s′ ex ey p room st ser h st′ e z))
+      run-pair (Refused n) z =
+          let z′ = sym (pair-step at i s s′ ex ey p room st ser h) ∙ z in
+          rw (
+            read-stop x room (at-item at i s) xs st (tab ser pos ax) n z,
+            read-stop y room (at-item at i s′) ys st (tab ser pos ay) n z′,
+            sources-stop x room (at-item at i s) xs st ser so n z,
+            sources-stop y room (at-item at i s′) ys st ser so n z′,
+          )
+          (record { found = refl; series = refl; positions = refl }, refl)
+
+    pub run-same : length x ≡ length y → {xs ys : List Placed} → Aligned name R x y xs ys
+        → (st : State) (ser pos : List ℕ) (ax ay : List ℤ) (so : List Span) → shown .Shows ser → Runs xs ys st ser pos ax ay so
+    unfolding readItems sourcesIn
+    run-same long over st ser pos ax ay so h = (record { found = rw long; series = refl; positions = refl }, refl)
+    run-same long (pair {xs} {ys} at i s s′ ex ey p r) st ser pos ax ay so h =
+        run-pair xs ys at i s s′ ex ey p st ser pos ax ay so h (λ st′ ser′ pos′ ax′ ay′ so′ h′. run-same long r st′ ser′ pos′ ax′ ay′ so′ h′)
+        (stepOf x ser room (at-item at i s) st) refl
 
 -- ---- of one document: the amounts are those at the sources
 
@@ -136,7 +122,7 @@ map-set f (b ∷ l) (suc i) a = ap (λ (t : List _). f b ∷ t) (map-set f l i a
 
 amounts-after : (doc : List ℕ) (at : ℕ) (s : List ℕ) → s ≡ drop at doc → (v : Span) (st : State) (e : Entry) (so : List Span)
     → amountsAfter v s st e (map (amountAt doc) so) ≡ map (amountAt doc) (sourcesAfter at v st e so)
-unfolding amountsAfter sourcesAfter amountAt quoted
+unfolding amountsAfter amountsWith broughtBy sourcesAfter amountAt quoted
 amounts-after doc at s q v st Nothing so = refl
 amounts-after doc at s q v st Series so = refl
 amounts-after doc at s q v st Identification so = refl

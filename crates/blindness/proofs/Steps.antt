@@ -1,6 +1,6 @@
--- A pair of items moves the state alike: a tag named Qty takes a row whose value is an amount, which no step looks into. Assumes nothing.
+-- A pair of items moves the state alike, where no row of the name tells the values of its tags apart. Assumes nothing.
 use Prim.Native.Nat.{ℕ, zero, suc}
-use mathlib.Core.Path.{_≡_, refl, sym, ap, _∙_}
+use mathlib.Core.Path.{_≡_, refl, ap, _∙_}
 use mathlib.Core.List.{List, [], _∷_}
 use mathlib.Core.Bool.{Bool, true, false, cond}
 use mathlib.Core.Logic.{_⊎_, inl, inr, ⊎-elim}
@@ -20,11 +20,12 @@ use Rattle.structure.specs.Rows.{nameOf, startOf}
 use Rattle.structure.specs.declared.Due.{Due}
 use Rattle.structure.specs.declared.Due.the-variants.{Row, NotDue}
 use Rattle.structure.proofs.Means.{start-means}
-use Rattle.guideline.specs.Columns.{formOf, collapsed, roleOf}
+use Rattle.columns.specs.Columns.{formOf, collapsed, roleOf}
 use Rattle.guideline.specs.Rows.{beschaffungsanforderung, kostenblatt, rowsOf}
+use Rattle.guideline.proofs.Each.{of-table}
 use Rattle.rules.specs.declared.Held.{Held}
 use Rattle.states.specs.Attributes.{valueOf, schemeRefusal, judgeTag}
-use Rattle.states.specs.Moves.{heldOf, valuesJudged, judgedAt, startJudged, entryOf, startedBy, startedAt, started, moved, rootKind, kindTold, stepOn, step}
+use Rattle.states.specs.Moves.{heldOf, valuesJudged, judgedAt, startJudged, entryOf, startedBy, startedAt, started, moved, rootKind, kindTold, step}
 use Rattle.states.specs.declared.State.{State}
 use Rattle.states.specs.declared.Room.{Room}
 use Rattle.states.specs.declared.Entry.{Entry}
@@ -32,9 +33,120 @@ use Rattle.states.specs.declared.Entry.the-variants.{Amount}
 use Rattle.states.specs.declared.Step.{Step}
 use Rattle.states.specs.declared.Step.the-variants.{Next, Refused}
 use Rattle.reader.specs.Rows.{spanOf, quoted}
-use Rattle.digits.specs.Items.{valueIn, PartsSame}
+use Rattle.characters.specs.Says.{says}
+use Rattle.trims.specs.Trim.{dropped}
+use Rattle.rules.specs.Rules.{judge}
+use Rattle.numbers.specs.Alike.{Alike}
+use Rattle.digits.specs.Items.{valueIn}
 use Rattle.digits.proofs.Values.{alike-read}
 use Rattle.blindness.proofs.Pairs.{TagSays, Says}
+
+-- the row that a start tag takes bears its name
+pub row-named : (rows : List ℕ) (r : ℕ) (o : Bool) (name q : ℕ) → startOf rows r o name ≡ Row q → nameOf (getD rows q 0) ≡ name
+row-named rows r true name q e = start-means rows r name q true e .1 .named
+row-named rows r false name q e =
+    ⊎-elim (λ g. rw (g .itself) (g .named)) (λ g. g .1 .named) (start-means rows r name q false e .1)
+
+-- of an item that brings e: the same value, or one that R joins, where that is brought
+abbrev pub Values : (List ℕ → List ℕ → Type 0) → Entry → Entry → List ℕ → List ℕ → Type 0
+Values R brought e a b = ((e ≡ brought) × R a b) ⊎ (a ≡ b)
+
+module _ (name : List ℕ) (R : List ℕ → List ℕ → Type 0) (brought : Entry) where
+  -- a row that bears the name judges two values alike that R joins, and is that of what the tag brings
+  pub record BlindRow (w : ℕ) : Type 0 where
+    pub judged : (h : Held) {a b : List ℕ} → R a b → judge (formOf w) h (says (cond (collapsed w) (dropped a) a)) ≡ judge (formOf w) h (says (cond (collapsed w) (dropped b) b))
+    pub brings : (p : ℕ) → entryOf (roleOf w) p ≡ brought
+
+  pub record BlindRows (rows : List ℕ) : Type 0 where
+    pub each : (r : ℕ) → nameOf (getD rows r 0) ≡ elementNo name → BlindRow (getD rows r 0)
+
+  -- what a step brings is that
+  unfoldable Brings : Step → Type 0
+  Brings (Next x e) = e ≡ brought
+  Brings (Refused n) = Unit {0}
+
+  -- a tag in s and in s′, and the rows of a kind
+  module _ (rows : List ℕ) (blind : BlindRows rows) (t : Tag) (s s′ : List ℕ) (p : TagSays name R t s s′) where
+    judge-tag : (w : ℕ) (h : Held) → ((partOf s 1 (t .name) ≡ name) → BlindRow w) → judgeTag w t h s ≡ judgeTag w t h s′
+    unfolding judgeTag schemeRefusal valueOf
+    judge-tag w h row =
+        let q : judge (formOf w) h (says (valueOf w (t .v) s)) ≡ judge (formOf w) h (says (valueOf w (t .v) s′)) =
+        ⊎-elim
+        (λ z. row (z .0) .judged h (z .1))
+        (λ e. ap (λ (l : List ℕ). judge (formOf w) h (says (cond (collapsed w) (dropped l) l))) e)
+        (p .v) in
+        rw (p .parts .version, p .parts .coding, q)
+
+    module _ (x : State) (kind : ℕ) (empty : Bool) (room : Room) where
+      -- the row that a tag of the name takes
+      row-blind : (r : ℕ) → startOf rows (x .row) (x .inside) (elementNo (partOf s 1 (t .name))) ≡ Row r → partOf s 1 (t .name) ≡ name → BlindRow (getD rows r 0)
+      row-blind r q e = blind .each r (row-named rows (x .row) (x .inside) (elementNo (partOf s 1 (t .name))) r q ∙ ap elementNo e)
+
+      start-same : started x kind rows (elementNo (partOf s 1 (t .name))) t s empty room ≡ started x kind rows (elementNo (partOf s′ 1 (t .name))) t s′ empty room
+      unfolding started startedAt startJudged judgedAt valuesJudged
+      start-same =
+          by (startOf rows (x .row) (x .inside) (elementNo (partOf s 1 (t .name)))) refl
+          ∙ ap (λ (n : List ℕ). started x kind rows (elementNo n) t s′ empty room) (p .parts .name)
+        where
+          by : (d : Due) → startOf rows (x .row) (x .inside) (elementNo (partOf s 1 (t .name))) ≡ d
+              → startedAt x kind rows t s empty room d ≡ startedAt x kind rows t s′ empty room d
+          by (Row r) q = rw (judge-tag (getD rows r 0) (heldOf x kind) (row-blind r q))
+          by NotDue q = refl
+
+      start-brings : partOf s 1 (t .name) ≡ name → Brings (started x kind rows (elementNo (partOf s 1 (t .name))) t s empty room)
+      unfolding started startedAt startedBy Brings
+      start-brings e = by (startOf rows (x .row) (x .inside) (elementNo (partOf s 1 (t .name)))) refl
+        where
+          by : (d : Due) → startOf rows (x .row) (x .inside) (elementNo (partOf s 1 (t .name))) ≡ d → Brings (startedAt x kind rows t s empty room d)
+          by (Row r) q =
+              let j = startJudged x kind rows r t s empty room in by-cond Brings (eqb (j .number) 0) (row-blind r q e .brings (j .first)) tt
+          by NotDue q = tt
+
+  abbrev pub BlindKinds : Type 0
+  BlindKinds = (kind : ℕ) → BlindRows (rowsOf kind)
+
+  module _ (rows : BlindKinds) (x : State) (s s′ : List ℕ) (room : Room) where
+    abbrev stepped : Item → List ℕ → Step
+    stepped i l = step x i l room
+
+    -- a tag, by the rows of a kind
+    tag-same : (t : Tag) → TagSays name R t s s′ → (empty : Bool) (kind : ℕ)
+        → started x kind (rowsOf kind) (elementNo (partOf s 1 (t .name))) t s empty room ≡ started x kind (rowsOf kind) (elementNo (partOf s′ 1 (t .name))) t s′ empty room
+    tag-same t p empty kind = start-same (rowsOf kind) (rows kind) t s s′ p x kind empty room
+
+    pub step-same : (i : Item) → Says name R i s s′ → stepped i s ≡ stepped i s′
+    unfolding step kindTold rootKind moved Says
+    step-same (Start t) p = tag-same t p false (kindTold x (Start t) s) ∙ rw (p .parts .name)
+    step-same (Empty t) p = tag-same t p true (kindTold x (Empty t) s) ∙ rw (p .parts .name)
+    step-same (End n e) p = rw p
+    step-same (Text w e) p = refl
+    step-same (Comment e) p = refl
+    step-same (Unreadable q) p = refl
+
+    brings-entry : (y : Step) (x′ : State) (e : Entry) → y ≡ Next x′ e → Brings y → e ≡ brought
+    unfolding Brings
+    brings-entry y x′ e q b = rw q at b
+
+    tag-brings : (t : Tag) (empty : Bool) (kind : ℕ) → TagSays name R t s s′ → (x′ : State) (e : Entry)
+        → started x kind (rowsOf kind) (elementNo (partOf s 1 (t .name))) t s empty room ≡ Next x′ e
+        → Values R brought e (valueIn s (t .v)) (valueIn s′ (t .v))
+    tag-brings t empty kind p x′ e q =
+        ⊎-elim
+        (λ z. inl (brings-entry _ x′ e q (start-brings (rowsOf kind) (rows kind) t s s′ p x kind empty room (z .0)), z .1))
+        inr
+        (p .v)
+
+    -- an item that brings anything else has the same value
+    pub step-brings : (i : Item) → Says name R i s s′ → (x′ : State) (e : Entry) → stepped i s ≡ Next x′ e → Values R brought e (quoted (spanOf i) s) (quoted (spanOf i) s′)
+    unfolding step moved Says spanOf quoted partOf
+    step-brings (Start t) p x′ e q = tag-brings t false (kindTold x (Start t) s) p x′ e q
+    step-brings (Empty t) p x′ e q = tag-brings t true (kindTold x (Empty t) s) p x′ e q
+    step-brings (End n m) p x′ e q = inr refl
+    step-brings (Text w m) p x′ e q = inr refl
+    step-brings (Comment m) p x′ e q = inr refl
+    step-brings (Unreadable u) p x′ e q = inr refl
+
+-- ---- the first use: amounts
 
 -- a row that bears the name Qty is that of an amount: its form, its spaces and what it is to the reader
 unfoldable fitsQty : ℕ → Bool
@@ -45,13 +157,9 @@ unfoldable allFit : List ℕ → Bool
 allFit [] = true
 allFit (w ∷ ws) = cond (fitsQty w) (allFit ws) false
 
-one-fits : allFit (rowsOf 1) ≡ true
+all-fit : (kind : ℕ) → allFit (rowsOf kind) ≡ true
 unfolding allFit fitsQty rowsOf beschaffungsanforderung kostenblatt elementNo numberIn names same nameOf formOf collapsed roleOf
-one-fits = refl
-
-two-fits : allFit (rowsOf 2) ≡ true
-unfolding allFit fitsQty rowsOf beschaffungsanforderung kostenblatt elementNo numberIn names same nameOf formOf collapsed roleOf
-two-fits = refl
+all-fit = of-table allFit refl
 
 -- a row past the end bears no name
 none-fits : fitsQty 0 ≡ true
@@ -76,103 +184,17 @@ qty-row w h e =
     let g = both-true (collapsed w) (f .1) in
     record { form = eqb-true (formOf w) 10 (f .0); spaces = g .0; role = eqb-true (roleOf w) 10 (g .1) }
 
--- the row that a start tag takes bears its name
-pub row-named : (rows : List ℕ) (r : ℕ) (o : Bool) (name q : ℕ) → startOf rows r o name ≡ Row q → nameOf (getD rows q 0) ≡ name
-row-named rows r true name q e = start-means rows r name q true e .1 .named
-row-named rows r false name q e =
-    ⊎-elim (λ g. rw (g .itself) (g .named)) (λ g. g .1 .named) (start-means rows r name q false e .1)
+-- a row that a tag named Qty takes, of any kind
+pub row-role : (kind : ℕ) (r : ℕ) → nameOf (getD (rowsOf kind) r 0) ≡ elementNo (text "Qty") → roleOf (getD (rowsOf kind) r 0) ≡ 10
+row-role kind r e = qty-row (getD (rowsOf kind) r 0) (row-fits (rowsOf kind) r (all-fit kind)) e .role
 
--- a row that a tag named Qty takes, of either kind
-pub row-role : (kind : ℕ) (r : ℕ) → nameOf (getD (cond (eqb kind 1) (rowsOf 1) (rowsOf 2)) r 0) ≡ elementNo (text "Qty")
-    → roleOf (getD (cond (eqb kind 1) (rowsOf 1) (rowsOf 2)) r 0) ≡ 10
-row-role kind r e =
-    let rows = cond (eqb kind 1) (rowsOf 1) (rowsOf 2) in
-    qty-row (getD rows r 0) (row-fits rows r (by-cond (λ (l : List ℕ). allFit l ≡ true) (eqb kind 1) one-fits two-fits)) e .role
+-- no row of a Qty tells its digits apart
+qty-blind : (rows : List ℕ) → allFit rows ≡ true → BlindRows (text "Qty") Alike Amount rows
+unfolding entryOf
+qty-blind rows fit =
+    record {
+      each = λ r e. let w = qty-row (getD rows r 0) (row-fits rows r fit) e in record { judged = λ h j. rw (w .form, w .spaces) (alike-read h j); brings = λ p. rw (w .role) };
+    }
 
--- a tag in s and in s′
-module _ (t : Tag) (s s′ : List ℕ) (p : PartsSame t s s′) where
-  judge-tag : (w : ℕ) (h : Held) → (valueIn s (t .v) ≡ valueIn s′ (t .v)) ⊎ QtyRow w → judgeTag w t h s ≡ judgeTag w t h s′
-  unfolding judgeTag schemeRefusal valueOf
-  judge-tag w h (inl e) = rw (p .version, p .coding, e)
-  judge-tag w h (inr q) = rw (p .version, p .coding, q .form, q .spaces) (rw (alike-read h (p .v)))
-
-  module _ (rows : List ℕ) (fit : allFit rows ≡ true) (name : ℕ) (v : (name ≡ elementNo (text "Qty")) ⊎ (valueIn s (t .v) ≡ valueIn s′ (t .v)))
-      (x : State) (kind : ℕ) (empty : Bool) (room : Room) where
-    start-same : started x kind rows name t s empty room ≡ started x kind rows name t s′ empty room
-    unfolding started startedAt startJudged judgedAt valuesJudged
-    start-same = by (startOf rows (x .row) (x .inside) name) refl
-      where
-        by : (d : Due) → startOf rows (x .row) (x .inside) name ≡ d → startedAt x kind rows t s empty room d ≡ startedAt x kind rows t s′ empty room d
-        by (Row r) q =
-            rw (judge-tag (getD rows r 0) (heldOf x kind)
-            (⊎-elim (λ e. inr (qty-row (getD rows r 0) (row-fits rows r fit) (row-named rows (x .row) (x .inside) name r q ∙ e))) inl v))
-        by NotDue q = refl
-
--- what a step brings is an amount
-unfoldable BringsAmount : Step → Type 0
-BringsAmount (Next x e) = e ≡ Amount
-BringsAmount (Refused n) = Unit {0}
-
-start-brings : (t : Tag) (s : List ℕ) (rows : List ℕ) → allFit rows ≡ true → (name : ℕ) → name ≡ elementNo (text "Qty")
-    → (x : State) (kind : ℕ) (empty : Bool) (room : Room) → BringsAmount (started x kind rows name t s empty room)
-unfolding started startedAt startedBy BringsAmount entryOf
-start-brings t s rows fit name e x kind empty room = by (startOf rows (x .row) (x .inside) name) refl
-  where
-    by : (d : Due) → startOf rows (x .row) (x .inside) name ≡ d → BringsAmount (startedAt x kind rows t s empty room d)
-    by (Row r) q =
-        let w = qty-row (getD rows r 0) (row-fits rows r fit) (row-named rows (x .row) (x .inside) name r q ∙ e) in
-        let j = startJudged x kind rows r t s empty room in
-        by-cond BringsAmount (eqb (j .number) 0) (rw (w .role)) tt
-    by NotDue q = tt
-
-module _ (x : State) (s s′ : List ℕ) (room : Room) where
-  abbrev stepped : Item → List ℕ → Step
-  stepped i l = step x (rowsOf 1) (rowsOf 2) i l room
-
-  -- the number of a tag's name, and the `v` of a tag that bears another
-  number : (t : Tag) → TagSays t s s′ → (elementNo (partOf s′ 1 (t .name)) ≡ elementNo (text "Qty")) ⊎ (valueIn s (t .v) ≡ valueIn s′ (t .v))
-  number t p = ⊎-elim (λ e. inl (ap elementNo (sym (p .parts .name) ∙ e))) inr (p .v)
-
-  pub step-same : (i : Item) → Says i s s′ → stepped i s ≡ stepped i s′
-  unfolding step stepOn kindTold rootKind moved Says
-  step-same (Start t) p =
-      rw (p .parts .name)
-      (rw (
-        start-same t s s′ (p .parts) (rowsOf 1) one-fits (elementNo (partOf s′ 1 (t .name))) (number t p) x,
-        start-same t s s′ (p .parts) (rowsOf 2) two-fits (elementNo (partOf s′ 1 (t .name))) (number t p) x,
-      ))
-  step-same (Empty t) p =
-      rw (p .parts .name)
-      (rw (
-        start-same t s s′ (p .parts) (rowsOf 1) one-fits (elementNo (partOf s′ 1 (t .name))) (number t p) x,
-        start-same t s s′ (p .parts) (rowsOf 2) two-fits (elementNo (partOf s′ 1 (t .name))) (number t p) x,
-      ))
-  step-same (End n e) p = rw p
-  step-same (Text w e) p = refl
-  step-same (Comment e) p = refl
-  step-same (Unreadable q) p = refl
-
-  tag-brings : (t : Tag) (empty : Bool) → partOf s 1 (t .name) ≡ text "Qty" → (kind : ℕ)
-      → BringsAmount (cond (eqb kind 1) (started x kind (rowsOf 1) (elementNo (partOf s 1 (t .name))) t s empty room)
-      (started x kind (rowsOf 2) (elementNo (partOf s 1 (t .name))) t s empty room))
-  tag-brings t empty e kind =
-      by-cond BringsAmount (eqb kind 1)
-      (start-brings t s (rowsOf 1) one-fits (elementNo (partOf s 1 (t .name))) (ap elementNo e) x kind empty room)
-      (start-brings t s (rowsOf 2) two-fits (elementNo (partOf s 1 (t .name))) (ap elementNo e) x kind empty room)
-
-  brings-entry : (y : Step) (x′ : State) (e : Entry) → y ≡ Next x′ e → BringsAmount y → e ≡ Amount
-  unfolding BringsAmount
-  brings-entry y x′ e q b = rw q at b
-
-  -- an item that brings anything but an amount has the same value
-  pub step-brings : (i : Item) → Says i s s′ → (x′ : State) (e : Entry) → stepped i s ≡ Next x′ e
-      → (e ≡ Amount) ⊎ (quoted (spanOf i) s ≡ quoted (spanOf i) s′)
-  unfolding step stepOn moved Says spanOf quoted partOf
-  step-brings (Start t) p x′ e q =
-      ⊎-elim (λ z. inl (brings-entry (stepped (Start t) s) x′ e q (tag-brings t false z (kindTold x (Start t) s)))) inr (p .v)
-  step-brings (Empty t) p x′ e q =
-      ⊎-elim (λ z. inl (brings-entry (stepped (Empty t) s) x′ e q (tag-brings t true z (kindTold x (Empty t) s)))) inr (p .v)
-  step-brings (End n m) p x′ e q = inr refl
-  step-brings (Text w m) p x′ e q = inr refl
-  step-brings (Comment m) p x′ e q = inr refl
-  step-brings (Unreadable u) p x′ e q = inr refl
+pub qty-kinds : BlindKinds (text "Qty") Alike Amount
+qty-kinds kind = qty-blind (rowsOf kind) (all-fit kind)

@@ -8,33 +8,17 @@ use native.Mathlib.Omega.{arith}
 use lib.Dec.{eqb, ltb}
 use lib.ListN.{length, getD}
 use borrow.Author.Tests.{eq-eqb, ne-eqb, lt-ltb, eqb-true, ltb-true, not-true}
-use Rattle.lists.proofs.Cases.{eqb-cases, ltb-cases, zero-not-one, both-true}
+use Rattle.lists.proofs.Below.{every, below}
+use Rattle.lists.proofs.Cases.{eqb-cases, zero-not-one, both-true, where-true}
 use Rattle.slices.specs.Same.{same}
 use Rattle.slices.specs.Text.{text}
 use Rattle.elements.specs.Names.{names, numberIn, elementNo}
 use Rattle.structure.specs.Rows.{nameOf, parentOf, required, repeated, endsIn, endsAtOnce, startOf, endOf}
 use Rattle.structure.specs.declared.Due.the-variants.{Row}
 use Rattle.structure.proofs.Means.{start-means, end-means}
-use Rattle.guideline.specs.Columns.{roleOf}
+use Rattle.columns.specs.Columns.{roleOf}
 use Rattle.guideline.specs.Rows.{beschaffungsanforderung, kostenblatt, rowsOf}
-
--- a test that is asked only after another
--- a test that is asked only where another holds
-pub where-true : (t : Bool) {b : Bool} → cond t b true ≡ true → t ≡ true → b ≡ true
-where-true true h e = h
-where-true false h e = absurd (zero-not-one (cc))
-
-abbrev pub allBelow : ℕ → (ℕ → Bool) → Bool
-allBelow zero f = true
-allBelow (suc n) f = cond (f n) (allBelow n f) false
-
-pub below : (n : ℕ) (f : ℕ → Bool) → allBelow n f ≡ true → (i : ℕ) → i < n → f i ≡ true
-below zero f h i l = absurd (omega arith)
-below (suc n) f h i l =
-    ⊎-elim
-    (λ g. below n f (both-true (f n) h .1) i (g .0))
-    (λ g. let e : i ≡ n = omega (arith, l, g .0) in rw e (both-true (f n) h .0))
-    (ltb-cases i n)
+use Rattle.guideline.proofs.Each.{of-table}
 
 -- an Interval is started and its Qty is still to come: the last row is an Interval that is open, or a Pos
 unfoldable pub waits : ℕ → Bool → Bool
@@ -65,16 +49,13 @@ rowTest rows r w n =
 
 pub tested : List ℕ → Bool
 tested rows =
-    allBelow (length rows)
-    (λ r. cond (rowTest rows r (getD rows r 0) (getD rows (r + 1) 0)) (allBelow (length rows) (λ q. startTest rows r (getD rows r 0) q (getD rows q 0))) false)
+    every
+    (λ r. cond (rowTest rows r (getD rows r 0) (getD rows (r + 1) 0)) (every (λ q. startTest rows r (getD rows r 0) q (getD rows q 0)) (length rows)) false)
+    (length rows)
 
-pub one-tested : tested (rowsOf 1) ≡ true
+pub all-tested : (kind : ℕ) → tested (rowsOf kind) ≡ true
 unfolding tested rowTest startTest due waits rowsOf beschaffungsanforderung kostenblatt elementNo numberIn names same nameOf parentOf required repeated endsAtOnce endsIn roleOf
-one-tested = refl
-
-pub two-tested : tested (rowsOf 2) ≡ true
-unfolding tested rowTest startTest due waits rowsOf beschaffungsanforderung kostenblatt elementNo numberIn names same nameOf parentOf required repeated endsAtOnce endsIn roleOf
-two-tested = refl
+all-tested = of-table tested refl
 
 six : (a b c d e : Bool) {f : Bool} → cond a (cond b (cond c (cond d (cond e f false) false) false) false) false ≡ true
     → (a ≡ true) × (b ≡ true) × (c ≡ true) × (d ≡ true) × (e ≡ true) × (f ≡ true)
@@ -104,11 +85,11 @@ module _ (rows : List ℕ) (pass : tested rows ≡ true) where
 
   row-test : (r : ℕ) → r < length rows → rowTest rows r (at r) (at (r + 1)) ≡ true
   unfolding tested
-  row-test r l = both-true (rowTest rows r (at r) (at (r + 1))) (below (length rows) _ pass r l) .0
+  row-test r l = both-true (rowTest rows r (at r) (at (r + 1))) (below _ (length rows) pass r l) .0
 
   start-test : (r q : ℕ) → r < length rows → q < length rows → startTest rows r (at r) q (at q) ≡ true
   unfolding tested
-  start-test r q l g = below (length rows) _ (both-true (rowTest rows r (at r) (at (r + 1))) (below (length rows) _ pass r l) .1) q g
+  start-test r q l g = below _ (length rows) (both-true (rowTest rows r (at r) (at (r + 1))) (below _ (length rows) pass r l) .1) q g
 
   -- a row that comes again
   again-due : (r : ℕ) → r < length rows → repeated (at r) ≡ true → due (roleOf (at r)) (waits (at r) false) ≡ true

@@ -1,3 +1,4 @@
 pub mod Readable
+pub mod Replaced
 pub mod Sources
 pub mod Blind

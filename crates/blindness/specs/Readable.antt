@@ -20,31 +20,34 @@ use Rattle.pictures.specs.Picture.{digit}
 use Rattle.reader.specs.Items.{Placed, itemsFrom}
 use Rattle.digits.specs.Items.{InV}
 
--- "a start or empty tag named `Qty`"; s is the part of the document that begins with the item
-unfoldable pub namedQty : Item → List ℕ → Bool
-namedQty (Start t) s = same (partOf s 1 (t .name)) (text "Qty")
-namedQty (Empty t) s = same (partOf s 1 (t .name)) (text "Qty")
-namedQty (End n e) s = false
-namedQty (Text w e) s = false
-namedQty (Comment e) s = false
-namedQty (Refused p) s = false
+-- "a start or empty tag named `Qty`", or any other name; s is the part of the document that begins with the item
+unfoldable pub tagNamed : List ℕ → Item → List ℕ → Bool
+tagNamed name (Start t) s = same (partOf s 1 (t .name)) name
+tagNamed name (Empty t) s = same (partOf s 1 (t .name)) name
+tagNamed name (End n e) s = false
+tagNamed name (Text w e) s = false
+tagNamed name (Comment e) s = false
+tagNamed name (Refused p) s = false
 
 -- "between the quotes of the attribute `v`" of it: the place i, counted from the item's first byte
-abbrev pub InQtyTag : Item → List ℕ → ℕ → Type 0
-InQtyTag x s i = (namedQty x s ≡ true) × InV x i
+abbrev pub InTag : List ℕ → Item → List ℕ → ℕ → Type 0
+InTag name x s i = (tagNamed name x s ≡ true) × InV x i
 
 -- of these items: in the first, or in a later one if the first is readable
-unfoldable pub InQty : List Placed → ℕ → Type 0
-InQty [] p = ⊥
-InQty (x ∷ xs) p = ((i : ℕ) × (p ≡ x .at + i) × InQtyTag (x .item) (x .rest) i) ⊎ ((itemRefusal (x .item) ≡ 0) × InQty xs p)
+unfoldable pub InTags : List ℕ → List Placed → ℕ → Type 0
+InTags name [] p = ⊥
+InTags name (x ∷ xs) p = ((i : ℕ) × (p ≡ x .at + i) × InTag name (x .item) (x .rest) i) ⊎ ((itemRefusal (x .item) ≡ 0) × InTags name xs p)
 
 -- of the items of a document, of which there are none where the XML declaration is unreadable
-unfoldable pub InQtyAfter : List ℕ → Begin → ℕ → Type 0
-InQtyAfter doc (From n) p = InQty (itemsFrom doc n) p
-InQtyAfter doc (Unreadable q) p = ⊥
+unfoldable pub InTagsAfter : List ℕ → List ℕ → Begin → ℕ → Type 0
+InTagsAfter name doc (From n) p = InTags name (itemsFrom doc n) p
+InTagsAfter name doc (Unreadable q) p = ⊥
+
+abbrev pub namedQty : Item → List ℕ → Bool
+namedQty x s = tagNamed (text "Qty") x s
 
 unfoldable pub QtyDigit : List ℕ → ℕ → Type 0
-QtyDigit doc p = (digit (byte doc p) ≡ true) × InQtyAfter doc (begin doc) p
+QtyDigit doc p = (digit (byte doc p) ≡ true) × InTagsAfter (text "Qty") doc (begin doc) p
 
 -- "Two documents of equal length that differ only in digits of readable Qty values": at each place the bytes are equal, or one of them is a readable Qty
 -- digit and the other a digit.

@@ -16,18 +16,12 @@ pub enum Char {
 fn seq_len(a: u8) -> usize
     ensures { λ r. ⌜ r ≡ seqLen a ⌝ }
 {
-    if a <= 0x7F {
-        1
-    } else if a <= 0xC1 {
-        0
-    } else if a <= 0xDF {
-        2
-    } else if a <= 0xEF {
-        3
-    } else if a <= 0xF4 {
-        4
-    } else {
-        0
+    match a {
+        0x00..=0x7F => 1,
+        0xC2..=0xDF => 2,
+        0xE0..=0xEF => 3,
+        0xF0..=0xF4 => 4,
+        _ => 0,
     }
 }
 

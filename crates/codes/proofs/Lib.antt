@@ -1,3 +1,4 @@
-pub mod Rows
 pub mod Examples
+pub mod Named
+pub mod Rows
 pub mod Unique

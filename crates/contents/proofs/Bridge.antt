@@ -14,7 +14,7 @@ use Rattle.states.specs.declared.State.{State}
 use Rattle.states.specs.declared.Room.{Room}
 use Rattle.reader.specs.Items.{Placed, itemsAfter, itemsFrom}
 use Rattle.reader.specs.Reading.{Tables, Out, acceptedAt, readItems}
-use Rattle.blindness.proofs.Order.{items-few}
+use Rattle.reader.proofs.Ran.{items-few}
 use Rattle.trees.specs.Trees.{Trees, spell, Conforms}
 use Rattle.trees.specs.Cursor.{follows, rowAfter, openAfter}
 use Rattle.trees.proofs.Made.{made}

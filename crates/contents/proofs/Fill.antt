@@ -6,7 +6,7 @@ use mathlib.Core.Bool.{Bool, true, false}
 use lib.ListN.{getD, drop}
 use Rattle.items.specs.declared.Item.{Item}
 use Rattle.items.specs.declared.Item.the-variants.{Start, Empty, End, Text, Comment, Refused}
-use Rattle.guideline.specs.Columns.{roleOf}
+use Rattle.columns.specs.Columns.{roleOf}
 use Rattle.times.specs.Periods.{quarterHours}
 use Rattle.states.specs.Moves.{entryOf}
 use Rattle.states.specs.declared.State.{State}

@@ -17,12 +17,12 @@ use Rattle.trims.specs.Trim.{dropped}
 use Rattle.tags.specs.declared.Span.{Span}
 use Rattle.numbers.specs.Amount.{amountOf}
 use Rattle.structure.specs.Rows.{parentOf}
-use Rattle.guideline.specs.Columns.{roleOf}
+use Rattle.columns.specs.Columns.{roleOf}
 use Rattle.states.specs.Attributes.{there}
 use Rattle.states.specs.Moves.{entryOf}
 use Rattle.states.specs.declared.State.{State}
 use Rattle.reader.specs.Items.{Placed}
-use Rattle.reader.specs.Rows.{spanOf, quoted, thousandthsOf, positionsAfter, amountsAfter}
+use Rattle.reader.specs.Rows.{broughtBy, spanOf, quoted, thousandthsOf, positionsWith, amountsWith, positionsAfter, amountsAfter}
 use Rattle.reader.specs.Reading.{Tables, tablesAfter}
 use Rattle.trees.specs.Trees.{Trees, none, element, rowsTaken, Stand, Fits, EachConforms}
 use Rattle.lists.proofs.Stores.{sets-more}
@@ -80,12 +80,12 @@ puts-lists e f g k = rw (e, f, g) at k
 -- ---- a row that is no interval, Pos or Qty
 
 positions-kept : (r n : ℕ) (st : State) (l : List ℕ) → eqb r 9 ≡ false → positionsAfter st (entryOf r n) l ≡ l
-unfolding positionsAfter
+unfolding positionsAfter positionsWith broughtBy
 positions-kept r n st l k =
     by-entry (λ e. positionsAfter st e l ≡ l) r n refl (λ e. refl) (λ e. refl) (λ e. refl) (λ e. refl) (λ e. refl) (λ e. absurd (eqb-false r 9 k e)) (λ e. refl)
 
 amounts-kept : (r n : ℕ) (v : Span) (s : List ℕ) (st : State) (l : List ℤ) → eqb r 10 ≡ false → amountsAfter v s st (entryOf r n) l ≡ l
-unfolding amountsAfter
+unfolding amountsAfter amountsWith broughtBy
 amounts-kept r n v s st l k =
     by-entry (λ e. amountsAfter v s st e l ≡ l) r n refl (λ e. refl) (λ e. refl) (λ e. refl) (λ e. refl) (λ e. refl) (λ e. refl) (λ e. absurd (eqb-false r 10 k e))
 
@@ -114,7 +114,7 @@ module _ (kind : ℕ) (rows : List ℕ) (p : ℕ) (L : Layout rows p) (W : Value
       (own (hasRole 4 (getD rows (p + 3) 0)) (saidOf x) ++ those (hasRole 4) rows (saying (two a b)))
       (map positionOf (own (hasRole 9 (getD rows (p + 3) 0)) (saidOf x)) ++ map positionOf (those (hasRole 9) rows (saying (two a b))))
       (map amountIn (own (hasRole 10 (getD rows (p + 3) 0)) (saidOf x)) ++ map amountIn (those (hasRole 10) rows (saying (two a b))))
-  unfolding walked filled saying those tablesAfter entryOf positionsAfter amountsAfter stateOf
+  unfolding walked filled saying those tablesAfter entryOf positionsAfter positionsWith amountsAfter amountsWith broughtBy stateOf
   interval-made x a b y t g =
       let e : y .intervals + 1 - 1 ≡ y .intervals = omega arith in
       simp (L .interval, L .pos, L .qty)

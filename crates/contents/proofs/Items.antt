@@ -4,7 +4,7 @@ use Prim.Native.Nat.{ℕ, suc, _<_}
 use mathlib.Core.Path.{_≡_, refl, sym, ap, subst, _∙_}
 use mathlib.Core.List.{List, [], _∷_, _++_}
 use mathlib.Core.Bool.{Bool, true, false, cond, not}
-use mathlib.Core.Logic.{inr, ⊎-elim}
+use mathlib.Core.Logic.{⊎-elim}
 use native.Mathlib.Omega.{arith}
 use lib.ListN.{length, getD}
 use Rattle.lists.proofs.Cases.{zero-not-one}
@@ -15,10 +15,11 @@ use Rattle.items.specs.declared.Item.the-variants.{Refused as Unreadable}
 use Rattle.structure.specs.Rows.{startOf, endOf, overOf, endsAtOnce}
 use Rattle.structure.specs.declared.Due.{Due}
 use Rattle.structure.specs.declared.Due.the-variants.{Row, NotDue}
-use Rattle.guideline.proofs.Roots.{no-root}
-use Rattle.guideline.specs.Kinds.{kindOf}
+use Rattle.guideline.specs.Kinds.{isKind, kindOf}
+use Rattle.guideline.proofs.Each.{kind-told}
+use Rattle.guideline.proofs.Roots.{no-start, no-end as none-ends, not-over as none-over}
 use Rattle.guideline.specs.Rows.{rowsOf}
-use Rattle.states.specs.Moves.{cutShort, startedAt, started, endedAt, ended, moved, rootKind, kindTold, stepOn, step}
+use Rattle.states.specs.Moves.{cutShort, startedAt, started, endedAt, ended, moved, rootKind, kindTold, step}
 use Rattle.states.specs.declared.State.{State}
 use Rattle.states.specs.declared.Room.{Room}
 use Rattle.states.specs.declared.Entry.{Entry}
@@ -26,7 +27,7 @@ use Rattle.states.specs.declared.Entry.the-variants.{Nothing}
 use Rattle.states.specs.declared.Step.{Step}
 use Rattle.states.specs.declared.Step.the-variants.{Next, Refused}
 use Rattle.reader.specs.Items.{Placed, passed}
-use Rattle.reader.specs.Rows.{usedBefore}
+use Rattle.reader.specs.Rows.{broughtBy, usedWith, usedBefore}
 use Rattle.reader.specs.Reading.{Tables, Out, refusedAt, acceptedAt, withoutUsed, stepOf, tablesAfter, readItems}
 use Rattle.reader.specs.Reading.{endedAt as overAt}
 use Rattle.reader.proofs.Ran.{read-next, read-stop, still, unreadable}
@@ -36,8 +37,8 @@ use Rattle.contents.proofs.Laid.{Layout, Known, laid}
 use Rattle.contents.proofs.Walk.{Tally, nothing, Ended}
 use Rattle.contents.proofs.Fill.{tablesWith, saidByItem, saidOf, placedBy, placedSigns, stateOf}
 use Rattle.contents.proofs.Signs.{on-row, row-on, Goal, after, bringing, Runs, Opening, Closing, respelled}
-use Rattle.contents.proofs.Rooted.{kind-cases, first-row, no-end, not-over, row-within, row-named, short-ends, ends-row, row-ends}
-use Rattle.contents.proofs.Moved.{Low, low-opened, low-less, tables-inside, tables-still, dark-text, step-told, step-in, over-known, Went, Goes, Closed, started-goes, went-starts, ended-goes, went-ends}
+use Rattle.contents.proofs.Rooted.{first-row, no-end, not-over, row-within, row-named, short-ends, ends-row, row-ends}
+use Rattle.contents.proofs.Moved.{Low, low-opened, low-less, tables-inside, tables-still, dark-text, step-told, step-in, Went, Goes, Closed, started-goes, went-starts, ended-goes, went-ends}
 
 -- ---- the kinds of items
 
@@ -107,12 +108,12 @@ module _ (x : Placed) (xs : List Placed) where
 -- ---- one item of a reading
 
 module _ (doc : List ℕ) (room : Room) (x : Placed) (xs : List Placed) (st : State) (t : Tables) where
-  step-by : (s : Step) → step st (rowsOf 1) (rowsOf 2) (x .item) (x .rest) room ≡ s
+  step-by : (s : Step) → step st (x .item) (x .rest) room ≡ s
       → stepOf doc (t .series) room x st ≡ withoutUsed doc (t .series) (x .item) (x .rest) s
   unfolding stepOf
   step-by s e = ap (λ (v : Step). withoutUsed doc (t .series) (x .item) (x .rest) v) e
 
-  step-refused : (n : ℕ) → step st (rowsOf 1) (rowsOf 2) (x .item) (x .rest) room ≡ Refused n → stepOf doc (t .series) room x st ≡ Refused n
+  step-refused : (n : ℕ) → step st (x .item) (x .rest) room ≡ Refused n → stepOf doc (t .series) room x st ≡ Refused n
   unfolding withoutUsed
   step-refused n e = step-by (Refused n) e
 
@@ -125,23 +126,23 @@ module _ (doc : List ℕ) (room : Room) (x : Placed) (xs : List Placed) (st : St
   goes-on st′ e z ok = sym (ap (λ (o : Out). o .found .refusal) (read-next doc room x xs st t st′ e z)) ∙ ok
 
   read-pass : passed (x .item) ≡ true → readItems doc room (x ∷ xs) st t ≡ readItems doc room xs st t
-  unfolding withoutUsed usedBefore
+  unfolding withoutUsed usedBefore usedWith broughtBy
   read-pass e =
-      read-next doc room x xs st t st Nothing (step-by (Next st Nothing) (still st (rowsOf 1) (rowsOf 2) (x .item) e (x .rest) room))
+      read-next doc room x xs st t st Nothing (step-by (Next st Nothing) (still st (x .item) e (x .rest) room))
       ∙ ap (λ (m : Tables). readItems doc room xs st m) (tables-still x st t)
 
   not-dark : (m : ℕ) → x .item ≡ Text false m → readItems doc room (x ∷ xs) st t .found .refusal ≡ 0 → ⊥
   not-dark m e =
       stops 3
       (step-refused 3
-      (ap (λ (i : Item). step st (rowsOf 1) (rowsOf 2) i (x .rest) room) e ∙ dark-text st (rowsOf 1) (rowsOf 2) m (x .rest) room))
+      (ap (λ (i : Item). step st i (x .rest) room) e ∙ dark-text st m (x .rest) room))
       (λ z. omega (arith, z))
 
   not-unread : (p : ℕ) → x .item ≡ Unreadable p → readItems doc room (x ∷ xs) st t .found .refusal ≡ 0 → ⊥
   not-unread p e =
       stops 2
       (step-refused 2
-      (ap (λ (i : Item). step st (rowsOf 1) (rowsOf 2) i (x .rest) room) e ∙ unreadable st (rowsOf 1) (rowsOf 2) p (x .rest) room))
+      (ap (λ (i : Item). step st i (x .rest) room) e ∙ unreadable st p (x .rest) room))
       (λ z. omega (arith, z))
 
 -- ---- where the kind is told
@@ -182,7 +183,7 @@ module _ (doc : List ℕ) (room : Room) (kind : ℕ) (known : Known kind) where
     module _ (k₀ r : ℕ) (o : Bool) (y : Tally) (t : Tables) (low : Low (suc (length xs)) y)
         (ok : readItems doc room (x ∷ xs) (stateOf k₀ r o y) t .found .refusal ≡ 0) where
       tag-forth : (tag : Tag) (name : ℕ) (empty : Bool) → saidBy tag (x .rest) ≡ saidOf x
-          → step (stateOf k₀ r o y) (rowsOf 1) (rowsOf 2) (x .item) (x .rest) room ≡ started (stateOf k₀ r o y) kind rows name tag (x .rest) empty room
+          → step (stateOf k₀ r o y) (x .item) (x .rest) room ≡ started (stateOf k₀ r o y) kind rows name tag (x .rest) empty room
           → (q : ℕ) × Went doc room kind rows r o y t x name empty q
           × Reads xs q (not empty) (after rows q x y) (tablesWith kind rows q x (after rows q x y) t)
       tag-forth tag name empty says e =
@@ -207,7 +208,7 @@ module _ (doc : List ℕ) (room : Room) (kind : ℕ) (known : Known kind) where
           by (Refused n) z g = absurd (stops doc room x xs (stateOf k₀ r o y) t n z g ok)
 
       start-forth : (tag : Tag) → x .item ≡ Start tag
-          → step (stateOf k₀ r o y) (rowsOf 1) (rowsOf 2) (x .item) (x .rest) room ≡ moved (stateOf k₀ r o y) kind rows (x .item) (x .rest) room
+          → step (stateOf k₀ r o y) (x .item) (x .rest) room ≡ moved (stateOf k₀ r o y) kind rows (x .item) (x .rest) room
           → Reads (x ∷ xs) r o y t
       unfolding Runs allowed
       start-forth tag i e =
@@ -220,7 +221,7 @@ module _ (doc : List ℕ) (room : Room) (kind : ℕ) (known : Known kind) where
           )
 
       empty-forth : (tag : Tag) → x .item ≡ Empty tag
-          → step (stateOf k₀ r o y) (rowsOf 1) (rowsOf 2) (x .item) (x .rest) room ≡ moved (stateOf k₀ r o y) kind rows (x .item) (x .rest) room
+          → step (stateOf k₀ r o y) (x .item) (x .rest) room ≡ moved (stateOf k₀ r o y) kind rows (x .item) (x .rest) room
           → Reads (x ∷ xs) r o y t
       unfolding Runs allowed
       empty-forth tag i e =
@@ -291,10 +292,9 @@ module _ (doc : List ℕ) (room : Room) (kind : ℕ) (known : Known kind) where
       item-forth (Comment m) i = pass-forth (ap passed i)
       item-forth (Unreadable u) i = absurd (not-unread doc room x xs (stateOf kind r o y) t u i ok)
 
-  over-forth : (r : ℕ) (o : Bool) (y : Tally) → overAt (rowsOf 1) (rowsOf 2) (length doc) (stateOf kind r o y) .refusal ≡ 0 → overOf rows r o ≡ true
-  unfolding stateOf refusedAt acceptedAt
-  over-forth r o y ok =
-      by (overOf rows r o) (rw (over-known kind known (length doc) (stateOf kind r o y) refl) at ok)
+  over-forth : (r : ℕ) (o : Bool) (y : Tally) → overAt rows (length doc) (stateOf kind r o y) .refusal ≡ 0 → overOf rows r o ≡ true
+  unfolding overAt stateOf refusedAt acceptedAt
+  over-forth r o y ok = by (overOf rows r o) ok
     where
       by : (b : Bool) → cond b (acceptedAt (length doc) (stateOf kind r o y)) (refusedAt 3 (length doc) (stateOf kind r o y)) .refusal ≡ 0 → b ≡ true
       by true e = refl
@@ -302,7 +302,7 @@ module _ (doc : List ℕ) (room : Room) (kind : ℕ) (known : Known kind) where
 
   items-forth : (xs : List Placed) (r : ℕ) (o : Bool) (y : Tally) (t : Tables) → Low (length xs) y
       → readItems doc room xs (stateOf kind r o y) t .found .refusal ≡ 0 → Reads xs r o y t
-  unfolding readItems placedSigns AllAllowed Runs
+  unfolding readItems stateOf placedSigns AllAllowed Runs
   items-forth [] r o y t low ok = (tt, over-forth r o y ok)
   items-forth (x ∷ xs) r o y t low ok =
       item-forth x xs (λ r o y t low ok. items-forth xs r o y t low ok) r o y t low ok (x .item) refl
@@ -315,7 +315,7 @@ module _ (doc : List ℕ) (room : Room) (kind : ℕ) (known : Known kind) where
       (may : AllAllowed (x ∷ xs)) where
     module _ (k₀ r : ℕ) (o : Bool) (y : Tally) (t : Tables) (low : Low (suc (length xs)) y) where
       tag-back : (tag : Tag) (name : ℕ) (empty : Bool) → saidBy tag (x .rest) ≡ saidOf x
-          → step (stateOf k₀ r o y) (rowsOf 1) (rowsOf 2) (x .item) (x .rest) room ≡ started (stateOf k₀ r o y) kind rows name tag (x .rest) empty room
+          → step (stateOf k₀ r o y) (x .item) (x .rest) room ≡ started (stateOf k₀ r o y) kind rows name tag (x .rest) empty room
           → (q : ℕ) → Went doc room kind rows r o y t x name empty q
           → Runs doc room kind rows (Ends doc kind out) (placedSigns xs) q (not empty) (after rows q x y) (tablesWith kind rows q x (after rows q x y) t)
           → readItems doc room (x ∷ xs) (stateOf k₀ r o y) t ≡ out
@@ -329,7 +329,7 @@ module _ (doc : List ℕ) (room : Room) (kind : ℕ) (known : Known kind) where
           ∙ ih q (not empty) y′ (tablesWith kind rows q x y′ t) (low-opened (length xs) (getD rows q 0) x y low) (stands-may x xs may .1) runs
 
       start-back : (tag : Tag) → x .item ≡ Start tag
-          → step (stateOf k₀ r o y) (rowsOf 1) (rowsOf 2) (x .item) (x .rest) room ≡ moved (stateOf k₀ r o y) kind rows (x .item) (x .rest) room
+          → step (stateOf k₀ r o y) (x .item) (x .rest) room ≡ moved (stateOf k₀ r o y) kind rows (x .item) (x .rest) room
           → Runs doc room kind rows (Ends doc kind out) (Opens x (elementIn 1 (tag .name) (x .rest)) ∷ placedSigns xs) r o y t
           → readItems doc room (x ∷ xs) (stateOf k₀ r o y) t ≡ out
       unfolding Runs cutShort
@@ -341,7 +341,7 @@ module _ (doc : List ℕ) (room : Room) (kind : ℕ) (known : Known kind) where
           (k .2 .2)
 
       empty-back : (tag : Tag) → x .item ≡ Empty tag
-          → step (stateOf k₀ r o y) (rowsOf 1) (rowsOf 2) (x .item) (x .rest) room ≡ moved (stateOf k₀ r o y) kind rows (x .item) (x .rest) room
+          → step (stateOf k₀ r o y) (x .item) (x .rest) room ≡ moved (stateOf k₀ r o y) kind rows (x .item) (x .rest) room
           → Runs doc room kind rows (Ends doc kind out)
           (Opens x (elementIn 1 (tag .name) (x .rest)) ∷ (Closes (elementIn 1 (tag .name) (x .rest)) ∷ placedSigns xs)) r o y t
           → readItems doc room (x ∷ xs) (stateOf k₀ r o y) t ≡ out
@@ -398,8 +398,8 @@ module _ (doc : List ℕ) (room : Room) (kind : ℕ) (known : Known kind) where
           let z : _≡_ {A = Bool} false true = sym (ap allowed i) ∙ stands-may x xs may .0 in absurd (zero-not-one (cc))
 
   over-back : (out : Out) (r : ℕ) (o : Bool) (y : Tally) (t : Tables) → Ends doc kind out r o y t → readItems doc room [] (stateOf kind r o y) t ≡ out
-  unfolding readItems stateOf
-  over-back out r o y t e = rw (over-known kind known (length doc) (stateOf kind r o y) refl, e .0) (e .1)
+  unfolding readItems overAt stateOf
+  over-back out r o y t e = rw (e .0) (e .1)
 
   items-back : (out : Out) (xs : List Placed) (r : ℕ) (o : Bool) (y : Tally) (t : Tables) → Low (length xs) y → AllAllowed xs
       → Runs doc room kind rows (Ends doc kind out) (placedSigns xs) r o y t → readItems doc room xs (stateOf kind r o y) t ≡ out
@@ -409,12 +409,6 @@ module _ (doc : List ℕ) (room : Room) (kind : ℕ) (known : Known kind) where
       item-back out x xs (λ r o y t low may runs. items-back out xs r o y t low may runs) may r o y t low (x .item) refl runs
 
 -- ---- before the root
-
--- where no kind is told
-step-none : (st : State) (i : Item) (s : List ℕ) (room : Room) → kindTold st i s ≡ 0
-    → step st (rowsOf 1) (rowsOf 2) i s room ≡ moved st 0 (rowsOf 2) i s room
-unfolding step stepOn
-step-none st i s room e = rw e refl
 
 module _ (y : Tally) (x : Placed) where
   told-start : (tag : Tag) → x .item ≡ Start tag → kindTold (stateOf 0 0 true y) (x .item) (x .rest) ≡ kindOf (elementIn 1 (tag .name) (x .rest))
@@ -429,17 +423,6 @@ module _ (y : Tally) (x : Placed) where
   unfolding kindTold stateOf rootKind
   told-end n m e = rw e refl
 
-two : Known 2
-two = inr refl
-
--- before the root no end tag is due
-no-close : (name : ℕ) → endOf (rowsOf 2) 0 true name ≡ NotDue
-no-close name = by (endOf (rowsOf 2) 0 true name) refl
-  where
-    by : (d : Due) → endOf (rowsOf 2) 0 true name ≡ d → endOf (rowsOf 2) 0 true name ≡ NotDue
-    by NotDue e = e
-    by (Row q) e = let l = laid 2 two in absurd (no-end (rowsOf 2) (l .period) (l .layout) name q e)
-
 module _ (doc : List ℕ) (room : Room) where
   -- a kind is told, and by its rows the items are read
   abbrev Begins : List Placed → Tables → Type 0
@@ -451,22 +434,22 @@ module _ (doc : List ℕ) (room : Room) where
     blank = stateOf 0 0 true nothing
 
     -- a tag that tells no kind is refused
-    untold : (tag : Tag) (name : ℕ) (empty : Bool) → kindOf name ≡ 0
-        → step blank (rowsOf 1) (rowsOf 2) (x .item) (x .rest) room ≡ started blank 0 (rowsOf 2) name tag (x .rest) empty room → ⊥
-    unfolding started startedAt stateOf
-    untold tag name empty k e =
+    untold : (tag : Tag) (name : ℕ) (empty : Bool)
+        → step blank (x .item) (x .rest) room ≡ started blank 0 (rowsOf 0) name tag (x .rest) empty room → ⊥
+    unfolding started startedAt stateOf isKind
+    untold tag name empty e =
         stops doc room x xs blank t 3
-        (step-refused doc room x xs blank t 3 (e ∙ ap (λ (d : Due). startedAt blank 0 (rowsOf 2) tag (x .rest) empty room d) (no-root true name k)))
+        (step-refused doc room x xs blank t 3 (e ∙ ap (λ (d : Due). startedAt blank 0 (rowsOf 0) tag (x .rest) empty room d) (no-start 0 refl 0 true name)))
         (λ z. omega (arith, z)) ok
 
     unended : (n m : ℕ) → x .item ≡ End n m → ⊥
-    unfolding ended endedAt stateOf
+    unfolding ended endedAt stateOf isKind
     unended n m i =
         stops doc room x xs blank t 3
         (step-refused doc room x xs blank t 3
-        (step-none blank (x .item) (x .rest) room (told-end nothing x n m i)
-        ∙ moved-end blank 0 (rowsOf 2) x room n m i
-        ∙ ap (λ (d : Due). endedAt blank (rowsOf 2) d) (no-close (elementIn 2 n (x .rest)))))
+        (step-told blank 0 (x .item) (x .rest) room (told-end nothing x n m i)
+        ∙ moved-end blank 0 (rowsOf 0) x room n m i
+        ∙ ap (λ (d : Due). endedAt blank (rowsOf 0) d) (none-ends 0 refl 0 true (elementIn 2 n (x .rest)))))
         (λ z. omega (arith, z)) ok
 
     begin-start : (tag : Tag) → x .item ≡ Start tag → Begins (x ∷ xs) t
@@ -476,12 +459,12 @@ module _ (doc : List ℕ) (room : Room) where
         ⊎-elim
         (λ (k : kindOf name ≡ 0).
         absurd
-        (untold tag name false k (step-none blank (x .item) (x .rest) room (told ∙ k) ∙ moved-start blank 0 (rowsOf 2) x room tag i)))
+        (untold tag name false (step-told blank 0 (x .item) (x .rest) room (told ∙ k) ∙ moved-start blank 0 (rowsOf 0) x room tag i)))
         (λ (k : Known (kindOf name)).
         let f = start-forth doc room (kindOf name) k x xs (items-forth doc room (kindOf name) k xs) 0 0 true nothing t low ok tag i
-        (step-told blank (kindOf name) k (x .item) (x .rest) room told) in
+        (step-told blank (kindOf name) (x .item) (x .rest) room told) in
         (kindOf name, k, f .0, f .1))
-        (kind-cases name)
+        (kind-told name)
 
     begin-empty : (tag : Tag) → x .item ≡ Empty tag → Begins (x ∷ xs) t
     begin-empty tag i =
@@ -490,12 +473,12 @@ module _ (doc : List ℕ) (room : Room) where
         ⊎-elim
         (λ (k : kindOf name ≡ 0).
         absurd
-        (untold tag name true k (step-none blank (x .item) (x .rest) room (told ∙ k) ∙ moved-empty blank 0 (rowsOf 2) x room tag i)))
+        (untold tag name true (step-told blank 0 (x .item) (x .rest) room (told ∙ k) ∙ moved-empty blank 0 (rowsOf 0) x room tag i)))
         (λ (k : Known (kindOf name)).
         let f = empty-forth doc room (kindOf name) k x xs (items-forth doc room (kindOf name) k xs) 0 0 true nothing t low ok tag i
-        (step-told blank (kindOf name) k (x .item) (x .rest) room told) in
+        (step-told blank (kindOf name) (x .item) (x .rest) room told) in
         (kindOf name, k, f .0, f .1))
-        (kind-cases name)
+        (kind-told name)
 
     module _ (ih : Low (length xs) nothing → readItems doc room xs (stateOf 0 0 true nothing) t .found .refusal ≡ 0 → Begins xs t) where
       begin-pass : passed (x .item) ≡ true → Begins (x ∷ xs) t
@@ -517,18 +500,14 @@ module _ (doc : List ℕ) (room : Room) where
       begin-item (Comment m) i = begin-pass (ap passed i)
       begin-item (Unreadable u) i = absurd (not-unread doc room x xs blank t u i ok)
 
-  over-begun : (r : ℕ) (o : Bool) (y : Tally) → overAt (rowsOf 1) (rowsOf 2) (length doc) (stateOf 0 r o y) .refusal ≡ 0 → overOf (rowsOf 2) r o ≡ true
-  unfolding overAt stateOf refusedAt acceptedAt
-  over-begun r o y ok = by (overOf (rowsOf 2) r o) ok
-    where
-      by : (b : Bool) → cond b (acceptedAt (length doc) (stateOf 0 r o y)) (refusedAt 3 (length doc) (stateOf 0 r o y)) .refusal ≡ 0 → b ≡ true
-      by true e = refl
-      by false e = absurd (omega (arith, e))
+  over-begun : (r : ℕ) (o : Bool) (y : Tally) → overAt (rowsOf 0) (length doc) (stateOf 0 r o y) .refusal ≡ 0 → ⊥
+  unfolding overAt stateOf refusedAt acceptedAt isKind
+  over-begun r o y ok = let z : _≡_ {A = ℕ} 3 0 = rw (none-over 0 refl r o) at ok in omega (arith, z)
 
   pub begin-forth : (xs : List Placed) (t : Tables) → Low (length xs) nothing → readItems doc room xs (stateOf 0 0 true nothing) t .found .refusal ≡ 0
       → Begins xs t
-  unfolding readItems
-  begin-forth [] t low ok = let l = laid 2 two in absurd (not-over (rowsOf 2) (l .period) (l .layout) (over-begun 0 true nothing ok))
+  unfolding readItems stateOf
+  begin-forth [] t low ok = absurd (over-begun 0 true nothing ok)
   begin-forth (x ∷ xs) t low ok = begin-item x xs t low ok (λ low ok. begin-forth xs t low ok) (x .item) refl
 
   -- ---- and back
@@ -559,13 +538,13 @@ module _ (doc : List ℕ) (room : Room) where
           let h = respelled doc room kind (rowsOf kind) (Ends doc kind out) 0 true nothing t (signs-start x xs tag i) runs in
           let told = told-start nothing x tag i ∙ first-kind x (elementIn 1 (tag .name) (x .rest)) (placedSigns xs) t h in
           start-back doc room kind known out x xs (items-back doc room kind known out xs) may 0 0 true nothing t low tag i
-          (step-told (stateOf 0 0 true nothing) kind known (x .item) (x .rest) room told) h
+          (step-told (stateOf 0 0 true nothing) kind (x .item) (x .rest) room told) h
       begun-item (Empty tag) i runs =
           let name = elementIn 1 (tag .name) (x .rest) in
           let h = respelled doc room kind (rowsOf kind) (Ends doc kind out) 0 true nothing t (signs-empty x xs tag i) runs in
           let told = told-empty nothing x tag i ∙ first-kind x name (Closes name ∷ placedSigns xs) t h in
           empty-back doc room kind known out x xs (items-back doc room kind known out xs) may 0 0 true nothing t low tag i
-          (step-told (stateOf 0 0 true nothing) kind known (x .item) (x .rest) room told) h
+          (step-told (stateOf 0 0 true nothing) kind (x .item) (x .rest) room told) h
       begun-item (End n m) i runs =
           let name = elementIn 2 n (x .rest) in
           let l = laid kind known in

@@ -4,16 +4,16 @@ use Prim.Native.Nat.{ℕ, _+_, _-_, _≤_, _<_}
 use mathlib.Core.Path.{_≡_, refl, sym, ap, subst, _∙_}
 use mathlib.Core.List.{List, [], _++_, map, append-nil}
 use mathlib.Core.Logic.{_⊎_, inl, inr, ⊎-elim, _↔_}
-use mathlib.Core.Bool.{true, false, cond, _&&_}
+use mathlib.Core.Bool.{Bool, true, false, cond, _&&_}
 use native.Mathlib.Omega.{arith}
 use lib.Dec.{eqb, leb}
 use lib.ListN.{length, getD}
 use borrow.Author.Tests.{eq-eqb, ne-eqb, le-leb, leb-true}
-use Rattle.lists.proofs.Cases.{bool-cases, eqb-cases, leb-cases}
+use Rattle.lists.proofs.Cases.{eqb-cases, never}
 use Rattle.rules.specs.Rules.{judge}
 use Rattle.rules.specs.declared.Held.{Held}
-use Rattle.guideline.specs.Columns.{formOf, roleOf}
-use Rattle.guideline.specs.Kinds.{hasEnough}
+use Rattle.columns.specs.Columns.{formOf, roleOf}
+use Rattle.guideline.specs.Kinds.{kindAt, withinMost, hasEnough}
 use Rattle.states.specs.Moves.{countRefusal}
 use Rattle.states.specs.declared.Room.{Room}
 use Rattle.trees.specs.Trees.{Trees, none, element}
@@ -26,7 +26,7 @@ use Rattle.contents.proofs.Elements.{Within, within-more, beside, no-ro
 use Rattle.contents.proofs.Shape.{SeriesShape}
 use Rattle.contents.proofs.Walk.{Tally, opened, walked, quartersIn, Passes}
 use Rattle.contents.proofs.Tallies.{unchanged, intervals-walked, originals-walked, first-walked}
-use Rattle.contents.proofs.Segments.{Holds, Plain, Segment, passes-segment}
+use Rattle.contents.proofs.Segments.{Few, within-few, few-within, Holds, Plain, Segment, passes-segment}
 
 -- ---- the rule of one element, and the period
 
@@ -65,45 +65,30 @@ module _ (kind : ℕ) (room : Room) (rows : List ℕ) where
 
 -- ---- how many Intervals
 
-counts : (kind n quarters : ℕ) → countRefusal kind quarters n ≡ 0 → (kind ≡ 1 → n ≤ 100) → countFits kind quarters n ≡ true
-unfolding countRefusal countFits hasEnough
+counts : (kind n quarters : ℕ) → countRefusal kind quarters n ≡ 0 → Few kind n → countFits kind quarters n ≡ true
+unfolding countRefusal countFits
 counts kind n quarters e f =
-    ⊎-elim
-    (λ (y : (kind ≡ 1) × (eqb kind 1 ≡ true)).
-    let h : _≡_ {A = ℕ} (cond (leb 92 n) (cond (eqb n quarters) 0 8) 3) 0 = rw (y .1) at e in
-    rw (y .1)
-    (⊎-elim
-    (λ (a : (92 ≤ n) × (leb 92 n ≡ true)).
-    let g : _≡_ {A = ℕ} (cond (eqb n quarters) 0 8) 0 = rw (a .1) at h in
-    ⊎-elim
-    (λ (b : eqb n quarters ≡ true).
-    parts-and (leb 92 n && leb n 100) (eqb n quarters) (parts-and (leb 92 n) (leb n 100) (a .1) (le-leb n 100 (f (y .0)))) b)
-    (λ (b : eqb n quarters ≡ false). let z : _≡_ {A = ℕ} 8 0 = rw b at g in absurd (omega (arith, z)))
-    (bool-cases (eqb n quarters)))
-    (λ (a : (n < 92) × (leb 92 n ≡ false)). let z : _≡_ {A = ℕ} 3 0 = rw (a .1) at h in absurd (omega (arith, z)))
-    (leb-cases 92 n)))
-    (λ (y : (kind ≡ 1 → ⊥) × (eqb kind 1 ≡ false)).
-    let h : _≡_ {A = ℕ} (cond (leb 1 n) 0 3) 0 = rw (y .1) at e in
-    rw (y .1)
-    (⊎-elim
-    (λ (a : leb 1 n ≡ true). a)
-    (λ (a : leb 1 n ≡ false). let z : _≡_ {A = ℕ} 3 0 = rw a at h in absurd (omega (arith, z)))
-    (bool-cases (leb 1 n))))
-    (eqb-cases kind 1)
+    let h = by (hasEnough kind n) (kindAt kind .full) (eqb n quarters) e in
+    parts-and (hasEnough kind n && withinMost kind n) (cond (kindAt kind .full) (eqb n quarters) true)
+    (parts-and (hasEnough kind n) (withinMost kind n) (h .0) (few-within kind n f)) (h .1)
+  where
+    by : (a f q : Bool) → _≡_ {A = ℕ} (cond a (cond f (cond q 0 8) 0) 3) 0 → (a ≡ true) × (cond f q true ≡ true)
+    by true true true e = (refl, refl)
+    by true true false e = absurd (omega (arith, e))
+    by true false q e = (refl, refl)
+    by false f q e = absurd (omega (arith, e))
 
-counted-back : (kind n quarters : ℕ) → countFits kind quarters n ≡ true → (countRefusal kind quarters n ≡ 0) × (kind ≡ 1 → n ≤ 100)
-unfolding countRefusal countFits hasEnough
+counted-back : (kind n quarters : ℕ) → countFits kind quarters n ≡ true → (countRefusal kind quarters n ≡ 0) × Few kind n
+unfolding countRefusal countFits
 counted-back kind n quarters e =
-    ⊎-elim
-    (λ (y : (kind ≡ 1) × (eqb kind 1 ≡ true)).
-    let h : leb 92 n && leb n 100 && eqb n quarters ≡ true = rw (y .1) at e in
-    let t = both (leb 92 n && leb n 100) (eqb n quarters) h in
-    let u = both (leb 92 n) (leb n 100) (t .0) in
-    (rw (y .1, u .0, t .1) refl, λ _. leb-true n 100 (u .1)))
-    (λ (y : (kind ≡ 1 → ⊥) × (eqb kind 1 ≡ false)).
-    let h : leb 1 n ≡ true = rw (y .1) at e in
-    (rw (y .1, h) refl, λ k. absurd (y .0 k)))
-    (eqb-cases kind 1)
+    let t = both (hasEnough kind n && withinMost kind n) (cond (kindAt kind .full) (eqb n quarters) true) e in
+    let u = both (hasEnough kind n) (withinMost kind n) (t .0) in
+    (rw (u .0) (by (kindAt kind .full) (eqb n quarters) (t .1)), within-few kind n (u .1))
+  where
+    by : (f q : Bool) → cond f q true ≡ true → _≡_ {A = ℕ} (cond f (cond q 0 8) 0) 0
+    by true true e = refl
+    by true false e = never e
+    by false q e = refl
 
 module _ (kind : ℕ) (room : Room) (rows : List ℕ) (p : ℕ) (L : Layout rows p) (p₀ : Period) where
   abbrev quarters : ℕ

@@ -7,16 +7,18 @@ use mathlib.Core.Logic.{⊎-elim}
 use native.Mathlib.Omega.{arith}
 use lib.Dec.{eqb}
 use lib.ListN.{getD}
-use Rattle.lists.proofs.Cases.{bool-cases, by-cond, eqb-cases}
+use borrow.Author.Tests.{ne-eqb}
+use Rattle.lists.proofs.Cases.{bool-cases, eqb-cases}
 use Rattle.items.specs.declared.Tag.{Tag}
 use Rattle.items.specs.declared.Item.{Item}
 use Rattle.items.specs.declared.Item.the-variants.{Text}
-use Rattle.structure.specs.Rows.{startOf, endOf, overOf}
+use Rattle.structure.specs.Rows.{startOf, endOf}
 use Rattle.structure.specs.declared.Due.{Due}
 use Rattle.structure.specs.declared.Due.the-variants.{Row, NotDue}
-use Rattle.guideline.specs.Columns.{roleOf}
+use Rattle.columns.specs.Columns.{roleOf}
 use Rattle.guideline.specs.Rows.{rowsOf}
-use Rattle.states.specs.Moves.{cutShort, startJudged, entryOf, startedBy, startedAt, started, endRefusal, endedAt, ended, moved, kindTold, stepOn, step}
+use Rattle.guideline.proofs.Each.{kind-some}
+use Rattle.states.specs.Moves.{cutShort, startJudged, entryOf, startedBy, startedAt, started, endRefusal, endedAt, ended, moved, kindTold, step}
 use Rattle.states.specs.declared.State.{State}
 use Rattle.states.specs.declared.Room.{Room}
 use Rattle.states.specs.declared.Entry.{Entry}
@@ -24,9 +26,8 @@ use Rattle.states.specs.declared.Entry.the-variants.{Nothing, Series, Identific
 use Rattle.states.specs.declared.Step.{Step}
 use Rattle.states.specs.declared.Step.the-variants.{Next, Refused}
 use Rattle.reader.specs.Items.{Placed}
-use Rattle.reader.specs.Rows.{spanOf, seriesAfter, positionsAfter, amountsAfter, usedBefore}
-use Rattle.reader.specs.Reading.{Tables, refusedAt, acceptedAt, withoutUsed, tablesAfter}
-use Rattle.reader.specs.Reading.{endedAt as overAt}
+use Rattle.reader.specs.Rows.{broughtBy, spanOf, fieldAfter, seriesWith, positionsWith, amountsWith, seriesAfter, positionsAfter, amountsAfter, usedWith, usedBefore}
+use Rattle.reader.specs.Reading.{Tables, withoutUsed, tablesAfter}
 use Rattle.contents.specs.Said.{Said}
 use Rattle.contents.specs.Spelled.{saidBy}
 use Rattle.contents.specs.Legal.{positionOf}
@@ -73,7 +74,7 @@ low-less n y l =
 -- they do not look at whether a row is open
 pub tables-inside : (x : Placed) (kind q : ℕ) (a b : Bool) (y : Tally) (e : Entry) (t : Tables)
     → tablesAfter x (stateOf kind q a y) e t ≡ tablesAfter x (stateOf kind q b y) e t
-unfolding tablesAfter stateOf seriesAfter positionsAfter amountsAfter
+unfolding tablesAfter stateOf seriesAfter seriesWith fieldAfter positionsAfter positionsWith amountsAfter amountsWith broughtBy
 tables-inside x kind q a b y Nothing t = refl
 tables-inside x kind q a b y Series t = refl
 tables-inside x kind q a b y Identification t = refl
@@ -84,36 +85,27 @@ tables-inside x kind q a b y (Position p) t = refl
 tables-inside x kind q a b y Amount t = refl
 
 pub tables-still : (x : Placed) (st : State) (t : Tables) → tablesAfter x st Nothing t ≡ t
-unfolding tablesAfter seriesAfter positionsAfter amountsAfter
+unfolding tablesAfter seriesAfter seriesWith positionsAfter positionsWith amountsAfter amountsWith broughtBy
 tables-still x st t = refl
 
 -- ---- an item that may not stand in a document
 
-pub dark-text : (st : State) (one two : List ℕ) (e : ℕ) (s : List ℕ) (room : Room) → step st one two (Text false e) s room ≡ Refused 3
-unfolding step stepOn moved
-dark-text st one two e s room = by-cond (λ (y : Step). y ≡ Refused 3) (eqb (kindTold st (Text false e) s) 1) refl refl
+pub dark-text : (st : State) (e : ℕ) (s : List ℕ) (room : Room) → step st (Text false e) s room ≡ Refused 3
+unfolding step moved
+dark-text st e s room = refl
 
 -- ---- the rows that are looked at
 
+pub step-told : (st : State) (kind : ℕ) (i : Item) (s : List ℕ) (room : Room) → kindTold st i s ≡ kind
+    → step st i s room ≡ moved st kind (rowsOf kind) i s room
+unfolding step
+step-told st kind i s room e = rw e
+
 -- where the kind is told
-pub step-told : (st : State) (kind : ℕ) → Known kind → (i : Item) (s : List ℕ) (room : Room) → kindTold st i s ≡ kind
-    → step st (rowsOf 1) (rowsOf 2) i s room ≡ moved st kind (rowsOf kind) i s room
-unfolding step stepOn
-step-told st kind known i s room e = ⊎-elim (λ (k : kind ≡ 1). rw (e, k)) (λ (k : kind ≡ 2). rw (e, k)) known
-
-known-some : (kind : ℕ) → Known kind → eqb kind 0 ≡ false
-known-some kind known = ⊎-elim (λ (k : kind ≡ 1). rw k) (λ (k : kind ≡ 2). rw k) known
-
 pub step-in : (kind : ℕ) → Known kind → (r : ℕ) (o : Bool) (y : Tally) (i : Item) (s : List ℕ) (room : Room)
-    → step (stateOf kind r o y) (rowsOf 1) (rowsOf 2) i s room ≡ moved (stateOf kind r o y) kind (rowsOf kind) i s room
+    → step (stateOf kind r o y) i s room ≡ moved (stateOf kind r o y) kind (rowsOf kind) i s room
 unfolding kindTold stateOf
-step-in kind known r o y i s room = step-told (stateOf kind r o y) kind known i s room (rw (known-some kind known))
-
--- where the document is over
-pub over-known : (kind : ℕ) → Known kind → (place : ℕ) (st : State) → st .kind ≡ kind
-    → overAt (rowsOf 1) (rowsOf 2) place st ≡ cond (overOf (rowsOf kind) (st .row) (st .inside)) (acceptedAt place st) (refusedAt 3 place st)
-unfolding overAt
-over-known kind known place st e = ⊎-elim (λ (k : kind ≡ 1). rw (e, k)) (λ (k : kind ≡ 2). rw (e, k)) known
+step-in kind known r o y i s room = step-told (stateOf kind r o y) kind i s room (rw (ne-eqb kind 0 (kind-some kind known)))
 
 -- ---- a step whose TimeSeriesIdentification is new, and one whose is not
 
@@ -226,7 +218,7 @@ module _ (doc : List ℕ) (room : Room) (kind : ℕ) (rows : List ℕ) (p : ℕ)
 
 module _ (doc : List ℕ) (kind : ℕ) (rows : List ℕ) (r : ℕ) (o : Bool) (y : Tally) (ts : List ℕ) (i : Item) (s : List ℕ) (name : ℕ) where
   pub ended-goes : Closed kind rows r o y name (withoutUsed doc ts i s (ended (stateOf kind r o y) rows name))
-  unfolding ended endedAt withoutUsed usedBefore stateOf
+  unfolding ended endedAt withoutUsed usedBefore usedWith broughtBy stateOf
   ended-goes = by (endOf rows r o name) refl
     where
       by : (d : Due) → endOf rows r o name ≡ d → Closed kind rows r o y name (withoutUsed doc ts i s (endedAt (stateOf kind r o y) rows d))
@@ -240,7 +232,7 @@ module _ (doc : List ℕ) (kind : ℕ) (rows : List ℕ) (r : ℕ) (o : Bool) (y
 
   pub went-ends : (q : ℕ) → endOf rows r o name ≡ Row q → Ended kind (getD rows q 0) y
       → withoutUsed doc ts i s (ended (stateOf kind r o y) rows name) ≡ Next (stateOf kind q false y) Nothing
-  unfolding ended endedAt withoutUsed usedBefore stateOf
+  unfolding ended endedAt withoutUsed usedBefore usedWith broughtBy stateOf
   went-ends q z h =
       ap (λ (d : Due). withoutUsed doc ts i s (endedAt (stateOf kind r o y) rows d)) z
       ∙ rw (taken-ended kind rows r o y q h) (ap (λ (st : State). Next st Nothing) (closed-same kind rows r o y q))

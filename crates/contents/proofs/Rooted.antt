@@ -3,38 +3,22 @@ use Prim.Native.Nat.{ℕ, _<_}
 use mathlib.Core.Path.{_≡_, refl, sym, ap, _∙_}
 use mathlib.Core.List.{List}
 use mathlib.Core.Bool.{Bool, true, false}
-use mathlib.Core.Logic.{_⊎_, inl, inr, ⊎-elim}
+use mathlib.Core.Logic.{⊎-elim}
 use native.Mathlib.Omega.{arith}
-use lib.Dec.{eqb}
 use lib.ListN.{length, getD}
 use Rattle.lists.proofs.Cases.{bool-cases, zero-not-one}
-use Rattle.slices.specs.Text.{text}
-use Rattle.elements.specs.Names.{elementNo}
 use Rattle.structure.specs.Rows.{nameOf, parentOf, startOf, endOf, endsAtOnce, overOf}
 use Rattle.structure.specs.Means.{EndDue}
 use Rattle.structure.specs.declared.Due.the-variants.{Row}
 use Rattle.structure.proofs.Means.{start-means, end-means}
-use Rattle.guideline.specs.Kinds.{kindOf}
 use Rattle.states.specs.Moves.{cutShort}
 use Rattle.trees.specs.Trees.{none}
 use Rattle.trees.specs.Cursor.{follows, rowAfter, openAfter}
 use Rattle.trees.proofs.Made.{made}
 use Rattle.trees.proofs.Along.{over-means, along-conforms, due-within, due-named}
 use Rattle.trees.proofs.Theorems.{may-close, empty-ends, empty-conforms}
-use Rattle.contents.proofs.Laid.{Layout, Known}
+use Rattle.contents.proofs.Laid.{Layout}
 use Rattle.contents.proofs.Shape.{under-document}
-
-pub kind-cases : (name : ℕ) → (kindOf name ≡ 0) ⊎ Known (kindOf name)
-unfolding kindOf
-kind-cases name =
-    ⊎-elim
-    (λ (y : eqb name (elementNo (text "Beschaffungsanforderung")) ≡ true). inr (inl (rw y refl)))
-    (λ (y : eqb name (elementNo (text "Beschaffungsanforderung")) ≡ false).
-    ⊎-elim
-    (λ (z : eqb name (elementNo (text "Kostenblatt")) ≡ true). inr (inr (rw (y, z) refl)))
-    (λ (z : eqb name (elementNo (text "Kostenblatt")) ≡ false). inl (rw (y, z) refl))
-    (bool-cases (eqb name (elementNo (text "Kostenblatt")))))
-    (bool-cases (eqb name (elementNo (text "Beschaffungsanforderung"))))
 
 module _ (rows : List ℕ) (p : ℕ) (L : Layout rows p) where
   long : 1 < length rows

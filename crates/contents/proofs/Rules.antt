@@ -7,7 +7,7 @@ use native.Mathlib.Omega.{arith}
 use lib.Dec.{eqb}
 use lib.ListN.{length, getD}
 use borrow.Author.Tests.{eq-eqb, ne-eqb}
-use Rattle.guideline.specs.Columns.{formOf, roleOf}
+use Rattle.columns.specs.Columns.{formOf, roleOf}
 use Rattle.states.specs.declared.Room.{Room}
 use Rattle.trees.specs.Trees.{Trees, none, element, Conforms}
 use Rattle.contents.specs.Said.{Said}

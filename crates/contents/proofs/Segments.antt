@@ -1,18 +1,18 @@
 -- A walk that opens no series and no Period passes exactly where each element fits, the Pos come in turn, and the Intervals are not too many.
 -- Assumes nothing.
-use Prim.Native.Nat.{ℕ, _+_, _-_, _≤_, _<_}
+use Prim.Native.Nat.{ℕ, suc, _+_, _-_, _≤_}
 use mathlib.Core.Path.{_≡_, refl, sym, ap, _∙_}
 use mathlib.Core.List.{List, _∷_, _++_, map, map-append}
 use mathlib.Core.Bool.{true, false, cond, _&&_}
 use mathlib.Core.Logic.{⊎-elim, _↔_}
 use native.Mathlib.Omega.{arith}
-use lib.Dec.{eqb, ltb}
+use lib.Dec.{eqb}
 use lib.ListN.{length, getD}
-use borrow.Author.Tests.{eq-eqb, ne-eqb, lt-ltb, ltb-true}
+use borrow.Author.Tests.{eq-eqb, ne-eqb, le-leb, leb-true}
 use Rattle.lists.proofs.Cases.{eqb-cases}
 use Rattle.rules.specs.Rules.{positionFits}
-use Rattle.guideline.specs.Columns.{formOf, roleOf}
-use Rattle.guideline.specs.Kinds.{takesAnother}
+use Rattle.columns.specs.Columns.{formOf, roleOf}
+use Rattle.guideline.specs.Kinds.{unbounded, kindAt, withinMost, takesAnother}
 use Rattle.states.specs.declared.Room.{Room}
 use Rattle.trees.specs.Trees.{Trees, none, element}
 use Rattle.trees.proofs.Made.{both}
@@ -23,19 +23,35 @@ use Rattle.contents.proofs.Elements.{Within, within-more, length-elemen
 use Rattle.contents.proofs.Walk.{Tally, opened, walked, Taken, Passes}
 use Rattle.contents.proofs.Tallies.{turn-append, invariant, intervals-walked, first-walked, last-walked, one-or-none}
 
-takes-few : (kind n : ℕ) → takesAnother kind n ≡ true → kind ≡ 1 → n < 100
-unfolding takesAnother
-takes-few kind n e k = let h : ltb n 100 ≡ true = rw (eq-eqb kind 1 k) at e in ltb-true n 100 h
+-- n Intervals are not too many, where the kind has a bound
+abbrev pub Few : ℕ → ℕ → Type 0
+Few kind n = (kindAt kind .most ≡ unbounded → ⊥) → n ≤ kindAt kind .most
 
-few-takes : (kind n : ℕ) → (kind ≡ 1 → n < 100) → takesAnother kind n ≡ true
+pub within-few : (kind n : ℕ) → withinMost kind n ≡ true → Few kind n
+unfolding withinMost
+within-few kind n e bound = leb-true n (kindAt kind .most) (rw (ne-eqb (kindAt kind .most) unbounded bound) at e)
+
+pub few-within : (kind n : ℕ) → Few kind n → withinMost kind n ≡ true
+unfolding withinMost
+few-within kind n f =
+    ⊎-elim
+    (λ (y : (kindAt kind .most ≡ unbounded) × (eqb (kindAt kind .most) unbounded ≡ true)). rw (y .1) refl)
+    (λ (y : (kindAt kind .most ≡ unbounded → ⊥) × (eqb (kindAt kind .most) unbounded ≡ false)). rw (y .1) (le-leb n (kindAt kind .most) (f (y .0))))
+    (eqb-cases (kindAt kind .most) unbounded)
+
+takes-few : (kind n : ℕ) → takesAnother kind n ≡ true → Few kind (suc n)
 unfolding takesAnother
-few-takes kind n f = ⊎-elim (λ y. rw (y .1) (lt-ltb n 100 (f (y .0)))) (λ y. rw (y .1) refl) (eqb-cases kind 1)
+takes-few kind n = within-few kind (suc n)
+
+few-takes : (kind n : ℕ) → Few kind (suc n) → takesAnother kind n ≡ true
+unfolding takesAnother
+few-takes kind n = few-within kind (suc n)
 
 -- so far the tables' room and the limit of a Period are kept
 pub record Holds (kind : ℕ) (room : Room) (y : Tally) : Type 0 where
   pub begins : y .first ≤ y .intervals
   pub fit : y .intervals ≤ room .intervals
-  pub few : kind ≡ 1 → y .intervals - y .first ≤ 100
+  pub few : Few kind (y .intervals - y .first)
 
 -- a row that opens no series and no Period
 pub record Plain (rows : List ℕ) (q : ℕ) : Type 0 where
@@ -48,7 +64,7 @@ pub record Plain (rows : List ℕ) (q : ℕ) : Type 0 where
 pub record Segment (kind : ℕ) (room : Room) (rows : List ℕ) (p₀ : Period) (c : Trees Said) (y : Tally) : Type 0 where
   pub each : Each (elementFits kind p₀) rows c
   pub turns : inTurn kind (quartersOf p₀) (y .last) (map positionOf (those (hasRole 9) rows c)) ≡ true
-  pub few : kind ≡ 1 → y .intervals - y .first + length (those (hasRole 4) rows c) ≤ 100
+  pub few : Few kind (y .intervals - y .first + length (those (hasRole 4) rows c))
   pub fit : y .intervals + length (those (hasRole 4) rows c) ≤ room .intervals
 
 one-interval : (w : ℕ) (s : Said) (y : Tally) → opened w s y .intervals ≡ y .intervals + unit 4 w
@@ -148,7 +164,7 @@ module _ (kind : ℕ) (room : Room) (rows : List ℕ) (p₀ : Period) (R : ℕ �
 
   -- after a start tag
   opened-holds : (q : ℕ) (s : Said) (y : Tally) → R q → Holds kind room y → y .intervals + unit 4 (getD rows q 0) ≤ room .intervals
-      → (kind ≡ 1 → y .intervals - y .first + unit 4 (getD rows q 0) ≤ 100) → Holds kind room (opened (getD rows q 0) s y)
+      → Few kind (y .intervals - y .first + unit 4 (getD rows q 0)) → Holds kind room (opened (getD rows q 0) s y)
   opened-holds q s y r a m k =
       let i = one-interval (getD rows q 0) s y in
       let f = first-opened q s y r in
@@ -156,7 +172,7 @@ module _ (kind : ℕ) (room : Room) (rows : List ℕ) (p₀ : Period) (R : ℕ �
 
   -- where a start tag is taken, it is not one Interval too many
   taken-fit : (w : ℕ) (s : Said) (y : Tally) → Holds kind room y → Taken kind room w s y
-      → (y .intervals + unit 4 w ≤ room .intervals) × (kind ≡ 1 → y .intervals - y .first + unit 4 w ≤ 100)
+      → (y .intervals + unit 4 w ≤ room .intervals) × Few kind (y .intervals - y .first + unit 4 w)
   taken-fit w s y a t =
       ⊎-elim
       (λ (z : (roleOf w ≡ 4) × (eqb (roleOf w) 4 ≡ true)).
@@ -211,7 +227,7 @@ module _ (kind : ℕ) (room : Room) (rows : List ℕ) (p₀ : Period) (R : ℕ �
       let f₁ = first-opened q s y (h .0) in
       let f₂ = first-walked rows inner (no-series inner (h .1)) y₁ in
       let m : y .intervals + unit 4 w ≤ room .intervals = let u = g .fit in omega (arith, l, u) in
-      let k : kind ≡ 1 → y .intervals - y .first + unit 4 w ≤ 100 = λ e. let u = g .few e in omega (arith, l, u) in
+      let k : Few kind (y .intervals - y .first + unit 4 w) = λ e. let u = g .few e in omega (arith, l, u) in
       let a₁ = opened-holds q s y (h .0) a m k in
       let i₁ = keep q s y (h .0) i in
       let v = turn-parts rows kind (quartersOf p₀) q s inner after y (plain q (h .0) .not-period) (no-period inner (h .1)) (g .turns) in

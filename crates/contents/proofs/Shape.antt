@@ -11,7 +11,7 @@ use lib.ListN.{length, getD}
 use borrow.Author.Tests.{eq-eqb, ne-eqb, le-leb, lt-leb}
 use Rattle.lists.proofs.Cases.{eqb-cases, leb-cases, ltb-cases, zero-not-one, up}
 use Rattle.structure.specs.Rows.{parentOf, repeated}
-use Rattle.guideline.specs.Columns.{roleOf}
+use Rattle.columns.specs.Columns.{roleOf}
 use Rattle.trees.specs.Trees.{Trees, none, element, rowsTaken, Stand, ComesAfter, InOrder, Among, Fits, EachConforms, Conforms}
 use Rattle.trees.proofs.Made.{made, child-after}
 use Rattle.contents.specs.Legal.{hasRole, those}

@@ -9,7 +9,7 @@ use Rattle.structure.specs.Rows.{nameOf, startOf, endOf, overOf}
 use Rattle.structure.specs.declared.Due.{Due}
 use Rattle.structure.specs.declared.Due.the-variants.{Row, NotDue}
 use Rattle.structure.proofs.Means.{start-made}
-use Rattle.guideline.specs.Columns.{roleOf}
+use Rattle.columns.specs.Columns.{roleOf}
 use Rattle.states.specs.Moves.{entryOf}
 use Rattle.states.specs.declared.Room.{Room}
 use Rattle.states.specs.declared.Entry.{Entry}

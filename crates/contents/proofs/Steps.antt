@@ -21,8 +21,8 @@ use Rattle.times.specs.Times.{interval}
 use Rattle.times.specs.declared.Interval.{Interval}
 use Rattle.times.specs.declared.Interval.the-variants.{Minutes, NotInterval}
 use Rattle.items.specs.declared.Tag.{Tag}
-use Rattle.guideline.specs.Columns.{formOf, collapsed, schemeOf, roleOf}
-use Rattle.guideline.specs.Kinds.{takesAnother}
+use Rattle.columns.specs.Columns.{formOf, collapsed, schemeOf, roleOf}
+use Rattle.guideline.specs.Kinds.{kindAt, takesAnother}
 use Rattle.rules.specs.Rules.{refused, periodFits, judgePeriodBy, judgePeriod, positionFits, judgePositionBy, judgePosition, judge}
 use Rattle.rules.specs.declared.Held.{Held}
 use Rattle.rules.specs.declared.Judged.{Judged}
@@ -31,7 +31,7 @@ use Rattle.states.specs.Moves.{heldOf, cutShort, tooMany, noRoom, halfOriginals
 use Rattle.states.specs.declared.State.{State}
 use Rattle.states.specs.declared.Room.{Room}
 use Rattle.states.proofs.Judgements.{Passed, passed-judged, judged-passed, series-room, interval-room}
-use Rattle.blindness.proofs.Counts.{one-more}
+use Rattle.states.proofs.Judgements.{one-more}
 use Rattle.trees.proofs.Made.{both}
 use Rattle.contents.specs.Said.{Said, bytes}
 use Rattle.contents.specs.Spelled.{saidBy}
@@ -137,7 +137,7 @@ unfolding positionFits
 no-position kind quarters last =
     let never : (n : ℕ) → eqb 0 (n + 1) ≡ false = λ n. ne-eqb 0 (n + 1) (λ e. omega (arith, e)) in
     by-cond (λ (t : Bool). t ≡ false) (ltb quarters 0) refl
-    (by-cond (λ (t : Bool). t ≡ false) (eqb kind 1) (never last) (by-cond (λ (t : Bool). t ≡ false) (eqb last 0) refl (le-ltb last 0 (omega arith))))
+    (by-cond (λ (t : Bool). t ≡ false) (kindAt kind .counted) (never last) (by-cond (λ (t : Bool). t ≡ false) (eqb last 0) refl (le-ltb last 0 (omega arith))))
 
 position-judged : (kind quarters last : ℕ) (n : Number) → eqb (judgePositionBy kind quarters last n .number) 0 ≡ positionFits kind quarters last (positionBy n)
 unfolding judgePositionBy positionBy

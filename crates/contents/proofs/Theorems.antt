@@ -1,6 +1,6 @@
 -- A document is accepted exactly where it spells a legal content; answer and tables are those of the content, and no other content is spelled.
 -- Assumes nothing.
-use Prim.Native.Nat.{ℕ, _+_, _*_, _/_, _≤_, _<_}
+use Prim.Native.Nat.{ℕ, _+_, _≤_, _<_}
 use mathlib.Core.Path.{_≡_, refl, sym, ap, subst, _∙_}
 use mathlib.Core.List.{List, _∷_, map}
 use mathlib.Core.Logic.{_⊎_, inl, inr, ⊎-elim}
@@ -8,30 +8,35 @@ use mathlib.Core.Bool.{true, false}
 use native.Mathlib.Omega.{arith}
 use native.Mathlib.Nat.{zero-add}
 use lib.Dec.{leb}
-use lib.ListN.{length, getD, length-replicate}
+use lib.ListN.{length, getD, length-replicate, take}
 use lib.IntN.{pos}
 use borrow.Author.Tests.{le-ltb}
-use Rattle.lists.proofs.Cases.{leb-cases}
+use Rattle.lists.proofs.Cases.{leb-cases, never}
 use Rattle.slices.specs.Same.{same}
 use Rattle.elements.specs.Names.{names, numberIn, elementNo}
 use Rattle.structure.specs.Rows.{nameOf}
 use Rattle.prolog.specs.Prolog.{begin}
 use Rattle.prolog.specs.declared.Begin.{Begin}
 use Rattle.prolog.specs.declared.Begin.the-variants.{From, Unreadable}
-use Rattle.guideline.specs.Rows.{beschaffungsanforderung, kostenblatt, rowsOf}
+use Rattle.guideline.specs.Kinds.{kindOf}
+use Rattle.guideline.specs.Rows.{rowsOf}
 use Rattle.states.specs.Moves.{begun}
 use Rattle.states.specs.declared.Room.{Room}
 use Rattle.reader.specs.Items.{Placed, itemsFrom}
 use Rattle.reader.specs.Reading.{Tables, Out, blank, roomOf, roomIn, refusedAt, acceptedAt, readItems, itemsRead, readAfter, readInto, orBlank, readSheet}
 use Rattle.reader.specs.Answer.{Outcome, answerOf, told, noted, readOf}
 use Rattle.reader.proofs.Sheets.{into-items, sheet-taken, read-noted}
-use Rattle.trees.specs.Trees.{Sign, Opens, Trees, spell, Conforms}
+use Rattle.trees.specs.Trees.{Sign, Opens, Trees, none, spell, Conforms}
 use Rattle.trees.specs.Cursor.{rowAfter, openAfter}
 use Rattle.trees.proofs.Theorems.{one-tree}
 use Rattle.contents.specs.Said.{Said}
 use Rattle.contents.specs.Spelled.{signsOf, Spells, Alike}
 use Rattle.contents.specs.Legal.{periodOf, quartersOf, Legal, HasRoom}
-use Rattle.contents.specs.Shown.{Shows, RowShows, Tells, SameButPlaces, view}
+use Rattle.contents.specs.Shown.{sum, eachSeries, intervalCounts, Shows, RowShows, Tells, SameButPlaces}
+use Rattle.series.specs.Row.{isView, cellsOf, rowsIn, fieldAt, view}
+use Rattle.series.specs.declared.Field.{Field}
+use Rattle.series.specs.declared.Field.the-variants.{Identification, Object, BusinessType, FirstRow, Count}
+use Rattle.series.proofs.Rows.{rows-fit}
 use Rattle.contents.proofs.Laid.{Known, laid}
 use Rattle.contents.proofs.Shape.{document-shape}
 use Rattle.contents.proofs.Walk.{nothing, walked}
@@ -51,18 +56,18 @@ unfolding roomIn blank
 blank-room ns np na = rw (length-replicate {A = ℕ} ns 0, length-replicate {A = ℕ} np 0, length-replicate na (pos 0)) refl
 
 -- room for rows is room for their cells
-pub room-cells : (ns np na n m : ℕ) → n ≤ roomOf ns np na .series → m ≤ roomOf ns np na .intervals → (8 * n ≤ ns) × (m ≤ np) × (m ≤ na)
+pub room-cells : (ns np na n m : ℕ) → n ≤ roomOf ns np na .series → m ≤ roomOf ns np na .intervals → (cellsOf n ≤ ns) × (m ≤ np) × (m ≤ na)
 unfolding roomOf
 room-cells ns np na n m a b =
     ⊎-elim
     (λ (y : (np ≤ na) × (leb np na ≡ true)).
-    let c : n ≤ ns / 8 = rw (y .1) at a in
+    let c : n ≤ rowsIn ns = rw (y .1) at a in
     let d : m ≤ np = rw (y .1) at b in
-    (omega arith, d, omega (arith, d, y .0)))
+    (rows-fit n ns c, d, omega (arith, d, y .0)))
     (λ (y : (na < np) × (leb np na ≡ false)).
-    let c : n ≤ ns / 8 = rw (y .1) at a in
+    let c : n ≤ rowsIn ns = rw (y .1) at a in
     let d : m ≤ na = rw (y .1) at b in
-    (omega arith, omega (arith, d, y .0), d))
+    (rows-fit n ns c, omega (arith, d, y .0), d))
     (leb-cases np na)
 
 module _ (doc : List ℕ) (ns np na nb : ℕ) (wide : 16 ≤ nb) (small : length doc ≤ 1048576) where
@@ -80,7 +85,7 @@ module _ (doc : List ℕ) (ns np na nb : ℕ) (wide : 16 ≤ nb) (small : length
   outcome-is n e z =
       let i = into n e in
       sym (read-noted doc ns np na nb wide)
-      ∙ ap (noted nb) (sym (sheet-taken doc ns np na small (ap (λ (o : Out). o .found .refusal) i ∙ z)) ∙ i)
+      ∙ ap (noted nb) (sym (sheet-taken doc ns np na refl small refl (ap (λ (o : Out). o .found .refusal) i ∙ z)) ∙ i)
 
   sheet-found : readSheet doc ns np na .found ≡ readInto doc (blank ns np na) .found
   unfolding readSheet orBlank
@@ -196,10 +201,6 @@ module _ (doc : List ℕ) (ns np na nb : ℕ) (wide : 16 ≤ nb) (small : length
 
 -- ---- there is one content
 
-root-names : nameOf (getD (rowsOf 1) 1 0) ≡ nameOf (getD (rowsOf 2) 1 0) → ⊥
-unfolding rowsOf beschaffungsanforderung kostenblatt elementNo numberIn names same nameOf
-root-names e = omega (arith, e)
-
 -- the first tag of a content that conforms is its root's
 first-tag : (kind : ℕ) → Known kind → (c : Trees Said) → Conforms (rowsOf kind) 0 c
     → (s : Said) × (rest : List (Sign Said)) × (spell (rowsOf kind) c ≡ Opens s (nameOf (getD (rowsOf kind) 1 0)) ∷ rest)
@@ -219,11 +220,9 @@ same-names kind other k o c d a b e =
     let g = first-tag other o d b in
     opened-name (f .0) (g .0) _ _ (f .1) (g .1) (sym (f .2) ∙ e ∙ g .2)
 
+-- and its name tells the kind
 same-kind : (kind other : ℕ) → Known kind → Known other → nameOf (getD (rowsOf kind) 1 0) ≡ nameOf (getD (rowsOf other) 1 0) → kind ≡ other
-same-kind kind other (inl a) (inl b) e = a ∙ sym b
-same-kind kind other (inr a) (inr b) e = a ∙ sym b
-same-kind kind other (inl a) (inr b) e = absurd (root-names (rw (a, b) at e))
-same-kind kind other (inr a) (inl b) e = absurd (root-names (sym (rw (a, b) at e)))
+same-kind kind other k o e = sym (laid kind k .told) ∙ ap kindOf e ∙ laid other o .told
 
 begins-once : (doc : List ℕ) (n m : ℕ) → begin doc ≡ From n → begin doc ≡ From m → n ≡ m
 begins-once doc n m a b = let e : From n ≡ From m = sym a ∙ b in cc
@@ -252,22 +251,23 @@ alike-spells x y a kind c s =
     }
 
 module _ (x y : List ℕ) (o u : Outcome) (kind : ℕ) (c : Trees Said) (t : Tells x o kind c) (v : Tells y u kind c) where
-  row : (i : ℕ) → i < o .answer .series → RowShows x (o .tables .series) (rowsOf kind) c i × RowShows y (u .tables .series) (rowsOf kind) c i
+  abbrev Row : List ℕ → Outcome → ℕ → Type 0
+  Row doc r i =
+      RowShows doc (r .tables .series) (rowsOf kind) i (getD (eachSeries (rowsOf kind) c) i none)
+      (sum (take i (intervalCounts (rowsOf kind) (eachSeries (rowsOf kind) c))))
+
+  row : (i : ℕ) → i < o .answer .series → Row x o i × Row y u i
   row i l = let l′ = rw (t .series) at l in (t .tables .series i l′, v .tables .series i l′)
 
-  views-same : (i : ℕ) → i < o .answer .series → (j : ℕ) → (j ≡ 0) ⊎ ((j ≡ 2) ⊎ (j ≡ 4))
-      → view x (o .tables .series) (8 * i + j) ≡ view y (u .tables .series) (8 * i + j)
-  views-same i l j (inl e) =
-      let r = row i l in
-      let z : 8 * i + j ≡ 8 * i = omega (arith, e) in
-      rw z (r .0 .identification ∙ sym (r .1 .identification))
-  views-same i l j (inr (inl e)) = let r = row i l in rw e (r .0 .object ∙ sym (r .1 .object))
-  views-same i l j (inr (inr e)) = let r = row i l in rw e (r .0 .businessType ∙ sym (r .1 .businessType))
+  views-same : (i : ℕ) → i < o .answer .series → (f : Field) → isView f ≡ true → view x (o .tables .series) i f ≡ view y (u .tables .series) i f
+  views-same i l f e = let r = row i l in r .0 .views f e ∙ sym (r .1 .views f e)
 
-  counts-same : (i : ℕ) → i < o .answer .series → (j : ℕ) → (j ≡ 6) ⊎ (j ≡ 7)
-      → getD (o .tables .series) (8 * i + j) 0 ≡ getD (u .tables .series) (8 * i + j) 0
-  counts-same i l j (inl e) = let r = row i l in rw e (r .0 .first ∙ sym (r .1 .first))
-  counts-same i l j (inr e) = let r = row i l in rw e (r .0 .count ∙ sym (r .1 .count))
+  counts-same : (i : ℕ) → i < o .answer .series → (f : Field) → isView f ≡ false → fieldAt (o .tables .series) i f ≡ fieldAt (u .tables .series) i f
+  counts-same i l Identification e = never (sym e)
+  counts-same i l Object e = never (sym e)
+  counts-same i l BusinessType e = never (sym e)
+  counts-same i l FirstRow e = let r = row i l in r .0 .begins ∙ sym (r .1 .begins)
+  counts-same i l Count e = let r = row i l in r .0 .count ∙ sym (r .1 .count)
 
   same-told : SameButPlaces x o y u
   same-told =

@@ -1,6 +1,6 @@
 -- No TimeSeriesIdentification was used before, at any element of a conforming content, just where no two of the content are the same.
 -- Assumes nothing.
-use Prim.Native.Nat.{ℕ, zero, suc, _+_, _-_, _*_, _≤_, _<_}
+use Prim.Native.Nat.{ℕ, zero, suc, _+_, _-_, _≤_, _<_}
 use mathlib.Core.Path.{_≡_, refl, sym, ap, subst, _∙_}
 use mathlib.Core.List.{List, [], _∷_, _++_, map}
 use mathlib.Core.Bool.{true, false, true≢false}
@@ -12,16 +12,18 @@ use borrow.Author.Tests.{eq-eqb, ne-eqb, eqb-false}
 use Rattle.lists.proofs.Cases.{eqb-cases, past-cond}
 use Rattle.slices.specs.Same.{same}
 use Rattle.tags.specs.declared.Span.{Span}
-use Rattle.guideline.specs.Columns.{roleOf}
+use Rattle.columns.specs.Columns.{roleOf}
 use Rattle.states.specs.Attributes.{there}
 use Rattle.states.specs.Moves.{entryOf}
 use Rattle.reader.specs.Items.{Placed}
-use Rattle.reader.specs.Rows.{spanOf, identificationAt, used, usedBefore}
+use Rattle.series.specs.Row.{cellsOf, cellAt, view}
+use Rattle.series.specs.declared.Field.the-variants.{Identification}
+use Rattle.series.proofs.Rows.{view-as}
+use Rattle.reader.specs.Rows.{broughtBy, spanOf, used, usedIn, usedWith, usedBefore}
 use Rattle.reader.specs.Reading.{Tables, blank, tablesAfter}
 use Rattle.trees.specs.Trees.{Trees, none, element, rowsTaken, Stand, Fits, EachConforms, Conforms}
-use Rattle.contents.specs.Said.{Said}
+use Rattle.contents.specs.Said.{Said, bytes}
 use Rattle.contents.specs.Legal.{hasRole, those, positionOf, All, isAmong, Apart, identifications}
-use Rattle.contents.specs.Shown.{view}
 use Rattle.contents.proofs.Lists.{zero-all, all-both, joined, all-change}
 use Rattle.contents.proofs.Laid.{Layout, Valued}
 use Rattle.contents.proofs.Elements.{own, mapped-parts}
@@ -30,9 +32,13 @@ use Rattle.contents.proofs.Walk.{Tally, nothing, opened, walked}
 use Rattle.contents.proofs.Fill.{saidOf, saying, tablesWith, filled, Unused, Stands}
 use Rattle.contents.proofs.Values.{said-bytes, HasValues}
 use Rattle.contents.proofs.Roles.{Role, is-series, is-interval, is-object, is-business, is-id, is-pos, is-qty, is-other, role-cases, by-entry}
-use Rattle.contents.proofs.Series.{valueBytes, step-effect, no-series, inside}
+use Rattle.contents.specs.Shown.{lastOf, saidFor}
+use Rattle.contents.proofs.Series.{step-effect, no-series, inside}
 use Rattle.contents.proofs.Rows.{tallyIn, tablesIn, tallyOut, tablesOut, opened-series, opened-before, opened-size, rowed, untouched, once-in, more-series, those-plain, those-after}
 use Rattle.contents.proofs.Shown.{root-those, root-role, root-tally, root-cells}
+
+abbrev valueBytes : Said → List ℕ
+valueBytes s = bytes (s .v)
 
 -- ---- no two are the same
 
@@ -97,23 +103,23 @@ none-past (x ∷ xs) = (refl, none-past xs)
 -- ---- rows that show an identification
 
 module _ (doc : List ℕ) where
-  used-kept : (t u : List ℕ) (n : ℕ) (id : List ℕ) → ((j : ℕ) → j < 8 * n → getD u j 0 ≡ getD t j 0) → used doc u n id ≡ used doc t n id
-  unfolding used identificationAt
+  used-kept : (t u : List ℕ) (n : ℕ) (id : List ℕ) → ((j : ℕ) → j < cellsOf n → getD u j 0 ≡ getD t j 0) → used doc u n id ≡ used doc t n id
+  unfolding used
   used-kept t u zero id k = refl
-  used-kept t u (suc n) id k = rw (used-kept t u n id (λ j l. k j (omega (arith, l))), k (8 * n) (omega arith), k (8 * n + 1) (omega arith))
+  used-kept t u (suc n) id k = rw (used-kept t u n id (λ j l. k j (omega (arith, l))), view-as doc t u n Identification (k (cellAt n Identification) (omega arith)) (k (cellAt n Identification + 1) (omega arith)))
 
   -- the first n rows show these
   abbrev Knows : List ℕ → ℕ → List (List ℕ) → Type 0
   Knows t n past = (id : List ℕ) → used doc t n id ≡ isAmong id past
 
-  knows-on : (t u : List ℕ) (n : ℕ) (past : List (List ℕ)) (x : List ℕ) → ((j : ℕ) → j < 8 * n → getD u j 0 ≡ getD t j 0) → view doc u (8 * n) ≡ x
+  knows-on : (t u : List ℕ) (n : ℕ) (past : List (List ℕ)) (x : List ℕ) → ((j : ℕ) → j < cellsOf n → getD u j 0 ≡ getD t j 0) → view doc u n Identification ≡ x
       → Knows t n past → Knows u (suc n) (x ∷ past)
-  unfolding used identificationAt view isAmong
+  unfolding used isAmong
   knows-on t u n past x k e h id = rw (e, used-kept t u n id k ∙ h id, same-both x id)
 
   -- an element that brings no identification
   not-used : (r n : ℕ) (t : List ℕ) (v : Span) (s : List ℕ) (m : ℕ) → eqb r 8 ≡ false → usedBefore doc t v s m (entryOf r n) ≡ false
-  unfolding usedBefore
+  unfolding usedBefore usedWith broughtBy usedIn
   not-used r n t v s m k =
       by-entry (λ e. usedBefore doc t v s m e ≡ false) r n refl (λ e. refl) (λ e. refl) (λ e. refl) (λ e. refl) (λ e. absurd (eqb-false r 8 k e)) (λ e. refl)
       (λ e. refl)
@@ -124,7 +130,7 @@ module _ (doc : List ℕ) where
   step-used : (w i : ℕ) (x : Placed) (y : Tally) (t : List ℕ) → Role (roleOf w) → (roleOf w ≡ 2 → ⊥) → (6 ≤ roleOf w → there (spanOf (x .item)) ≡ true) → y .series ≡ suc i
       → (usedBefore doc t (spanOf (x .item)) (x .rest) (opened w (saidOf x) y .series) (entryOf (roleOf w) (positionOf (saidOf x))) ≡ false)
       ↔ All (NotUsed t i) (map valueBytes (own (hasRole 8 w) (saidOf x)))
-  unfolding usedBefore entryOf All
+  unfolding usedBefore usedWith broughtBy usedIn entryOf All
   step-used w i x y t (is-series e) n v a = absurd (n e)
   step-used w i x y t (is-interval e) n v a = rw e ((λ h. tt), (λ h. refl))
   step-used w i x y t (is-object e) n v a = rw e ((λ h. tt), (λ h. refl))
@@ -146,7 +152,7 @@ module _ (kind : ℕ) (rows : List ℕ) (p : ℕ) (L : Layout rows p) (W : Value
   -- ---- in a series
 
   inside-unused : (kids : Trees Placed) (h i : ℕ) (y : Tally) (t : Tables) → 12 ≤ h → h < length rows → Stand rows h (rowsTaken kids) → EachConforms rows kids
-      → Stands doc kids → HasValues rows kids → y .series ≡ suc i → 8 * i + 8 ≤ length (t .series)
+      → Stands doc kids → HasValues rows kids → y .series ≡ suc i → cellsOf (i + 1) ≤ length (t .series)
       → Unused doc kind rows kids y t ↔ All (NotUsed doc (t .series) i) (identifications rows (saying kids))
   unfolding Unused rowsTaken Stand EachConforms Stands HasValues saying identifications those All tablesAfter
   inside-unused none h i y t a l s c d g e m = ((λ u. tt), (λ u. tt))
@@ -178,7 +184,7 @@ module _ (kind : ℕ) (rows : List ℕ) (p : ℕ) (L : Layout rows p) (W : Value
       (λ z. ((λ u. sym (keep₂ z ∙ keep z) ∙ u), (λ u. keep₂ z ∙ keep z ∙ u)))
 
   within-unused : (q : ℕ) (x : Placed) (inner : Trees Placed) (y : Tally) (t : Tables) (past : List (List ℕ)) (id : Said) → q ≡ 12 → q < length rows
-      → Fits rows q (rowsTaken inner) → EachConforms rows inner → Stands doc inner → HasValues rows inner → 8 * (y .series + 1) ≤ length (t .series)
+      → Fits rows q (rowsTaken inner) → EachConforms rows inner → Stands doc inner → HasValues rows inner → cellsOf (y .series + 1) ≤ length (t .series)
       → those (hasRole 8) rows (saying inner) ≡ id ∷ [] → Knows doc (t .series) (y .series) past
       → Unused doc kind rows inner (opened (getD rows q 0) (saidOf x) y) (tablesWith kind rows q x (opened (getD rows q 0) (saidOf x) y) t) ↔ (isAmong (valueBytes id) past ≡ false)
   unfolding identifications All
@@ -196,6 +202,11 @@ module _ (kind : ℕ) (rows : List ℕ) (p : ℕ) (L : Layout rows p) (W : Value
       )
 
   -- ---- beside the series
+
+  -- the identification of a series that says one
+  id-shown : (s : Trees Said) {v : List ℕ} (id : Said) → those (hasRole 8) rows s ≡ id ∷ [] → v ≡ lastOf [] (saidFor rows s Identification) → v ≡ valueBytes id
+  unfolding saidFor
+  id-shown s id o e = e ∙ ap (λ (l : List Said). lastOf [] (map valueBytes l)) o
 
   -- no identification is brought by a row that has another role
   step-none : (q : ℕ) (x : Placed) (y : Tally) (t : List ℕ) → eqb (roleOf (getD rows q 0)) 8 ≡ false
@@ -232,7 +243,7 @@ module _ (kind : ℕ) (rows : List ℕ) (p : ℕ) (L : Layout rows p) (W : Value
       )
 
   beside-unused : (kids : Trees Placed) (y : Tally) (t : Tables) (past : List (List ℕ)) → Stand rows 1 (rowsTaken kids) → EachConforms rows kids → Stands doc kids → HasValues rows kids
-      → 8 * (y .series + length (those (hasRole 2) rows (saying kids))) ≤ length (t .series) → ((j : ℕ) → 8 * y .series ≤ j → getD (t .series) j 0 ≡ 0)
+      → cellsOf (y .series + length (those (hasRole 2) rows (saying kids))) ≤ length (t .series) → ((j : ℕ) → cellsOf (y .series) ≤ j → getD (t .series) j 0 ≡ 0)
       → Knows doc (t .series) (y .series) past
       → Unused doc kind rows kids y t ↔ NoneBefore past (identifications rows (saying kids))
   unfolding Unused rowsTaken Stand EachConforms Stands HasValues saying identifications those
@@ -248,12 +259,12 @@ module _ (kind : ℕ) (rows : List ℕ) (p : ℕ) (L : Layout rows p) (W : Value
       let n = y .series in
       let o = once-in kind rows p L W doc inner (rw (e .0) at f) (c .1) in
       let more = more-series kind rows p L W doc q x inner after (e .0) o in
-      let r = rowed kind rows p L W doc q x inner y t (e .0) f (c .1) (d .2) (g .1) (omega (arith, more, room)) blank (o .id) (o .object) (o .business) (o .id-once) (o .object-once) (o .business-once) in
+      let r = rowed kind rows p L W doc q x inner y t (e .0) f (c .1) (d .2) (g .1) (omega (arith, more, room)) blank in
       let u = r .series in
       let v = r .size in
       let role : roleOf (getD rows q 0) ≡ 2 = ap (λ (i : ℕ). roleOf (getD rows i 0)) (e .0) ∙ L .series in
       let eight : eqb (roleOf (getD rows q 0)) 8 ≡ false = rw role in
-      let known = knows-on doc (t .series) (t₂ .series) n past (valueBytes (o .id)) (r .before) (r .row .id-shown) k in
+      let known = knows-on doc (t .series) (t₂ .series) n past (valueBytes (o .id)) (r .before) (id-shown (saying inner) (o .id) (o .id-once) (r .row .views Identification refl)) k in
       let u₁ : y₂ .series ≡ suc n = omega (arith, u) in
       series-unused q x inner after y t past (o .id) eight (o .id-once)
       (within-unused q x inner y t past (o .id) (e .0) (s .0) f (c .1) (d .2) (g .1) (omega (arith, more, room)) (o .id-once) k)
@@ -275,7 +286,7 @@ module _ (kind : ℕ) (rows : List ℕ) (p : ℕ) (L : Layout rows p) (W : Value
 
 module _ (kind : ℕ) (rows : List ℕ) (p : ℕ) (L : Layout rows p) (W : Valued rows) (doc : List ℕ) (ns np na : ℕ) where
   root-unused : (x : Placed) (inner : Trees Placed) → Conforms rows 0 (element 1 x inner none) → Stands doc (element 1 x inner none)
-      → HasValues rows (element 1 x inner none) → 8 * length (those (hasRole 2) rows (saying (element 1 x inner none))) ≤ ns
+      → HasValues rows (element 1 x inner none) → cellsOf (length (those (hasRole 2) rows (saying (element 1 x inner none)))) ≤ ns
       → Unused doc kind rows (element 1 x inner none) nothing (blank ns np na) ↔ NoneBefore [] (identifications rows (saying (element 1 x inner none)))
   unfolding EachConforms Stands HasValues Unused identifications used isAmong
   root-unused x inner c d g room =
@@ -294,17 +305,17 @@ module _ (kind : ℕ) (rows : List ℕ) (p : ℕ) (L : Layout rows p) (W : Value
         (λ u. (none-used, h .1 (subst (NoneBefore []) (sym l) u), tt)),
       )
 
-  all-unused : (kids : Trees Placed) → Conforms rows 0 kids → Stands doc kids → HasValues rows kids → 8 * length (those (hasRole 2) rows (saying kids)) ≤ ns
+  all-unused : (kids : Trees Placed) → Conforms rows 0 kids → Stands doc kids → HasValues rows kids → cellsOf (length (those (hasRole 2) rows (saying kids))) ≤ ns
       → Unused doc kind rows kids nothing (blank ns np na) ↔ NoneBefore [] (identifications rows (saying kids))
   all-unused kids c d g room =
       let h = document-shape rows p L kids c in
       rw (h .is) (root-unused (h .tag) (h .inner) (rw (h .is) at c) (rw (h .is) at d) (rw (h .is) at g) (rw (h .is) at room))
 
-  pub unused-apart : (kids : Trees Placed) → Conforms rows 0 kids → Stands doc kids → HasValues rows kids → 8 * length (those (hasRole 2) rows (saying kids)) ≤ ns
+  pub unused-apart : (kids : Trees Placed) → Conforms rows 0 kids → Stands doc kids → HasValues rows kids → cellsOf (length (those (hasRole 2) rows (saying kids))) ≤ ns
       → Unused doc kind rows kids nothing (blank ns np na) → Apart (identifications rows (saying kids))
   unused-apart kids c d g room u = before-apart (identifications rows (saying kids)) [] (all-unused kids c d g room .0 u) .0
 
-  pub apart-unused : (kids : Trees Placed) → Conforms rows 0 kids → Stands doc kids → HasValues rows kids → 8 * length (those (hasRole 2) rows (saying kids)) ≤ ns
+  pub apart-unused : (kids : Trees Placed) → Conforms rows 0 kids → Stands doc kids → HasValues rows kids → cellsOf (length (those (hasRole 2) rows (saying kids))) ≤ ns
       → Apart (identifications rows (saying kids)) → Unused doc kind rows kids nothing (blank ns np na)
   apart-unused kids c d g room a =
       all-unused kids c d g room .1 (apart-before (identifications rows (saying kids)) [] a (none-past (identifications rows (saying kids))))

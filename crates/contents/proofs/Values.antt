@@ -10,7 +10,7 @@ use Rattle.attributes.specs.Attribute.{partOf}
 use Rattle.tags.specs.declared.Span.{Span}
 use Rattle.items.specs.declared.Item.{Item}
 use Rattle.items.specs.declared.Item.the-variants.{Start, Empty, End, Text, Comment, Refused}
-use Rattle.guideline.specs.Columns.{isRoot}
+use Rattle.columns.specs.Columns.{rootRole}
 use Rattle.states.specs.Attributes.{there, agree, asksV, asksScheme, noOthers}
 use Rattle.reader.specs.Items.{Placed}
 use Rattle.reader.specs.Rows.{spanOf, quoted}
@@ -75,7 +75,7 @@ unfolding attributesAgree
 asked-given w s e a =
     let v = agree (asksV w) (given (s .v)) in
     let scheme = agree (asksScheme w) (given (s .scheme)) in
-    let version = agree (hasRole isRoot w) (given (s .version)) in
+    let version = agree (hasRole rootRole w) (given (s .version)) in
     let k = both v scheme (both (v && scheme) version (both (v && scheme && version) (noOthers w (s .others) (s .passable)) e .0) .0) .0 in
     asked-there (asksV w) (given (s .v)) k a
 

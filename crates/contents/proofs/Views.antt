@@ -5,8 +5,8 @@ use mathlib.Core.Path.{_≡_, refl, sym, ap, _∙_}
 use mathlib.Core.List.{List, [], _∷_}
 use mathlib.Core.Bool.{Bool, true, false, cond}
 use native.Mathlib.Omega.{arith}
-use lib.ListN.{length, getD, take, drop, set, length-set}
-use lib.Seq.{getD-set-same, getD-set-other, take-take, drop-drop}
+use lib.ListN.{length, take, drop}
+use lib.Seq.{take-take, drop-drop}
 use Rattle.slices.specs.Run.{run}
 use Rattle.attributes.specs.Attribute.{partOf}
 use Rattle.trims.specs.Trim.{space, dropped}
@@ -14,10 +14,12 @@ use Rattle.trims.proofs.Trails.{part-place}
 use Rattle.tags.specs.declared.Span.{Span}
 use Rattle.states.specs.Attributes.{there}
 use Rattle.reader.specs.Items.{Placed}
-use Rattle.reader.specs.Rows.{spanOf, quoted, withView}
+use Rattle.series.specs.Row.{cellAt, withView, view}
+use Rattle.series.specs.declared.Field.{Field}
+use Rattle.series.proofs.Rows.{view-shown}
+use Rattle.reader.specs.Rows.{spanOf, quoted}
 use Rattle.reader.proofs.Spans.{dropped-in, quoted-le}
 use Rattle.contents.specs.Said.{bytes}
-use Rattle.contents.specs.Shown.{view}
 use Rattle.contents.proofs.Fill.{saidOf}
 use Rattle.contents.proofs.Values.{as-quoted, said-bytes}
 
@@ -53,32 +55,20 @@ trimmed-part v s =
 -- ---- what two cells tell
 
 module _ (doc : List ℕ) where
-  pub same-view : (t u : List ℕ) (j : ℕ) → getD u j 0 ≡ getD t j 0 → getD u (j + 1) 0 ≡ getD t (j + 1) 0 → view doc u j ≡ view doc t j
-  unfolding view
-  same-view t u j a b = rw (a, b)
-
-  stored-view : (t : List ℕ) (j a n : ℕ) → j + 1 < length t → view doc (withView t j a n) j ≡ partOf doc a n
-  unfolding view withView
-  stored-view t j a n h =
-      let first : getD (set (set t j a) (j + 1) n) j 0 ≡ a
-      = getD-set-other (set t j a) (j + 1) j n 0 (λ e. omega (arith, e)) ∙ getD-set-same t j a 0 (omega (arith, h)) in
-      let second : getD (set (set t j a) (j + 1) n) (j + 1) 0 ≡ n = getD-set-same (set t j a) (j + 1) n 0 (rw (length-set t j a) h) in
-      rw (first, second)
-
-  module _ (x : Placed) (stands : x .rest ≡ drop (x .at) doc) (given : there (spanOf (x .item)) ≡ true) (t : List ℕ) (j : ℕ) (h : j + 1 < length t) where
-    pub whole-view : view doc (withView t j (x .at + spanOf (x .item) .start) (spanOf (x .item) .len)) j ≡ bytes (saidOf x .v)
+  module _ (x : Placed) (stands : x .rest ≡ drop (x .at) doc) (given : there (spanOf (x .item)) ≡ true) (t : List ℕ) (i : ℕ) (f : Field) (h : cellAt i f + 1 < length t) where
+    pub whole-view : view doc (withView t i f (x .at + spanOf (x .item) .start) (spanOf (x .item) .len)) i f ≡ bytes (saidOf x .v)
     whole-view =
         let v = spanOf (x .item) in
-        stored-view t j (x .at + v .start) (v .len) h ∙ part-in doc (x .rest) (x .at) (v .start) (v .len) stands ∙ as-quoted v (x .rest) ∙ sym (said-bytes x given)
+        view-shown doc t i f (x .at + v .start) (v .len) h ∙ part-in doc (x .rest) (x .at) (v .start) (v .len) stands ∙ as-quoted v (x .rest) ∙ sym (said-bytes x given)
 
     pub trimmed-view : view doc
-        (withView t j (x .at + spanOf (x .item) .start + run space (quoted (spanOf (x .item)) (x .rest))) (length (dropped (quoted (spanOf (x .item)) (x .rest))))) j
+        (withView t i f (x .at + spanOf (x .item) .start + run space (quoted (spanOf (x .item)) (x .rest))) (length (dropped (quoted (spanOf (x .item)) (x .rest))))) i f
         ≡ dropped (bytes (saidOf x .v))
     trimmed-view =
         let v = spanOf (x .item) in
         let q = quoted v (x .rest) in
         let e : x .at + v .start + run space q ≡ x .at + (v .start + run space q) = omega arith in
-        stored-view t j (x .at + v .start + run space q) (length (dropped q)) h
+        view-shown doc t i f (x .at + v .start + run space q) (length (dropped q)) h
         ∙ ap (λ (n : ℕ). partOf doc n (length (dropped q))) e
         ∙ part-in doc (x .rest) (x .at) (v .start + run space q) (length (dropped q)) stands
         ∙ trimmed-part v (x .rest)

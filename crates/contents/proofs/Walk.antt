@@ -11,7 +11,7 @@ use Rattle.times.specs.Periods.{quarterHours}
 use Rattle.times.specs.Times.{interval}
 use Rattle.characters.specs.Says.{says}
 use Rattle.rules.specs.Rules.{positionFits}
-use Rattle.guideline.specs.Columns.{formOf, roleOf}
+use Rattle.columns.specs.Columns.{formOf, roleOf}
 use Rattle.guideline.specs.Kinds.{takesAnother}
 use Rattle.states.specs.Moves.{countRefusal}
 use Rattle.states.specs.declared.Room.{Room}

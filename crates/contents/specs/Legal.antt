@@ -6,7 +6,7 @@ use mathlib.Core.List.{List, [], _∷_, _++_, map}
 use mathlib.Core.Logic.{_⊎_}
 use mathlib.Core.Bool.{Bool, true, false, cond, _&&_}
 use lib.ListN.{length, getD}
-use lib.Dec.{leb, eqb}
+use lib.Dec.{eqb}
 use Rattle.slices.specs.Same.{same}
 use Rattle.characters.specs.Says.{says}
 use Rattle.trims.specs.Trim.{dropped}
@@ -20,7 +20,8 @@ use Rattle.times.specs.Periods.{quarterHours}
 use Rattle.times.specs.declared.Interval.{Interval}
 use Rattle.times.specs.declared.Interval.the-variants.{Minutes, NotInterval}
 use Rattle.rules.specs.Rules.{judge, positionFits}
-use Rattle.guideline.specs.Columns.{formOf, collapsed, schemeOf, roleOf, periodCovered, pos, isRoot, isSeries, isInterval, isOriginal, isSeriesId, isPos}
+use Rattle.columns.specs.Columns.{formOf, collapsed, schemeOf, roleOf, noForm, periodForm, posForm, noScheme, byList, rootRole, seriesRole, intervalRole, originalRole, seriesIdRole, posRole}
+use Rattle.guideline.specs.Kinds.{kindAt, isKind, withinMost, hasEnough}
 use Rattle.guideline.specs.Rows.{rowsOf}
 use Rattle.states.specs.Attributes.{agree, asksV, asksScheme, noOthers}
 use Rattle.states.specs.declared.Room.{Room}
@@ -68,7 +69,7 @@ periodIn p [] = p
 periodIn p (s ∷ ss) = periodIn (periodBy (interval (says (bytes (s .v))))) ss
 
 unfoldable pub periodOf : List ℕ → Trees Said → Period
-periodOf rows c = periodIn (record { start = 0; end = 0 }) (those (hasForm periodCovered) rows c)
+periodOf rows c = periodIn (record { start = 0; end = 0 }) (those (hasForm periodForm) rows c)
 
 -- "N is TimePeriodCovered's length divided by 15 minutes"
 unfoldable pub quartersOf : Period → ℕ
@@ -87,24 +88,24 @@ positionOf s = positionBy (numberOf (says (dropped (bytes (s .v)))) 5)
 -- "5: attribute missing or unknown": those of the row are there, and no others
 unfoldable pub attributesAgree : ℕ → Said → Bool
 attributesAgree w s =
-    agree (asksV w) (given (s .v)) && agree (asksScheme w) (given (s .scheme)) && agree (hasRole isRoot w) (given (s .version)) &&
+    agree (asksV w) (given (s .v)) && agree (asksScheme w) (given (s .scheme)) && agree (hasRole rootRole w) (given (s .version)) &&
     noOthers w (s .others) (s .passable)
 
 -- codingScheme, which is collapsed in every row that has it, by its code list
 unfoldable pub schemeFits : ℕ → Said → Bool
-schemeFits w s = cond (eqb (schemeOf w) 0) true (listed (codesOf (schemeOf w - 1)) (says (dropped (bytes (s .scheme)))))
+schemeFits w s = cond (eqb (schemeOf w) noScheme) true (listed (codesOf (schemeOf w - byList)) (says (dropped (bytes (s .scheme)))))
 
 -- `v` by its form or code list, and beside the period: "TimeInterval equals TimePeriodCovered". Pos is held against the one before it, below
 unfoldable pub valueFits : ℕ → Period → ℕ → Said → Bool
 valueFits kind p w s =
-    cond (hasForm pos w) true
+    cond (hasForm posForm w) true
     (eqb (judge (formOf w) (record { kind = kind; from = p .start; to = p .end; quarters = quartersOf p; last = 0 }) (sayings w s) .number) 0)
 
 -- the root has its fixed version; elsewhere an element with a `v` has it by its form, and its codingScheme
 unfoldable pub elementFits : ℕ → Period → ℕ → Said → Bool
 elementFits kind p w s =
     attributesAgree w s &&
-    cond (hasRole isRoot w) (fixedVersion (says (bytes (s .version)))) (cond (eqb (formOf w) 0) true (schemeFits w s && valueFits kind p w s))
+    cond (hasRole rootRole w) (fixedVersion (says (bytes (s .version)))) (cond (eqb (formOf w) noForm) true (schemeFits w s && valueFits kind p w s))
 
 -- each element of a content passes a test of its row and of what it says
 unfoldable pub Each : {A : Type 0} → (ℕ → A → Bool) → List ℕ → Trees A → Type 0
@@ -118,16 +119,16 @@ unfoldable pub inTurn : ℕ → ℕ → ℕ → List ℕ → Bool
 inTurn kind quarters last [] = true
 inTurn kind quarters last (p ∷ ps) = positionFits kind quarters last p && inTurn kind quarters p ps
 
--- "at the end tag of Period there are N intervals" in kind 1, where they are 92 to 100; in kind 2 there is at least one
+-- how many Intervals a Period has: not too few, not too many, and "at the end tag of Period there are N intervals" where the kind has one for each quarter hour
 unfoldable pub countFits : ℕ → ℕ → ℕ → Bool
-countFits kind quarters n = cond (eqb kind 1) (leb 92 n && leb n 100 && eqb n quarters) (leb 1 n)
+countFits kind quarters n = hasEnough kind n && withinMost kind n && cond (kindAt kind .full) (eqb n quarters) true
 
 -- what stands in a series
 pub record SeriesFits (kind quarters : ℕ) (rows : List ℕ) (c : Trees Said) : Type 0 where
-  pub positions : inTurn kind quarters 0 (map positionOf (those (hasRole isPos) rows c)) ≡ true
-  pub intervals : countFits kind quarters (length (those (hasRole isInterval) rows c)) ≡ true
+  pub positions : inTurn kind quarters 0 (map positionOf (those (hasRole posRole) rows c)) ≡ true
+  pub intervals : countFits kind quarters (length (those (hasRole intervalRole) rows c)) ≡ true
   -- "The five Original elements are all there or all absent"
-  pub originals : (length (those (hasRole isOriginal) rows c) ≡ 0) ⊎ (length (those (hasRole isOriginal) rows c) ≡ 5)
+  pub originals : (length (those (hasRole originalRole) rows c) ≡ 0) ⊎ (length (those (hasRole originalRole) rows c) ≡ 5)
 
 unfoldable pub All : {A : Type 0} → (A → Type 0) → List A → Type 0
 All P [] = Unit {0}
@@ -146,19 +147,19 @@ Apart [] = Unit {0}
 Apart (x ∷ xs) = (isAmong x xs ≡ false) × Apart xs
 
 unfoldable pub identifications : List ℕ → Trees Said → List (List ℕ)
-identifications rows c = map (λ (s : Said). bytes (s .v)) (those (hasRole isSeriesId) rows c)
+identifications rows c = map (λ (s : Said). bytes (s .v)) (those (hasRole seriesIdRole) rows c)
 
 -- A content that meets every rule of its kind.
 pub record Legal (kind : ℕ) (c : Trees Said) : Type 0 where
-  pub known : (kind ≡ 1) ⊎ (kind ≡ 2)
+  pub known : isKind kind ≡ true
   -- "element order, how often each may come"
   pub conforms : Conforms (rowsOf kind) 0 c
   pub elements : Each (elementFits kind (periodOf (rowsOf kind) c)) (rowsOf kind) c
-  pub series : All (SeriesFits kind (quartersOf (periodOf (rowsOf kind) c)) (rowsOf kind)) (inEach (hasRole isSeries) (rowsOf kind) c)
+  pub series : All (SeriesFits kind (quartersOf (periodOf (rowsOf kind) c)) (rowsOf kind)) (inEach (hasRole seriesRole) (rowsOf kind) c)
   -- "TimeSeriesIdentification used before in this document" is refused
   pub apart : Apart (identifications (rowsOf kind) c)
 
 -- "Room for series is the table length divided by 8, rounded down. .. room is the shorter length.": the rows of a content have room
 pub record HasRoom (room : Room) (kind : ℕ) (c : Trees Said) : Type 0 where
-  pub series : length (those (hasRole isSeries) (rowsOf kind) c) ≤ room .series
-  pub intervals : length (those (hasRole isInterval) (rowsOf kind) c) ≤ room .intervals
+  pub series : length (those (hasRole seriesRole) (rowsOf kind) c) ≤ room .series
+  pub intervals : length (those (hasRole intervalRole) (rowsOf kind) c) ≤ room .intervals

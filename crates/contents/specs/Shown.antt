@@ -1,22 +1,24 @@
 -- What the answer and the tables show of a content.
-use Prim.Native.Nat.{ℕ, _+_, _*_, _<_}
+use Prim.Native.Nat.{ℕ, _+_, _<_}
 use mathlib.Core.Path.{_≡_}
 use mathlib.Core.List.{List, [], _∷_, map}
-use mathlib.Core.Logic.{_⊎_}
+use mathlib.Core.Bool.{true, false}
 use lib.IntN.{ℤ, pos}
 use lib.ListN.{length, getD, take}
 use Rattle.characters.specs.Says.{says}
-use Rattle.attributes.specs.Attribute.{partOf}
 use Rattle.trims.specs.Trim.{dropped}
 use Rattle.numbers.specs.Amount.{amountOf}
-use Rattle.guideline.specs.Columns.{isSeries, isInterval, isObject, isBusinessType, isPos, isQty}
+use Rattle.columns.specs.Columns.{valueRole, seriesRole, intervalRole, objectRole, businessRole, seriesIdRole, posRole, qtyRole}
+use Rattle.series.specs.Row.{isView, fieldAt, NoView, view}
+use Rattle.series.specs.declared.Field.{Field}
+use Rattle.series.specs.declared.Field.the-variants.{Identification, Object, BusinessType, FirstRow, Count}
 use Rattle.reader.specs.Rows.{thousandthsOf}
 use Rattle.guideline.specs.Rows.{rowsOf}
 use Rattle.reader.specs.Reading.{Tables}
 use Rattle.reader.specs.Answer.{Outcome}
-use Rattle.trees.specs.Trees.{Trees}
+use Rattle.trees.specs.Trees.{Trees, none}
 use Rattle.contents.specs.Said.{Said, bytes}
-use Rattle.contents.specs.Legal.{hasRole, those, inEach, periodOf, quartersOf, positionOf, identifications}
+use Rattle.contents.specs.Legal.{hasRole, those, inEach, periodOf, quartersOf, positionOf}
 
 -- the amount that a Qty says, which is collapsed, in thousandths
 unfoldable pub amountIn : Said → ℤ
@@ -26,43 +28,59 @@ unfoldable pub sum : List ℕ → ℕ
 sum [] = 0
 sum (n ∷ ns) = n + sum ns
 
-module _ (rows : List ℕ) (c : Trees Said) where
-  unfoldable pub objects : List (List ℕ)
-  objects = map (λ (s : Said). bytes (s .v)) (those (hasRole isObject) rows c)
+-- the last of a list, or d where there is none
+abbrev pub lastOf : {A : Type 0} → A → List A → A
+lastOf d [] = d
+lastOf d (x ∷ l) = lastOf x l
 
-  -- "of its BusinessType, spaces dropped"
-  unfoldable pub businessTypes : List (List ℕ)
-  businessTypes = map (λ (s : Said). dropped (bytes (s .v))) (those (hasRole isBusinessType) rows c)
+-- the element of a series whose value a view shows, by its role; FirstRow and Count are no views
+abbrev pub roleShown : Field → ℕ
+roleShown Identification = seriesIdRole
+roleShown Object = objectRole
+roleShown BusinessType = businessRole
+roleShown FirstRow = valueRole
+roleShown Count = valueRole
 
-  -- how many intervals each series has
-  unfoldable pub intervalCounts : List ℕ
-  intervalCounts = map (λ (s : Trees Said). length (those (hasRole isInterval) rows s)) (inEach (hasRole isSeries) rows c)
+-- what it shows of the value: "of its BusinessType, spaces dropped"
+abbrev pub partShown : Field → List ℕ → List ℕ
+partShown Identification b = b
+partShown Object b = b
+partShown BusinessType b = dropped b
+partShown FirstRow b = b
+partShown Count b = b
 
--- the part of the document whose start and length two cells have
-unfoldable pub view : List ℕ → List ℕ → ℕ → List ℕ
-view doc cells i = partOf doc (getD cells i 0) (getD cells (i + 1) 0)
+-- what a series says of it; no element that a view shows comes twice in a series, and where it does not come nothing is said
+unfoldable pub saidFor : List ℕ → Trees Said → Field → List (List ℕ)
+saidFor rows s f = map (λ (x : Said). partShown f (bytes (x .v))) (those (hasRole (roleShown f)) rows s)
+
+unfoldable pub eachSeries : List ℕ → Trees Said → List (Trees Said)
+eachSeries rows c = inEach (hasRole seriesRole) rows c
+
+-- how many intervals each series has
+unfoldable pub intervalCounts : List ℕ → List (Trees Said) → List ℕ
+intervalCounts rows ss = map (λ (s : Trees Said). length (those (hasRole intervalRole) rows s)) ss
 
 -- "A series takes eight u32 numbers ..: start and length of its TimeSeriesIdentification; of its object ..; of its BusinessType, spaces dropped; its first
--- interval row; its interval count." Row i is of series i
-pub record RowShows (doc cells : List ℕ) (rows : List ℕ) (c : Trees Said) (i : ℕ) : Type 0 where
-  pub identification : view doc cells (8 * i) ≡ getD (identifications rows c) i []
-  pub object : view doc cells (8 * i + 2) ≡ getD (objects rows c) i []
-  pub businessType : view doc cells (8 * i + 4) ≡ getD (businessTypes rows c) i []
-  pub first : getD cells (8 * i + 6) 0 ≡ sum (take i (intervalCounts rows c))
-  pub count : getD cells (8 * i + 7) 0 ≡ getD (intervalCounts rows c) i 0
+-- interval row; its interval count." Row i shows series s
+pub record RowShows (doc cells rows : List ℕ) (i : ℕ) (s : Trees Said) (first : ℕ) : Type 0 where
+  pub views : (f : Field) → isView f ≡ true → view doc cells i f ≡ lastOf [] (saidFor rows s f)
+  pub absent : (f : Field) → isView f ≡ true → saidFor rows s f ≡ [] → NoView cells i f
+  pub begins : fieldAt cells i FirstRow ≡ first
+  pub count : fieldAt cells i Count ≡ length (those (hasRole intervalRole) rows s)
 
 -- "Intervals take one position and one amount at the same index .. Rows come in document order. Cells past the last row are 0."
 pub record Shows (doc : List ℕ) (t : Tables) (rows : List ℕ) (c : Trees Said) : Type 0 where
-  pub series : (i : ℕ) → i < length (those (hasRole isSeries) rows c) → RowShows doc (t .series) rows c i
-  pub positions : (j : ℕ) → getD (t .positions) j 0 ≡ getD (map positionOf (those (hasRole isPos) rows c)) j 0
-  pub amounts : (j : ℕ) → getD (t .amounts) j (pos 0) ≡ getD (map amountIn (those (hasRole isQty) rows c)) j (pos 0)
+  pub series : (i : ℕ) → i < length (those (hasRole seriesRole) rows c)
+      → RowShows doc (t .series) rows i (getD (eachSeries rows c) i none) (sum (take i (intervalCounts rows (eachSeries rows c))))
+  pub positions : (j : ℕ) → getD (t .positions) j 0 ≡ getD (map positionOf (those (hasRole posRole) rows c)) j 0
+  pub amounts : (j : ℕ) → getD (t .amounts) j (pos 0) ≡ getD (map amountIn (those (hasRole qtyRole) rows c)) j (pos 0)
 
 -- what is answered, and left in the tables, where a document that spells the content is accepted
 pub record Tells (doc : List ℕ) (o : Outcome) (kind : ℕ) (c : Trees Said) : Type 0 where
   pub accepted : o .answer .refusal ≡ 0
   pub kinds : o .answer .kind ≡ kind
-  pub series : o .answer .series ≡ length (those (hasRole isSeries) (rowsOf kind) c)
-  pub intervals : o .answer .intervals ≡ length (those (hasRole isInterval) (rowsOf kind) c)
+  pub series : o .answer .series ≡ length (those (hasRole seriesRole) (rowsOf kind) c)
+  pub intervals : o .answer .intervals ≡ length (those (hasRole intervalRole) (rowsOf kind) c)
   pub quarters : o .answer .quarters ≡ quartersOf (periodOf (rowsOf kind) c)
   pub tables : Shows doc (o .tables) (rowsOf kind) c
 
@@ -73,8 +91,7 @@ pub record SameButPlaces (x : List ℕ) (o : Outcome) (y : List ℕ) (u : Outcom
   pub series : o .answer .series ≡ u .answer .series
   pub intervals : o .answer .intervals ≡ u .answer .intervals
   pub quarters : o .answer .quarters ≡ u .answer .quarters
-  pub views : (i : ℕ) → i < o .answer .series → (j : ℕ) → (j ≡ 0) ⊎ ((j ≡ 2) ⊎ (j ≡ 4))
-      → view x (o .tables .series) (8 * i + j) ≡ view y (u .tables .series) (8 * i + j)
-  pub counts : (i : ℕ) → i < o .answer .series → (j : ℕ) → (j ≡ 6) ⊎ (j ≡ 7) → getD (o .tables .series) (8 * i + j) 0 ≡ getD (u .tables .series) (8 * i + j) 0
+  pub views : (i : ℕ) → i < o .answer .series → (f : Field) → isView f ≡ true → view x (o .tables .series) i f ≡ view y (u .tables .series) i f
+  pub counts : (i : ℕ) → i < o .answer .series → (f : Field) → isView f ≡ false → fieldAt (o .tables .series) i f ≡ fieldAt (u .tables .series) i f
   pub positions : (j : ℕ) → getD (o .tables .positions) j 0 ≡ getD (u .tables .positions) j 0
   pub amounts : (j : ℕ) → getD (o .tables .amounts) j (pos 0) ≡ getD (u .tables .amounts) j (pos 0)

@@ -1,12 +1,13 @@
--- Where the parts of an item stand, and which of them are the same where digits are changed. Assumes nothing.
+-- Where the parts of an item stand, and which of them are the same where its `v` is another. Assumes nothing.
 use Prim.Native.Nat.{ℕ, suc, _+_, _≤_, _<_}
 use mathlib.Core.Path.{_≡_, refl}
+use mathlib.Core.Bool.{true, false}
 use mathlib.Core.List.{List, [], _∷_}
 use mathlib.Core.Logic.{_⊎_, inl, inr, ⊎-elim}
 use native.Mathlib.Omega.{arith}
-use lib.Dec.{eqb, ltb}
-use lib.ListN.{take, drop}
-use Rattle.lists.proofs.Cases.{by-cond}
+use lib.Dec.{eqb, ltb, leb}
+use lib.ListN.{length, take, drop}
+use Rattle.lists.proofs.Cases.{bool-cases, by-cond, never}
 use Rattle.slices.specs.Bytes.{byte}
 use Rattle.slices.specs.Run.{run}
 use Rattle.slices.specs.Same.{same, firstAt}
@@ -14,6 +15,7 @@ use Rattle.slices.specs.Text.{text}
 use Rattle.characters.specs.Says.{allChars}
 use Rattle.attributes.specs.Names.{nameStart, nameByte, white}
 use Rattle.attributes.specs.Attribute.{partOf}
+use Rattle.attributes.proofs.Short.{byte-drop}
 use Rattle.tags.specs.Known.{absent, noneKnown, noted}
 use Rattle.tags.specs.Tail.{Attr, Ends, closed, torn, ends, keep, twice}
 use Rattle.tags.specs.declared.Span.{Span}
@@ -22,10 +24,10 @@ use Rattle.items.specs.Comment.{commentTo, comment}
 use Rattle.items.specs.Text.{textTo, textItem}
 use Rattle.items.specs.Item.{tagOf, tagItem, startTag, endTag, endName, endClose, commentItem, commentTag, item}
 use Rattle.items.specs.declared.Tag.{Tag}
-use Rattle.items.specs.declared.Item.the-variants.{Start, Empty, End}
-use Rattle.numbers.specs.Alike.{Alike}
-use Rattle.digits.specs.Items.{InSpan, InV, SameButV, Stands, Apart, IsTag, ValuesLaid, TagLaid, Laid, valueIn, PartsSame}
-use Rattle.digits.proofs.Places.{alike-part, part-same}
+use Rattle.items.specs.declared.Item.the-variants.{End}
+use Rattle.digits.specs.Items.{InSpan, Stands, Apart, IsTag, ValuesLaid, TagLaid, Laid, valueIn, PartsSame}
+use Rattle.trims.proofs.Low.{by-test}
+use Rattle.digits.proofs.Near.{part-near}
 use Rattle.digits.proofs.Spans.{Within, ends-ordered}
 
 -- what is kept of the attributes up to the place `to` of a tag whose name has n bytes
@@ -42,7 +44,7 @@ ended n to x (inl e) i h = omega (arith, h .1, h .0, e .0, e .1)
 ended n to x (inr e) i h = omega (arith, h .1, e .1)
 
 -- one more value a, behind `from`
-module _ (n from : ℕ) (k : Known) (name : List ℕ) (a : Span) (low : 1 + n ≤ from) (h : from < a .start) (r : Kept n (suc from) k) where
+module _ (n from : ℕ) (k : Known) (name : List ℕ) (a : Span) (low : 1 + n ≤ from) (h : from + 2 < a .start) (r : Kept n (suc from) k) where
   new : Stands n (suc (a .start + a .len)) a
   new = inr (omega arith, omega arith)
 
@@ -88,21 +90,40 @@ none-kept n to =
     off : Apart (record { start = 0; len = 0 }) (record { start = 0; len = 0 })
     off i p q = omega (arith, p .1)
 
+-- a name has a byte
+start-name : (b : ℕ) → nameStart b ≡ true → nameByte b ≡ true
+unfolding nameStart nameByte
+start-name b e =
+    ⊎-elim
+    (λ (t : leb 0x61 b ≡ true). rw t (rw t at e))
+    (λ (t : leb 0x61 b ≡ false).
+    ⊎-elim
+    (λ (u : leb 0x41 b ≡ true). rw (t, u) (rw (t, u) at e))
+    (λ (u : leb 0x41 b ≡ false). never (rw (t, u) at e))
+    (bool-cases (leb 0x41 b)))
+    (bool-cases (leb 0x61 b))
+
+name-some : (l : List ℕ) → nameStart (byte l 0) ≡ true → 0 < run nameByte l
+unfolding run byte nameStart
+name-some [] e = never e
+name-some (b ∷ l) e = rw (start-name b e) (omega arith)
+
 module _ (before : ℕ) (s : List ℕ) where
-  ends-laid : (n : ℕ) (x : Ends) → ends s (1 + n) ≡ x → Laid (tagItem before n x)
+  ends-laid : (n : ℕ) (x : Ends) → 0 < n → ends s (1 + n) ≡ x → Laid (tagItem before n x)
   unfolding tagItem tagOf ends Laid
-  ends-laid n torn q = tt
-  ends-laid n (closed more empty e) q = by-cond Laid (twice more) tt (by-cond Laid empty laid laid)
+  ends-laid n torn z q = tt
+  ends-laid n (closed more empty e) z q = by-cond Laid (twice more) tt (by-cond Laid empty laid laid)
     where
       laid : TagLaid (tagOf n (keep noneKnown more) e)
       laid =
           let o = ends-ordered (drop (1 + n) s) 0 (1 + n) more empty e q in
           let k = keep-kept n (1 + n + 0) e noneKnown more (omega arith) (o .end) (o .values) (none-kept n _) in
-          record { name = omega (arith, o .end); values = k }
+          record { some = z; name = omega (arith, o .end); values = k }
 
   start-laid : Laid (startTag before s)
   unfolding startTag Laid
-  start-laid = by-cond Laid (nameStart (byte s 1)) (ends-laid _ _ refl) tt
+  start-laid =
+      by-test Laid (nameStart (byte s 1)) (λ z. ends-laid _ _ (name-some (drop 1 s) (rw (byte-drop s 1 0) z)) refl) (λ z. tt)
 
   end-laid : Laid (endTag before s)
   unfolding endTag endName endClose Laid
@@ -136,15 +157,17 @@ module _ (before : ℕ) (s : List ℕ) where
       (by-cond Laid (eqb (byte s 1) 0x2F) end-laid (by-cond Laid (eqb (byte s 1) 0x21) comment-laid start-laid))
       (text-laid (firstAt (text "<") s))
 
--- a value that no changed digit stands in
-value-same : (t : Tag) (x : Span) {s s′ : List ℕ} → Stands (t .name) (t .len) x → Alike s s′
-    → ((i : ℕ) → i < t .len → InSpan i x → byte s i ≡ byte s′ i) → valueIn s x ≡ valueIn s′ x
-value-same t x stands r h = part-same (x .start) (x .len) r (λ i p q. h i (ended (t .name) (t .len) x stands i (p, q)) (p, q))
+-- ---- the same parts, where another value stands in `v`
 
-module _ (t : Tag) (laid : TagLaid t) {s s′ : List ℕ} (r : Alike s s′)
+-- a value whose bytes are the same
+value-same : (t : Tag) (x : Span) (s s′ : List ℕ) → Stands (t .name) (t .len) x → length s ≡ length s′
+    → ((i : ℕ) → i < t .len → InSpan i x → byte s i ≡ byte s′ i) → valueIn s x ≡ valueIn s′ x
+value-same t x s s′ stands long h = part-near s s′ (x .start) (x .len) long (λ i p q. h i (ended (t .name) (t .len) x stands i (p, q)) (p, q))
+
+module _ (t : Tag) (laid : TagLaid t) (s s′ : List ℕ) (long : length s ≡ length s′)
     (h : (i : ℕ) → i < t .len → (byte s i ≡ byte s′ i) ⊎ InSpan i (t .v)) where
   other : (x : Span) → Stands (t .name) (t .len) x → Apart (t .v) x → valueIn s x ≡ valueIn s′ x
-  other x stands apart = value-same t x stands r (λ i p q. ⊎-elim (λ e. e) (λ e. absurd (apart i e q)) (h i p))
+  other x stands apart = value-same t x s s′ stands long (λ i p q. ⊎-elim (λ e. e) (λ e. absurd (apart i e q)) (h i p))
 
   behind : (i : ℕ) → i < 1 + t .name → InSpan i (t .v) → ⊥
   behind i p e = ⊎-elim (λ z. omega (arith, z .0, z .1, e .1)) (λ z. omega (arith, z .0, e .0)) (laid .values .v)
@@ -152,8 +175,7 @@ module _ (t : Tag) (laid : TagLaid t) {s s′ : List ℕ} (r : Alike s s′)
   parts : PartsSame t s s′
   parts =
       record {
-        name = part-same 1 (t .name) r (λ i p q. ⊎-elim (λ e. e) (λ e. absurd (behind i q e)) (h i (omega (arith, laid .name))));
-        v = alike-part (t .v .start) (t .v .len) r;
+        name = part-near s s′ 1 (t .name) long (λ i p q. ⊎-elim (λ e. e) (λ e. absurd (behind i q e)) (h i (omega (arith, laid .name))));
         coding = other (t .coding) (laid .values .coding) (laid .values .v-coding);
         version = other (t .version) (laid .values .version) (laid .values .v-version);
       }
@@ -163,24 +185,17 @@ module _ (before : ℕ) (s : List ℕ) (t : Tag) (is : IsTag (item before s) t) 
   unfolding Laid
   tag-laid = ⊎-elim (λ e. rw e at (item-laid before s)) (λ e. rw e at (item-laid before s)) is
 
-  -- what a tag says where digits are changed in its `v` and behind it
-  pub tag-parts : (s′ : List ℕ) → SameButV (item before s) s s′ → PartsSame t s s′
-  unfolding InV
-  tag-parts s′ h =
-      parts t tag-laid (h .alike)
-      (⊎-elim
-      (λ e. let g : SameButV (Start t) s s′ = rw e at h in g .inside)
-      (λ e. let g : SameButV (Empty t) s s′ = rw e at h in g .inside)
-      is)
+  -- what a tag says besides its `v`
+  pub tag-parts : (s′ : List ℕ) → length s ≡ length s′ → ((i : ℕ) → i < t .len → (byte s i ≡ byte s′ i) ⊎ InSpan i (t .v)) → PartsSame t s s′
+  tag-parts s′ long h = parts t tag-laid s s′ long h
 
-  -- where digits are changed behind it alone, its `v` is the same too
-  pub tag-v : (s′ : List ℕ) → Alike s s′ → ((i : ℕ) → i < t .len → byte s i ≡ byte s′ i) → valueIn s (t .v) ≡ valueIn s′ (t .v)
-  tag-v s′ r h = value-same t (t .v) (tag-laid .values .v) r (λ i p q. h i p)
+  -- where its bytes are the same, its `v` is the same too
+  pub tag-v : (s′ : List ℕ) → length s ≡ length s′ → ((i : ℕ) → i < t .len → byte s i ≡ byte s′ i) → valueIn s (t .v) ≡ valueIn s′ (t .v)
+  tag-v s′ long h = value-same t (t .v) s s′ (tag-laid .values .v) long (λ i p q. h i p)
 
 -- the name of an end tag
-pub end-name : (before : ℕ) (s s′ : List ℕ) (n e : ℕ) → item before s ≡ End n e → SameButV (item before s) s s′ → partOf s 2 n ≡ partOf s′ 2 n
-unfolding InV Laid
-end-name before s s′ n e q h =
-    let l : 2 + n < e = rw q at (item-laid before s) in
-    let g : SameButV (End n e) s s′ = rw q at h in
-    part-same 2 n (h .alike) (λ i p u. ⊎-elim (λ z. z) (λ z. absurd z) (g .inside i (omega arith)))
+pub end-name : (before : ℕ) (s s′ : List ℕ) (n e : ℕ) → item before s ≡ End n e → length s ≡ length s′ → ((i : ℕ) → i < e → byte s i ≡ byte s′ i)
+    → partOf s 2 n ≡ partOf s′ 2 n
+unfolding Laid
+end-name before s s′ n e q long h =
+    let l : 2 + n < e = rw q at (item-laid before s) in part-near s s′ 2 n long (λ i p u. h i (omega arith))

@@ -1,57 +1,121 @@
--- The piece of a tag at the front of alike lists is the same, being places and lengths alone. Assumes nothing.
-use Prim.Native.Nat.{ℕ, _+_}
-use mathlib.Core.Path.{_≡_, refl, sym, _∙_}
-use mathlib.Core.List.{List}
-use mathlib.Core.Bool.{Bool, true, false}
+-- The piece of a tag at the front of two lists is the same where its bytes are, its value left aside. Assumes nothing.
+use Prim.Native.Nat.{ℕ, zero, suc, _+_, _<_}
+use mathlib.Core.Path.{_≡_, refl, sym, ap, _∙_}
+use mathlib.Core.List.{List, [], _∷_, _++_}
+use mathlib.Core.Bool.{true, false}
 use mathlib.Core.Logic.{⊎-elim}
+use native.Mathlib.Omega.{arith}
 use lib.Dec.{eqb}
-use lib.ListN.{drop}
-use Rattle.lists.proofs.Cases.{bool-cases, zero-not-one}
+use lib.ListN.{length, take, drop, length-append}
+use lib.Seq.{length-take-le, split-at}
+use borrow.Author.Tests.{eqb-true}
+use Rattle.lists.proofs.Cases.{bool-cases, eqb-cases}
 use Rattle.slices.specs.Bytes.{byte}
 use Rattle.slices.specs.Run.{run}
 use Rattle.attributes.specs.Names.{nameByte, white}
-use Rattle.attributes.specs.Attribute.{quote, openingFrom, opening, attributeQuote, attributeName, attribute, pieceAfter, piece}
-use Rattle.pictures.specs.Picture.{digit}
-use Rattle.numbers.specs.Alike.{Alike}
-use Rattle.numbers.proofs.Blind.{alike-drop}
-use Rattle.digits.proofs.Places.{alike-byte}
-use Rattle.digits.proofs.Tests.{like-test, blind-white, blind-nameByte, blind-nameStart, blind-quote, blind-mark}
-use Rattle.digits.proofs.Runs.{alike-run}
-use Rattle.digits.proofs.Chars.{alike-value}
+use Rattle.attributes.specs.Attribute.{quote, value, openingFrom, opening, attributeQuote, attributeName, attribute, pieceAfter, piece}
+use Rattle.attributes.specs.declared.Piece.the-variants.{Close, CloseEmpty}
+use Rattle.attributes.specs.declared.Value.the-variants.{Long}
+use Rattle.attributes.proofs.Short.{byte-there}
+use Rattle.digits.specs.Unseen.{Unseen}
+use Rattle.digits.proofs.Near.{Front, front-drop, long-drop, run-near, value-closes, value-near}
+use Rattle.digits.proofs.Spans.{AttributeLaid, PieceLaid}
 
--- a quote is no digit
-quote-digit : (q : ℕ) → quote q ≡ true → digit q ≡ false
-quote-digit q h =
-    ⊎-elim (λ y. let z : _≡_ {A = Bool} false true = sym (blind-quote .each q y) ∙ h in absurd (zero-not-one (cc))) (λ y. y) (bool-cases (digit q))
+none-white : white 0 ≡ false
+unfolding white
+none-white = refl
 
-module _ {x y : List ℕ} (r : Alike x y) where
-  -- the byte at p is k, which is no digit
-  pub alike-mark : (p k : ℕ) → digit k ≡ false → eqb (byte x p) k ≡ eqb (byte y p) k
-  alike-mark p k h = like-test (blind-mark k h) (alike-byte r p)
+none-name : nameByte 0 ≡ false
+unfolding nameByte
+none-name = refl
 
-  alike-opening : (a : ℕ) → opening x a ≡ opening y a
-  unfolding opening openingFrom digit
-  alike-opening a =
-      let w = alike-run blind-white (alike-drop a r) in
-      let e = a + run white (drop a y) in
-      rw (w, alike-mark e 0x3D refl, alike-run blind-white (alike-drop (e + 1) r))
+-- runs from a place on
+pub white-near : (x y : List ℕ) (a : ℕ) → Front x y (a + (run white (drop a x) + 1)) → run white (drop a y) ≡ run white (drop a x)
+white-near x y a h = run-near white none-white (drop a x) (drop a y) (front-drop x y a _ h)
 
-  alike-quote : (w n o : ℕ) → attributeQuote x w n o ≡ attributeQuote y w n o
-  unfolding attributeQuote
-  alike-quote w n o =
-      ⊎-elim
-      (λ e. rw e (⊎-elim (λ t. rw (t, alike-value (byte y o) (quote-digit (byte y o) t) (alike-drop (o + 1) r))) (λ t. rw t) (bool-cases (quote (byte y o)))))
-      (λ e. rw (blind-quote .each _ (e .0), blind-quote .each _ (e .1)))
-      (alike-byte r o)
+pub name-near : (x y : List ℕ) (a : ℕ) → Front x y (a + (run nameByte (drop a x) + 1)) → run nameByte (drop a y) ≡ run nameByte (drop a x)
+name-near x y a h = run-near nameByte none-name (drop a x) (drop a y) (front-drop x y a _ h)
 
-  alike-attribute : (w : ℕ) → attribute x w ≡ attribute y w
-  unfolding attribute attributeName
-  alike-attribute w =
-      let n = run nameByte (drop w y) in
-      rw (like-test blind-nameStart (alike-byte r w), alike-run blind-nameByte (alike-drop w r), alike-opening (w + n), alike-quote w n (opening y (w + n)))
+opening-near : (x y : List ℕ) (a : ℕ) → 0 < opening x a → Front x y (opening x a + 1) → opening y a ≡ opening x a
+unfolding opening openingFrom
+opening-near x y a h f =
+    let e = a + run white (drop a x) in
+    let g = run white (drop (e + 1) x) in
+    ⊎-elim
+    (λ t.
+    let o : opening x a ≡ e + 1 + g = rw t in
+    let p = white-near x y a (λ i l. f i (omega arith)) in
+    rw (p, ← f e (omega arith), t, white-near x y (e + 1) (λ i l. f i (omega arith))))
+    (λ t. let o : opening x a ≡ 0 = rw t in absurd (omega arith))
+    (bool-cases (eqb (byte x e) 0x3D))
 
-  pub alike-piece : piece x ≡ piece y
-  unfolding piece pieceAfter digit
-  alike-piece =
-      let w = run white y in
-      rw (alike-run blind-white r, alike-mark w 0x3E refl, alike-mark w 0x2F refl, alike-mark (w + 1) 0x3E refl, alike-attribute w)
+-- ---- a value, and one that R joins to it
+
+quote-small : (q : ℕ) → quote q ≡ true → (q < 0x80) × (0 < q)
+unfolding quote
+quote-small q e =
+    ⊎-elim
+    (λ (t : (q ≡ 0x22) × (eqb q 0x22 ≡ true)). (omega (arith, t .0), omega (arith, t .0)))
+    (λ (t : (q ≡ 0x22 → ⊥) × (eqb q 0x22 ≡ false)). let z = eqb-true q 0x27 (rw (t .1) at e) in (omega arith, omega arith))
+    (eqb-cases q 0x22)
+
+prefix-front : (p : List ℕ) (c : ℕ) (r r′ : List ℕ) → Front (p ++ c ∷ r) (p ++ c ∷ r′) (length p + 1)
+unfolding byte
+prefix-front [] c r r′ zero l = refl
+prefix-front [] c r r′ (suc i) l = absurd (omega arith)
+prefix-front (a ∷ p) c r r′ zero l = refl
+prefix-front (a ∷ p) c r r′ (suc i) l = prefix-front p c r r′ i (omega arith)
+
+pub value-same : {R : List ℕ → List ℕ → Type 0} → Unseen R → (q : ℕ) (x y : List ℕ) (m : ℕ) → quote q ≡ true → length x ≡ length y → value q x ≡ Long m
+    → R (take m x) (take m y) → byte x m ≡ byte y m → value q y ≡ Long m
+unfolding byte
+value-same u q x y m t long v r e =
+    let small = quote-small q t in
+    let c = value-closes q (small .0) x m v in
+    let l = byte-there x m (sym c) (small .1) in
+    let a = length-take-le m x (omega arith) in
+    let b = length-take-le m y (omega arith) in
+    let xs : x ≡ take m x ++ q ∷ drop (suc m) x = split-at x m 0 l ∙ ap (λ (z : ℕ). take m x ++ z ∷ drop (suc m) x) c in
+    let ys : y ≡ take m y ++ q ∷ drop (suc m) y = split-at y m 0 (omega arith) ∙ ap (λ (z : ℕ). take m y ++ z ∷ drop (suc m) y) (sym e ∙ c) in
+    let w = u .whole r q (drop (suc m) x) t (sym (ap (value q) xs) ∙ v ∙ ap Long (sym a)) in
+    let n : length (take m y ++ q ∷ drop (suc m) x) ≡ length (take m y ++ q ∷ drop (suc m) y) =
+    length-append (take m y) (q ∷ drop (suc m) x) ∙ rw (long-drop x y (suc m) long) (sym (length-append (take m y) (q ∷ drop (suc m) y))) in
+    ap (value q) ys ∙ value-near q (small .0) _ _ (length (take m y)) n w (prefix-front (take m y) q (drop (suc m) x) (drop (suc m) y)) ∙ ap Long b
+
+-- ---- pieces
+
+-- a piece that is an attribute: its bytes up to the value, and a value that ends where it did
+module _ (x y : List ℕ) where
+  attribute-near : (w n o m : ℕ) → AttributeLaid x w n o m → Front x y (o + 1) → value (byte x o) (drop (o + 1) y) ≡ Long m → attribute y w ≡ attribute x w
+  unfolding attribute attributeName attributeQuote
+  attribute-near w n o m a f e =
+      let name = name-near x y w (λ i l. f i (omega (arith, a .name, a .behind))) in
+      let opens = opening-near x y (w + n) (omega (arith, a .opens, a .behind)) (λ i l. f i (omega (arith, a .opens))) in
+      rw (← f w (omega (arith, a .behind)), name, a .name, opens, a .opens, ← f o (omega arith), e, a .value)
+
+  pub piece-near : (w n o m : ℕ) → AttributeLaid x w n o m → Front x y (o + 1) → value (byte x o) (drop (o + 1) y) ≡ Long m → piece y ≡ piece x
+  unfolding piece pieceAfter
+  piece-near w n o m a f e =
+      let b = a .behind in
+      let white : run white y ≡ run white x = white-near x y 0 (λ i l. f i (omega (arith, a .white))) in
+      rw (white, a .white, ← f w (omega arith), ← f (w + 1) (omega arith), attribute-near w n o m a f e)
+
+  -- and where its value is the same too
+  pub piece-whole : (w n o m : ℕ) → length x ≡ length y → AttributeLaid x w n o m → Front x y (o + 1 + (m + 1)) → piece y ≡ piece x
+  piece-whole w n o m long a f =
+      piece-near w n o m a (λ i l. f i (omega arith))
+      (value-near (byte x o) (quote-small (byte x o) (a .quotes) .0) (drop (o + 1) x) (drop (o + 1) y) m (long-drop x y (o + 1) long) (a .value) (front-drop x y (o + 1) (m + 1) f))
+
+  pub close-near : (n : ℕ) → PieceLaid x (Close n) → Front x y n → piece y ≡ Close n
+  unfolding piece pieceAfter PieceLaid
+  close-near n h f =
+      let w = run white x in
+      let white : run white y ≡ w = white-near x y 0 (λ i l. f i (omega (arith, h .0))) in
+      rw (white, ← f w (omega (arith, h .0)), h .1, h .0)
+
+  pub empty-near : (n : ℕ) → PieceLaid x (CloseEmpty n) → Front x y n → piece y ≡ CloseEmpty n
+  unfolding piece pieceAfter PieceLaid
+  empty-near n h f =
+      let w = run white x in
+      let white : run white y ≡ w = white-near x y 0 (λ i l. f i (omega (arith, h .0))) in
+      rw (white, ← f w (omega (arith, h .0)), h .1, ← f (w + 1) (omega (arith, h .0)), h .2, h .0)

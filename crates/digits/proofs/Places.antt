@@ -1,8 +1,8 @@
 -- Alike lists place by place, and their parts. Assumes nothing.
-use Prim.Native.Nat.{ℕ, zero, suc, _+_, _≤_, _<_}
-use mathlib.Core.Path.{_≡_, refl, sym, ap}
-use mathlib.Core.List.{List, [], _∷_}
-use mathlib.Core.Logic.{inl, inr, _↔_}
+use Prim.Native.Nat.{ℕ, zero, suc, _<_}
+use mathlib.Core.Path.{_≡_, refl, ap}
+use mathlib.Core.List.{List, [], _∷_, _++_}
+use mathlib.Core.Logic.{inl, _↔_}
 use native.Mathlib.Omega.{arith}
 use lib.ListN.{length, take}
 use Rattle.slices.specs.Bytes.{byte}
@@ -10,20 +10,14 @@ use Rattle.attributes.specs.Attribute.{partOf}
 use Rattle.numbers.specs.Alike.{Like, Alike, none, next}
 use Rattle.numbers.proofs.Blind.{alike-drop}
 
-pub like-refl : (c : ℕ) → Like c c
-like-refl c = inl refl
-
-pub like-sym : {c d : ℕ} → Like c d → Like d c
-like-sym (inl e) = inl (sym e)
-like-sym (inr e) = inr (e .1, e .0)
-
 pub alike-refl : (x : List ℕ) → Alike x x
 alike-refl [] = none
-alike-refl (c ∷ x) = next (like-refl c) (alike-refl x)
+alike-refl (c ∷ x) = next (inl refl) (alike-refl x)
 
-pub alike-sym : {x y : List ℕ} → Alike x y → Alike y x
-alike-sym none = none
-alike-sym (next e r) = next (like-sym e) (alike-sym r)
+-- the same list behind them
+pub alike-append : {x y : List ℕ} (z : List ℕ) → Alike x y → Alike (x ++ z) (y ++ z)
+alike-append z none = alike-refl z
+alike-append z (next e r) = next e (alike-append z r)
 
 pub alike-length : {x y : List ℕ} → Alike x y → length x ≡ length y
 alike-length none = refl
@@ -54,15 +48,3 @@ alike-take (suc n) (next e r) = next e (alike-take n r)
 pub alike-part : {x y : List ℕ} (at n : ℕ) → Alike x y → Alike (partOf x at n) (partOf y at n)
 unfolding partOf
 alike-part at n r = alike-take n (alike-drop at r)
-
--- parts whose bytes are equal
-pub part-same : {x y : List ℕ} (at n : ℕ) → Alike x y → ((i : ℕ) → at ≤ i → i < at + n → byte x i ≡ byte y i) → partOf x at n ≡ partOf y at n
-unfolding byte partOf
-part-same zero zero r h = refl
-part-same zero (suc n) none h = refl
-part-same zero (suc n) (next {c} {d} {x} {y} e r) h =
-    let first : c ≡ d = h 0 (omega arith) (omega arith) in
-    let rest : take n x ≡ take n y = part-same zero n r (λ i p q. h (suc i) (omega arith) (omega arith)) in
-    rw (first, rest)
-part-same (suc at) n none h = refl
-part-same (suc at) n (next e r) h = part-same at n r (λ i p q. h (suc i) (omega arith) (omega arith))

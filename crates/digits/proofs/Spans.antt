@@ -7,27 +7,36 @@ use mathlib.Core.Logic.{_⊎_, inl, inr, ⊎-elim}
 use native.Mathlib.Omega.{arith}
 use lib.Dec.{eqb, ltb}
 use lib.ListN.{drop}
-use borrow.Author.Tests.{ne-eqb, ltb-false}
-use Rattle.lists.proofs.Cases.{bool-cases, eqb-cases, by-cond, past-cond, zero-not-one}
+use borrow.Author.Tests.{ne-eqb, ltb-false, eqb-true}
+use Rattle.lists.proofs.Cases.{bool-cases, eqb-cases, by-cond, past-cond, never, zero-not-one}
 use Rattle.slices.specs.Bytes.{byte}
 use Rattle.slices.specs.Run.{run}
-use Rattle.characters.specs.Utf8.{charAt}
-use Rattle.characters.specs.declared.Char.{Char}
-use Rattle.characters.specs.declared.Char.the-variants.{Is, NoChar}
 use Rattle.attributes.specs.Names.{nameStart, nameByte, white}
-use Rattle.attributes.specs.Attribute.{quote, fit, valueNext, valueOver, value, openingFrom, opening, attributeEnd, attributeQuote, attributeName, attribute, pieceAfter, piece}
+use Rattle.attributes.specs.Attribute.{quote, value, openingFrom, opening, attributeEnd, attributeQuote, attributeName, attribute, pieceAfter, piece}
 use Rattle.attributes.specs.declared.Piece.{Piece}
 use Rattle.attributes.specs.declared.Piece.the-variants.{Attribute, Close, CloseEmpty, Torn}
+use Rattle.attributes.specs.declared.Value.{Value}
+use Rattle.attributes.specs.declared.Value.the-variants.{Long, Broken}
 use Rattle.tags.specs.Tail.{Attr, Ends, closed, torn, onto, endsAfter}
 use Rattle.tags.proofs.Ends.{attr}
-use Rattle.digits.proofs.Runs.{Stops, walk-holds}
+use Rattle.trims.proofs.Low.{by-test}
 
--- a piece is not empty; an attribute's value stands behind its name, and the piece ends with the closing quote
-unfoldable pub PieceLaid : Piece → Type 0
-PieceLaid (Attribute w n v m e) = (w + n < v) × (e ≡ v + m + 1)
-PieceLaid (Close n) = 1 ≤ n
-PieceLaid (CloseEmpty n) = 1 ≤ n
-PieceLaid Torn = Unit {0}
+-- an attribute of a piece l: w bytes of white space, a name of n bytes, and a value of m bytes behind the opening quote, at o
+pub record AttributeLaid (l : List ℕ) (w n o m : ℕ) : Type 0 where
+  pub white : run white l ≡ w
+  pub some : 0 < w
+  pub name : run nameByte (drop w l) ≡ n
+  pub opens : opening l (w + n) ≡ o
+  pub behind : w + n < o
+  pub quotes : quote (byte l o) ≡ true
+  pub value : value (byte l o) (drop (o + 1) l) ≡ Long m
+
+-- where the parts of a piece stand; it ends with its value's closing quote, or with `>`
+unfoldable pub PieceLaid : List ℕ → Piece → Type 0
+PieceLaid l (Attribute w n v m e) = (o : ℕ) × (v ≡ o + 1) × (e ≡ v + m + 1) × AttributeLaid l w n o m
+PieceLaid l (Close n) = (n ≡ run white l + 1) × (byte l (run white l) ≡ 0x3E)
+PieceLaid l (CloseEmpty n) = (n ≡ run white l + 2) × (byte l (run white l) ≡ 0x2F) × (byte l (run white l + 1) ≡ 0x3E)
+PieceLaid l Torn = Unit {0}
 
 white-quote : (b : ℕ) → white b ≡ true → quote b ≡ false
 unfolding white quote
@@ -47,44 +56,51 @@ unfolding opening openingFrom
 opening-after l a =
     by-cond (λ (o : ℕ). (o ≡ 0) ⊎ (a < o)) (eqb (byte l (a + run white (drop a l))) 0x3D) (inr (omega arith)) (inl refl)
 
-module _ (w n o q : ℕ) (h : w + n < o) where
-  step-laid : (at : ℕ) (c : Char) → Stops (λ x. PieceLaid (attributeEnd w n o x)) (valueNext q at c)
-  unfolding valueNext attributeEnd PieceLaid Stops
-  step-laid at (Is c m) =
-      by-cond (Stops (λ x. PieceLaid (attributeEnd w n o x))) (fit c)
-      (by-cond (Stops (λ x. PieceLaid (attributeEnd w n o x))) (eqb c q) (h, refl) tt) tt
-  step-laid at NoChar = tt
+-- the piece begins with w bytes of white space, and has a name behind them
+module _ (l : List ℕ) (some : run white l ≡ 0 → ⊥) where
+  abbrev w : ℕ
+  w = run white l
 
-  end-laid : (l : List ℕ) → PieceLaid (attributeEnd w n o (value q l))
-  unfolding value valueOver attributeEnd PieceLaid
-  end-laid l = walk-holds charAt (valueNext q) valueOver (λ x. PieceLaid (attributeEnd w n o x)) step-laid (λ at. tt) l 0 0
+  abbrev n : ℕ
+  n = run nameByte (drop w l)
 
-module _ (l : List ℕ) (front : quote (byte l 0) ≡ false) where
-  quote-laid : (w n o : ℕ) → (o ≡ 0) ⊎ (w + n < o) → PieceLaid (attributeQuote l w n o)
-  unfolding attributeQuote PieceLaid
-  quote-laid w n o (inl e) = rw (e, front) tt
-  quote-laid w n o (inr h) = by-cond PieceLaid (quote (byte l o)) (end-laid w n (o + 1) (byte l o) (omega arith) (drop (o + 1) l)) tt
+  abbrev o : ℕ
+  o = opening l (w + n)
 
-  attribute-laid : (w : ℕ) → PieceLaid (attribute l w)
-  unfolding attribute attributeName PieceLaid
-  attribute-laid w =
-      let n = run nameByte (drop w l) in
-      by-cond PieceLaid (nameStart (byte l w)) (quote-laid w n (opening l (w + n)) (opening-after l (w + n))) tt
+  end-laid : w + n < o → quote (byte l o) ≡ true → (x : Value) → value (byte l o) (drop (o + 1) l) ≡ x → PieceLaid l (attributeEnd w n (o + 1) x)
+  unfolding attributeEnd PieceLaid
+  end-laid h q (Long m) e =
+      (o, refl, refl, record { white = refl; some = ⊎-elim (λ z. absurd (some (z .0))) (λ z. omega (arith, z .0)) (eqb-cases w 0); name = refl; opens = refl; behind = h; quotes = q; value = e })
+  end-laid h q Broken e = tt
 
-pub piece-laid : (l : List ℕ) → PieceLaid (piece l)
+  attribute-laid : PieceLaid l (attribute l w)
+  unfolding attribute attributeName attributeQuote PieceLaid
+  attribute-laid =
+      by-cond (PieceLaid l) (nameStart (byte l w))
+      (by-test (PieceLaid l) (quote (byte l o))
+      (λ q.
+      ⊎-elim
+      (λ z. let f : quote (byte l 0) ≡ true = rw z at q in never (sym (white-front l some) ∙ f))
+      (λ h. end-laid h q (value (byte l o) (drop (o + 1) l)) refl)
+      (opening-after l (w + n)))
+      (λ q. tt))
+      tt
+
+pub piece-laid : (l : List ℕ) → PieceLaid l (piece l)
 unfolding piece pieceAfter PieceLaid
 piece-laid l =
     let w = run white l in
-    by-cond PieceLaid (eqb (byte l w) 0x3E) (omega arith)
-    (by-cond PieceLaid (eqb (byte l w) 0x2F) (by-cond PieceLaid (eqb (byte l (w + 1)) 0x3E) (omega arith) tt)
-    (⊎-elim (λ y. rw (y .1) tt) (λ y. rw (y .1) (attribute-laid l (white-front l (y .0)) w)) (eqb-cases w 0)))
+    by-test (PieceLaid l) (eqb (byte l w) 0x3E) (λ e. (refl, eqb-true _ _ e))
+    (λ e. by-test (PieceLaid l) (eqb (byte l w) 0x2F)
+    (λ f. by-test (PieceLaid l) (eqb (byte l (w + 1)) 0x3E) (λ g. (refl, eqb-true _ _ f, eqb-true _ _ g)) (λ g. tt))
+    (λ f. ⊎-elim (λ y. rw (y .1) tt) (λ y. rw (y .1) (attribute-laid l (y .0))) (eqb-cases w 0)))
 
--- the values stand one behind the other, from behind `from` to before `to`
+-- the values stand one behind the other, from behind `from`, white space, `=` and a quote to before `to`
 unfoldable pub Within : ℕ → ℕ → List Attr → Type 0
 Within from to [] = Unit {0}
-Within from to (a ∷ more) = (from < a .value .start) × (a .value .start + a .value .len < to) × Within (a .value .start + a .value .len) to more
+Within from to (a ∷ more) = (from + 2 < a .value .start) × (a .value .start + a .value .len < to) × Within (a .value .start + a .value .len) to more
 
-within-wider : {low from : ℕ} (to : ℕ) (more : List Attr) → low ≤ from → Within from to more → Within low to more
+pub within-wider : {low from : ℕ} (to : ℕ) (more : List Attr) → low ≤ from → Within from to more → Within low to more
 unfolding Within
 within-wider to [] h w = tt
 within-wider to (a ∷ more) h w = (omega (arith, w .0), w .1, w .2)
@@ -126,15 +142,16 @@ ends-ordered (b ∷ t) (suc k) at more empty e q =
     record { end = omega (arith, r .end); values = within-wider e more (omega arith) (r .values) }
 ends-ordered (b ∷ t) zero at more empty e q = by (piece (b ∷ t)) (piece-laid (b ∷ t)) (sym (ends-by at b t) ∙ q) (λ k rest. ends-ordered t k (suc at) rest empty e)
   where
-    by : (p : Piece) → PieceLaid p → endsBy at (b ∷ t) t p ≡ closed more empty e
+    by : (p : Piece) → PieceLaid (b ∷ t) p → endsBy at (b ∷ t) t p ≡ closed more empty e
         → ((k : ℕ) (rest : List Attr) → endsAfter k (suc at) t ≡ closed rest empty e → Ordered k (suc at) rest e) → Ordered zero at more e
     by (Attribute w n v m j) h z f =
         let c = onto-closed (attr at (b ∷ t) w n v m) (endsAfter (pred j) (suc at) t) more empty e z in
         let r = f (pred j) (c .0) (c .1) in
+        let v3 : 2 < v = omega (arith, h .1, h .3 .behind, h .3 .some) in
         record {
           end = omega (arith, r .end);
-          values = rw (c .2) (omega (arith, h .0), omega (arith, h .1, r .end), within-wider e (c .0) (omega arith) (r .values));
+          values = rw (c .2) (omega arith, omega (arith, h .2, r .end), within-wider e (c .0) (omega (arith, h .2)) (r .values));
         }
-    by (Close n) h z f = let x : at + n ≡ e = cc in let y : [] ≡ more = cc in record { end = omega (arith, h); values = rw (← y) tt }
-    by (CloseEmpty n) h z f = let x : at + n ≡ e = cc in let y : [] ≡ more = cc in record { end = omega (arith, h); values = rw (← y) tt }
+    by (Close n) h z f = let x : at + n ≡ e = cc in let y : [] ≡ more = cc in record { end = omega (arith, h .0); values = rw (← y) tt }
+    by (CloseEmpty n) h z f = let x : at + n ≡ e = cc in let y : [] ≡ more = cc in record { end = omega (arith, h .0); values = rw (← y) tt }
     by Torn h z f = absurd (zero-not-one (cc))

@@ -10,8 +10,6 @@ use lib.ListN.{replicate}
 use borrow.Author.Tests.{ne-eqb}
 use Rattle.lists.proofs.Cases.{eqb-cases, zero-not-one}
 use Rattle.slices.specs.Text.{text}
-use Rattle.characters.specs.Utf8.{seqLen, control, tail}
-use Rattle.attributes.specs.Names.{nameStart, nameByte, white}
 use Rattle.attributes.specs.Attribute.{quote, fit}
 use Rattle.trims.specs.Trim.{space}
 use Rattle.pictures.specs.Picture.{digit}
@@ -43,18 +41,6 @@ pub like-test : {A : Type 0} {p : ℕ → A} {a : A} {c d : ℕ} → At-digits p
 like-test {p = p} b (inl e) = ap p e
 like-test b (inr e) = b .each _ (e .0) ∙ sym (b .each _ (e .1))
 
-pub blind-white : At-digits white false
-unfolding white
-blind-white = ten white false refl
-
-pub blind-nameByte : At-digits nameByte true
-unfolding nameByte
-blind-nameByte = ten nameByte true refl
-
-pub blind-nameStart : At-digits nameStart false
-unfolding nameStart
-blind-nameStart = ten nameStart false refl
-
 pub blind-quote : At-digits quote false
 unfolding quote
 blind-quote = ten quote false refl
@@ -67,20 +53,6 @@ pub blind-space : At-digits space false
 unfolding space
 blind-space = ten space false refl
 
-pub blind-control : At-digits control false
-unfolding control
-blind-control = ten control false refl
-
--- a digit is a character of one byte
-pub blind-seqLen : At-digits seqLen 1
-unfolding seqLen
-blind-seqLen = ten seqLen 1 refl
-
--- and no later byte of one
-pub blind-tail : At-digits tail false
-unfolding tail
-blind-tail = ten tail false refl
-
 -- being k, where k is no digit
 module _ (k : ℕ) (h : digit k ≡ false) where
   other : (d : ℕ) → digit d ≡ true → d ≡ k → ⊥
@@ -88,6 +60,3 @@ module _ (k : ℕ) (h : digit k ≡ false) where
 
   pub blind-mark : At-digits (λ b. eqb b k) false
   blind-mark = record { each = λ d e. ne-eqb d k (other d e) }
-
-  pub blind-marked : At-digits (λ b. eqb k b) false
-  blind-marked = record { each = λ d e. ne-eqb k d (λ q. other d e (sym q)) }

@@ -1,8 +1,9 @@
--- A part of the document in which digits are changed, seen from the item at its front.
+-- A part of the document in which values of `v` are changed, seen from the item at its front.
 use Prim.Native.Nat.{ℕ, _+_, _≤_, _<_}
 use mathlib.Core.Path.{_≡_}
 use mathlib.Core.List.{List}
 use mathlib.Core.Logic.{_⊎_}
+use lib.ListN.{length}
 use Rattle.slices.specs.Bytes.{byte}
 use Rattle.attributes.specs.Attribute.{partOf}
 use Rattle.tags.specs.declared.Span.{Span}
@@ -10,7 +11,6 @@ use Rattle.items.specs.Item.{itemEnd}
 use Rattle.items.specs.declared.Tag.{Tag}
 use Rattle.items.specs.declared.Item.{Item}
 use Rattle.items.specs.declared.Item.the-variants.{Start, Empty, End, Text, Comment, Refused}
-use Rattle.numbers.specs.Alike.{Alike}
 
 abbrev pub InSpan : ℕ → Span → Type 0
 InSpan i x = (x .start ≤ i) × (i < x .start + x .len)
@@ -24,14 +24,28 @@ InV (Text w e) i = ⊥
 InV (Comment e) i = ⊥
 InV (Refused p) i = ⊥
 
--- s and s′ differ in digits alone; in the item x at their front, in those of its `v` alone
-pub record SameButV (x : Item) (s s′ : List ℕ) : Type 0 where
-  pub alike : Alike s s′
-  pub inside : (i : ℕ) → i < itemEnd x → (byte s i ≡ byte s′ i) ⊎ InV x i
+-- a value's bytes
+abbrev pub valueIn : List ℕ → Span → List ℕ
+valueIn s x = partOf s (x .start) (x .len)
 
--- a value that is not there, or one behind the tag's name and before its end
+-- the value of `v` in a start or empty tag that stands in s and in s′
+unfoldable pub JoinsV : (List ℕ → List ℕ → Type 0) → Item → List ℕ → List ℕ → Type 0
+JoinsV R (Start t) s s′ = R (valueIn s (t .v)) (valueIn s′ (t .v))
+JoinsV R (Empty t) s s′ = R (valueIn s (t .v)) (valueIn s′ (t .v))
+JoinsV R (End n e) s s′ = Unit {0}
+JoinsV R (Text w e) s s′ = Unit {0}
+JoinsV R (Comment e) s s′ = Unit {0}
+JoinsV R (Refused p) s s′ = Unit {0}
+
+-- s and s′ are as long as each other; in the item x at their front, and in the byte behind it, they differ in its `v` alone, and there as R says
+pub record SameButV (R : List ℕ → List ℕ → Type 0) (x : Item) (s s′ : List ℕ) : Type 0 where
+  pub long : length s ≡ length s′
+  pub inside : (i : ℕ) → i ≤ itemEnd x → (byte s i ≡ byte s′ i) ⊎ InV x i
+  pub joined : JoinsV R x s s′
+
+-- a value that is not there, or one behind the tag's name, white space, a name, `=` and a quote, and before the tag's end
 abbrev pub Stands : ℕ → ℕ → Span → Type 0
-Stands name len x = ((x .start ≡ 0) × (x .len ≡ 0)) ⊎ ((1 + name < x .start) × (x .start + x .len < len))
+Stands name len x = ((x .start ≡ 0) × (x .len ≡ 0)) ⊎ ((3 + name < x .start) × (x .start + x .len < len))
 
 -- two values that share no place
 abbrev pub Apart : Span → Span → Type 0
@@ -51,6 +65,7 @@ pub record ValuesLaid (name len : ℕ) (x y z : Span) : Type 0 where
 
 -- where the parts of a tag stand
 pub record TagLaid (t : Tag) : Type 0 where
+  pub some : 0 < t .name
   pub name : 1 + t .name < t .len
   pub values : ValuesLaid (t .name) (t .len) (t .v) (t .coding) (t .version)
 
@@ -62,13 +77,8 @@ Laid (Text w e) = Unit {0}
 Laid (Comment e) = Unit {0}
 Laid (Refused p) = Unit {0}
 
--- a value's bytes
-abbrev pub valueIn : List ℕ → Span → List ℕ
-valueIn s x = partOf s (x .start) (x .len)
-
--- what a tag says in s and in s′: the same but for the digits of its `v`
+-- what a tag says in s and in s′ is the same, its `v` left aside
 pub record PartsSame (t : Tag) (s s′ : List ℕ) : Type 0 where
   pub name : partOf s 1 (t .name) ≡ partOf s′ 1 (t .name)
-  pub v : Alike (valueIn s (t .v)) (valueIn s′ (t .v))
   pub coding : valueIn s (t .coding) ≡ valueIn s′ (t .coding)
   pub version : valueIn s (t .version) ≡ valueIn s′ (t .version)

@@ -1,11 +1,10 @@
 // The elements of both kinds by number, so that the rest compares numbers and no names.
 use slices::is_same;
 ghost use mathlib.Core.Path.{_≡_};
-ghost use mathlib.Core.Bool.{cond};
-ghost use Prim.Native.Nat.{_≤_, _<_};
-ghost use lib.ListN.{length};
-ghost use Rattle.slices.specs.Same.{same};
+ghost use Prim.Native.Nat.{_+_, _≤_};
+ghost use lib.ListN.{length, drop};
 ghost use Rattle.elements.specs.Names.{elementNo};
+ghost use Rattle.elements.specs.Row.{picked, toldIn};
 
 // The elements of Beschaffungsanforderung, in the order of its structure table.
 pub const BESCHAFFUNGSANFORDERUNG: usize = 1;
@@ -87,92 +86,92 @@ pub const CURVE_TYPE: usize = 38;
 
 pub const STATUS: usize = 39;
 
-// The number `no` where the name is this word, else `other`.
-fn pick(name: &[u8], word: &[u8], no: usize, other: usize) -> usize
-    ensures { λ r. ⌜ r ≡ cond (same (now (name .entry)) (now (word .entry))) no other ⌝ }
+// The number of the entry at i in a row of names, where its n letters are the name: the two digits after them. Else `other`.
+fn pick(row: &[u8], i: usize, n: usize, name: &[u8], other: usize) -> usize
+    requires { ⌜ i + n + 2 ≤ length (now row) ⌝ }
+    ensures { λ r. ⌜ r ≡ picked n (now (name .entry)) other (drop i (now (row .entry))) ⌝ }
 {
-    if is_same(name, word) { no } else { other }
-}
-
-// The number of a name of at most 12 bytes: those of its length are compared, each beside its number.
-fn short_no(name: &[u8]) -> usize
-    requires { ⌜ length (now name) < 13 ⌝ }
-    ensures { λ r. ⌜ r ≡ elementNo (now (name .entry)) ⌝ }
-{
-    match name.len() {
-        3 => pick(name, b"Pos", 30, pick(name, b"Qty", 31, 0)),
-        6 => {
-            let status = pick(name, b"Status", 39, 0);
-            let period = pick(name, b"Period", 26, status);
-            pick(name, b"InArea", 16, period)
-        }
-        7 => {
-            let in_party = pick(name, b"InParty", 18, 0);
-            let out_area = pick(name, b"OutArea", 17, in_party);
-            pick(name, b"Product", 15, out_area)
-        }
-        8 => pick(name, b"OutParty", 19, pick(name, b"Interval", 29, 0)),
-        9 => pick(name, b"Direction", 34, pick(name, b"CurveType", 38, 0)),
-        10 => pick(name, b"SenderRole", 7, pick(name, b"Resolution", 28, 0)),
-        11 => pick(name, b"ProcessType", 5, pick(name, b"Kostenblatt", 32, 0)),
-        12 => {
-            let time_interval = pick(name, b"TimeInterval", 27, 0);
-            let business_type = pick(name, b"BusinessType", 14, time_interval);
-            let receiver_role = pick(name, b"ReceiverRole", 9, business_type);
-            pick(name, b"DocumentType", 4, receiver_role)
-        }
-        _ => 0,
+    let to = i + n;
+    if is_same(&row[i..to], name) {
+        return (row[to] % 16) as usize * 10 + (row[to + 1] % 16) as usize;
     }
+    other
 }
 
-// The number of a name of more than 12 bytes: those of its length are compared, each beside its number.
-fn long_no(name: &[u8]) -> usize
-    requires { ⌜ 13 ≤ length (now name) ⌝ }
-    ensures { λ r. ⌜ r ≡ elementNo (now (name .entry)) ⌝ }
+// The number of the name in a row of names of n letters, each with its two digits after it and a space before the next; 0 where it is none of them.
+// It looks at all of them: with a return in the loop LLVM would put the row into memory at each call.
+fn told(row: &[u8], n: usize, name: &[u8]) -> usize
+    requires { ⌜ n ≤ 32 ⌝ }
+    ensures { λ r. ⌜ r ≡ toldIn n (now (name .entry)) (now (row .entry)) ⌝ }
 {
-    match name.len() {
-        14 => {
-            let resource_object = pick(name, b"ResourceObject", 36, 0);
-            let connecting_area = pick(name, b"ConnectingArea", 35, resource_object);
-            pick(name, b"CostTimeSeries", 33, connecting_area)
-        }
-        15 => {
-            let measurement_unit = pick(name, b"MeasurementUnit", 20, 0);
-            pick(name, b"DocumentVersion", 3, measurement_unit)
-        }
-        16 => {
-            let resource_provider = pick(name, b"ResourceProvider", 37, 0);
-            pick(name, b"DocumentDateTime", 10, resource_provider)
-        }
-        17 => pick(name, b"TimePeriodCovered", 11, 0),
-        18 => pick(name, b"ScheduleTimeSeries", 12, 0),
-        20 => pick(name, b"SenderIdentification", 6, 0),
-        22 => {
-            let receiver = pick(name, b"ReceiverIdentification", 8, 0);
-            pick(name, b"DocumentIdentification", 2, receiver)
-        }
-        23 => {
-            let original = pick(name, b"OriginalDocumentVersion", 23, 0);
-            pick(name, b"Beschaffungsanforderung", 1, original)
-        }
-        24 => {
-            let original = pick(name, b"OriginalDocumentDateTime", 24, 0);
-            pick(name, b"TimeSeriesIdentification", 13, original)
-        }
-        28 => pick(name, b"OriginalSenderIdentification", 21, 0),
-        30 => pick(name, b"OriginalDocumentIdentification", 22, 0),
-        32 => pick(name, b"OriginalTimeSeriesIdentification", 25, 0),
-        _ => 0,
+    let mut found = 0;
+    let mut i = 0;
+    while i + n + 2 <= row.len() {
+        found = pick(row, i, n, name, found);
+        i += n + 3;
     }
+    found
 }
 
-// The number of an element's name, 0 for a name that neither kind has.
+// The number of an element's name, 0 for a name that neither kind has. The names of each length stand in a row, that with the highest number first.
 // Ruled out: 0 for the last name of the table; the number of a name that only begins alike; a known name in other letter case.
 pub fn element_no(name: &[u8]) -> usize
     ensures { λ r. ⌜ r ≡ elementNo (now (name .entry)) ⌝ }
 {
-    if name.len() < 13 {
-        return short_no(name);
+    match name.len() {
+        0 => told(b"", 0, name),
+        1 => told(b"", 1, name),
+        2 => told(b"", 2, name),
+        3 => told(b"Qty31 Pos30", 3, name),
+        4 => told(b"", 4, name),
+        5 => told(b"", 5, name),
+        6 => told(b"Status39 Period26 InArea16", 6, name),
+        7 => told(b"InParty18 OutArea17 Product15", 7, name),
+        8 => told(b"Interval29 OutParty19", 8, name),
+        9 => told(b"CurveType38 Direction34", 9, name),
+        10 => told(b"Resolution28 SenderRole07", 10, name),
+        11 => told(b"Kostenblatt32 ProcessType05", 11, name),
+        12 => told(
+            b"TimeInterval27 BusinessType14 ReceiverRole09 DocumentType04",
+            12,
+            name,
+        ),
+        13 => told(b"", 13, name),
+        14 => told(
+            b"ResourceObject36 ConnectingArea35 CostTimeSeries33",
+            14,
+            name,
+        ),
+        15 => told(b"MeasurementUnit20 DocumentVersion03", 15, name),
+        16 => told(b"ResourceProvider37 DocumentDateTime10", 16, name),
+        17 => told(b"TimePeriodCovered11", 17, name),
+        18 => told(b"ScheduleTimeSeries12", 18, name),
+        19 => told(b"", 19, name),
+        20 => told(b"SenderIdentification06", 20, name),
+        21 => told(b"", 21, name),
+        22 => told(
+            b"ReceiverIdentification08 DocumentIdentification02",
+            22,
+            name,
+        ),
+        23 => told(
+            b"OriginalDocumentVersion23 Beschaffungsanforderung01",
+            23,
+            name,
+        ),
+        24 => told(
+            b"OriginalDocumentDateTime24 TimeSeriesIdentification13",
+            24,
+            name,
+        ),
+        25 => told(b"", 25, name),
+        26 => told(b"", 26, name),
+        27 => told(b"", 27, name),
+        28 => told(b"OriginalSenderIdentification21", 28, name),
+        29 => told(b"", 29, name),
+        30 => told(b"OriginalDocumentIdentification22", 30, name),
+        31 => told(b"", 31, name),
+        32 => told(b"OriginalTimeSeriesIdentification25", 32, name),
+        33.. => 0,
     }
-    long_no(name)
 }

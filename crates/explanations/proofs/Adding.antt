@@ -60,6 +60,3 @@ adds-lent s out l at n h en el =
 
 pub adds-same : (w v out₀ out : List ℕ) (at n : ℕ) → w ≡ v → Adds w out₀ at n out → Adds v out₀ at n out
 adds-same w v out₀ out at n e p = rw e at p
-
-pub past : (m k : ℕ) → m + 1 ≤ k → m < k
-past m k h = omega arith

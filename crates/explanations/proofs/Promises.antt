@@ -29,7 +29,7 @@ use Rattle.notes.specs.Note.{numbers, noteOf, AllBelow, IsNote}
 use Rattle.notes.specs.Reader.{noteIn}
 use Rattle.notes.proofs.Promises.{fits-fifteen, round-trip, accepts-exactly}
 use Rattle.explanations.specs.Decimal.{decimalIn, decimal, around}
-use Rattle.explanations.specs.Explanation.{refusals, headPart, wordsPart, refusalLine, placeLine, kinds, kindLine, seriesPart, intervalsPart, explained, noteOn, meaning, explanation}
+use Rattle.explanations.specs.Explanation.{refusalWords, headPart, wordsPart, refusalLine, placeLine, kindLines, kindLine, seriesPart, intervalsPart, explained, noteOn, meaning, explanation}
 use Rattle.explanations.proofs.Printed.{note-bytes, read-bytes, printed-back}
 
 on-printed : (n : Note) → AllBelow (2 ^ 21) (numbers n) → noteOn (hexText (noteOf n)) ≡ Taken n
@@ -48,12 +48,12 @@ begins-front : (t s : List ℕ) → begins t (t ++ s) ≡ true
 unfolding begins
 begins-front t s = rw (take-append-seam t s) (same-self t)
 
-words-row : (k : ℕ) → k ≤ 10 → wordsPart k ≡ getD refusals k []
+words-row : (k : ℕ) → k ≤ 10 → wordsPart k ≡ getD refusalWords k []
 unfolding wordsPart
 words-row k h = rw (le-ltb 10 k h)
 
 pub names-refusal : (n : Note) → AllBelow (2 ^ 21) (numbers n) → n .refusal ≤ 10
-    → begins (headPart (n .refusal) ++ getD refusals (n .refusal) []) (explanation (hexText (noteOf n))) ≡ true
+    → begins (headPart (n .refusal) ++ getD refusalWords (n .refusal) []) (explanation (hexText (noteOf n))) ≡ true
 unfolding explained refusalLine
 names-refusal n h r =
     let head = headPart (n .refusal) in
@@ -136,7 +136,7 @@ Short m l = length l ≤ m
 
 words-size : (n : ℕ) → Short 80 (wordsPart n)
 unfolding wordsPart most
-words-size n = by-cond (Short 80) (ltb 10 n) (omega arith) (omega (arith, row-size refusals n))
+words-size n = by-cond (Short 80) (ltb 10 n) (omega arith) (omega (arith, row-size refusalWords n))
 
 head-size : (n : ℕ) → Short 25 (headPart n)
 unfolding headPart
@@ -157,7 +157,7 @@ place-size r n =
 
 kind-size : (n : ℕ) → Short 50 (kindLine n)
 unfolding kindLine most
-kind-size n = by-cond (Short 50) (ltb 2 n) (omega (arith, around-size (text "Kind: ") n (text ", an unknown kind.\n"))) (omega (arith, row-size kinds n))
+kind-size n = by-cond (Short 50) (ltb 2 n) (omega (arith, around-size (text "Kind: ") n (text ", an unknown kind.\n"))) (omega (arith, row-size kindLines n))
 
 series-size : (r n : ℕ) → Short 60 (seriesPart r n)
 unfolding seriesPart

@@ -14,8 +14,8 @@ use Rattle.notes.specs.Reader.{noteIn}
 use Rattle.explanations.specs.Decimal.{around}
 
 -- "Refusal numbers", in words, from 0 on: "Acceptance is number 0"
-abbrev pub refusals : List (List ℕ)
-refusals =
+abbrev pub refusalWords : List (List ℕ)
+refusalWords =
     text "the document has no fault" ∷
     text "the document is longer than 1048576 bytes" ∷
     text "an item is unreadable" ∷
@@ -29,7 +29,7 @@ refusals =
     text "the note buffer has fewer than 16 bytes" ∷ []
 
 unfoldable pub wordsPart : ℕ → List ℕ
-wordsPart n = cond (ltb 10 n) (text "an unknown refusal") (getD refusals n [])
+wordsPart n = cond (ltb 10 n) (text "an unknown refusal") (getD refusalWords n [])
 
 unfoldable pub headPart : ℕ → List ℕ
 headPart n = cond (eqb n 0) (text "Accepted: 0, ") (around (text "Refused: ") n (text ", "))
@@ -45,14 +45,14 @@ placeLine refusal place =
     (around (text "Place: byte ") place (text " of the document, its first byte being byte 0.\n"))
 
 -- "Beschaffungsanforderung 1.0, kind 1, and Kostenblatt 1.0, kind 2"; "Kind is that of a root start standing in an item before the faulty one, else 0."
-abbrev pub kinds : List (List ℕ)
-kinds =
+abbrev pub kindLines : List (List ℕ)
+kindLines =
     text "Kind: 0, no root yet.\n" ∷
     text "Kind: 1, Beschaffungsanforderung.\n" ∷
     text "Kind: 2, Kostenblatt.\n" ∷ []
 
 unfoldable pub kindLine : ℕ → List ℕ
-kindLine kind = cond (ltb 2 kind) (around (text "Kind: ") kind (text ", an unknown kind.\n")) (getD kinds kind [])
+kindLine kind = cond (ltb 2 kind) (around (text "Kind: ") kind (text ", an unknown kind.\n")) (getD kindLines kind [])
 
 -- "Series and intervals count their start tags in items before the faulty one. On acceptance they are those of the whole document."
 unfoldable pub seriesPart : ℕ → ℕ → List ℕ

@@ -1,4 +1,4 @@
-pub mod Columns
+pub mod Each
 pub mod Named
 pub mod Roots
 pub mod Unique

@@ -1,24 +1,24 @@
--- The root. Assumes nothing.
+-- Before the root, and by any number that is no kind. Assumes nothing.
 use Prim.Native.Nat.{ℕ}
-use mathlib.Core.Path.{_≡_, refl, sym}
-use mathlib.Core.Bool.{Bool, true, false}
-use mathlib.Core.Logic.{⊎-elim}
-use native.Mathlib.Omega.{arith}
-use borrow.Author.Tests.{ne-eqb}
-use Rattle.lists.proofs.Cases.{eqb-cases}
-use Rattle.slices.specs.Same.{same}
-use Rattle.elements.specs.Names.{names, numberIn, elementNo}
-use Rattle.structure.specs.Rows.{parentOf, nameOf, required, repeated, nextIn, startOf}
+use mathlib.Core.Path.{_≡_, refl}
+use mathlib.Core.Bool.{Bool, false}
+use lib.Dec.{leb·suc-zero}
+use Rattle.structure.specs.Rows.{startOf, endOf, closesDocument, overOf}
 use Rattle.structure.specs.declared.Due.the-variants.{NotDue}
-use Rattle.guideline.specs.Kinds.{kindOf}
-use Rattle.guideline.specs.Rows.{kostenblatt, rowsOf}
+use Rattle.guideline.specs.Kinds.{isKind}
+use Rattle.guideline.specs.Rows.{rowsOf}
+use Rattle.guideline.proofs.Each.{no-rows}
 
--- before the root, a tag that tells no kind is not due
-pub no-root : (o : Bool) (x : ℕ) → kindOf x ≡ 0 → startOf (rowsOf 2) 0 o x ≡ NotDue
-unfolding rowsOf kostenblatt elementNo numberIn names same parentOf nameOf required repeated nextIn startOf kindOf
-no-root true x e =
-    ⊎-elim
-    (λ y. let z : kindOf 32 ≡ 0 = rw (y .0) at e in absurd (omega (arith, z)))
-    (λ y. let z : 32 ≡ x → ⊥ = λ q. y .0 (sym q) in rw (ne-eqb 32 x z) (refl {a = NotDue}))
-    (eqb-cases x 32)
-no-root false x e = refl
+-- no start tag is due by its rows, no end tag, and no end of the document
+module _ (k : ℕ) (none : isKind k ≡ false) (r : ℕ) (o : Bool) where
+  pub no-start : (x : ℕ) → startOf (rowsOf k) r o x ≡ NotDue
+  unfolding startOf
+  no-start x = rw (no-rows k none, leb·suc-zero r) refl
+
+  pub no-end : (x : ℕ) → endOf (rowsOf k) r o x ≡ NotDue
+  unfolding endOf
+  no-end x = rw (no-rows k none, leb·suc-zero r) refl
+
+  pub not-over : overOf (rowsOf k) r o ≡ false
+  unfolding overOf closesDocument
+  not-over = rw (no-end 255) refl

@@ -1,18 +1,69 @@
--- What tells a kind, and how many Intervals its Periods have.
-use Prim.Native.Nat.{ℕ}
-use mathlib.Core.Bool.{Bool, true, cond}
-use lib.Dec.{eqb, leb, ltb}
+-- What differs by kind, but for the rows: told here, kind by kind, and asked for by name everywhere else. Which element is the series, the object or Pos of a
+-- kind is told by the roles of its rows.
+use Prim.Native.Nat.{ℕ, suc}
+use mathlib.Core.Bool.{Bool, true, false, cond}
+use lib.Dec.{eqb, leb}
 use Rattle.slices.specs.Text.{text}
 use Rattle.elements.specs.Names.{elementNo}
+use Rattle.guideline.specs.declared.Kind.{Kind}
 
--- "Beschaffungsanforderung 1.0, kind 1, and Kostenblatt 1.0, kind 2": the kind that the number of a root's name tells; 0 for any other name
+-- no bound to the number of Intervals
+abbrev pub unbounded : ℕ
+unbounded = 0
+
+-- 0, before the root, and any other number that is no kind: no element has the name of its root, and it has no rows
+unfoldable pub noKind : Kind
+noKind = record { root = 0; first = 0; count = 0; daily = false; least = 0; most = unbounded; full = false; counted = false }
+
+-- "Beschaffungsanforderung 1.0, kind 1": TimePeriodCovered is a delivery day; Interval is 92..100, and there are N of them; Pos is "1, 2, 3 and so on"
+unfoldable pub kindOne : Kind
+kindOne =
+    record {
+      root = elementNo (text "Beschaffungsanforderung");
+      first = 0;
+      count = 32;
+      daily = true;
+      least = 92;
+      most = 100;
+      full = true;
+      counted = true;
+    }
+
+-- "Kostenblatt 1.0, kind 2": TimePeriodCovered has whole quarter hours; Interval is 1..n; "the first Pos is 1, later ones rise"
+unfoldable pub kindTwo : Kind
+kindTwo =
+    record {
+      root = elementNo (text "Kostenblatt");
+      first = 32;
+      count = 34;
+      daily = false;
+      least = 1;
+      most = unbounded;
+      full = false;
+      counted = false;
+    }
+
+unfoldable pub kindAt : ℕ → Kind
+kindAt k = cond (eqb k 1) kindOne (cond (eqb k 2) kindTwo noKind)
+
+unfoldable pub isKind : ℕ → Bool
+isKind k = cond (eqb k 1) true (eqb k 2)
+
+-- the kind that the number of a root's name tells; 0 for any other name
 unfoldable pub kindOf : ℕ → ℕ
-kindOf e = cond (eqb e (elementNo (text "Beschaffungsanforderung"))) 1 (cond (eqb e (elementNo (text "Kostenblatt"))) 2 0)
+kindOf e = cond (eqb e (kindOne .root)) 1 (cond (eqb e (kindTwo .root)) 2 0)
 
--- Interval is 92..100 in kind 1 and 1..n in kind 2: whether another may come after n of them
+-- the element that is a series of the kind; 255, which no element has, for a number that is no kind
+unfoldable pub seriesElement : ℕ → ℕ
+seriesElement k = cond (eqb k 1) (elementNo (text "ScheduleTimeSeries")) (cond (eqb k 2) (elementNo (text "CostTimeSeries")) 255)
+
+-- whether n Intervals are not too many for a Period of the kind, and whether another may come after n of them
+unfoldable pub withinMost : ℕ → ℕ → Bool
+withinMost kind n = cond (eqb (kindAt kind .most) unbounded) true (leb n (kindAt kind .most))
+
 unfoldable pub takesAnother : ℕ → ℕ → Bool
-takesAnother kind n = cond (eqb kind 1) (ltb n 100) true
+takesAnother kind n = withinMost kind (suc n)
 
 -- and whether n of them are enough
 unfoldable pub hasEnough : ℕ → ℕ → Bool
-hasEnough kind n = cond (eqb kind 1) (leb 92 n) (leb 1 n)
+hasEnough kind n = leb (kindAt kind .least) n

@@ -1,3 +1,2 @@
-pub mod Columns
-pub mod Rows
 pub mod Kinds
+pub mod Rows

@@ -1,5 +1,53 @@
-// What the guideline says of the two kinds, as data: a table of rows for each, as docs/GUIDELINE.md has them in sections 2 and 3.
-// The tables are made once, where the reading begins, and lent down as slices.
+// What the guideline says of the kinds, as data: the rows of each, as docs/GUIDELINE.md has them in sections 2 and 3, and what else differs by kind.
+// The rows of all kinds are one table. It is made once, where the reading begins, and lent down as a slice.
+use columns::AGAIN;
+use columns::AMOUNT_FORM;
+use columns::AREA_LIST;
+use columns::AS;
+use columns::BUSINESS_ROLE;
+use columns::BUSINESS_TYPE_ONE_LIST;
+use columns::BUSINESS_TYPE_TWO_LIST;
+use columns::BY;
+use columns::BY_LIST;
+use columns::COLLAPSED;
+use columns::CURVE_TYPE_LIST;
+use columns::DATE_TIME_FORM;
+use columns::DIRECTION_LIST;
+use columns::DOCUMENT_TYPE_ONE_LIST;
+use columns::DOCUMENT_TYPE_TWO_LIST;
+use columns::EIC_SCHEME_LIST;
+use columns::IDENTIFICATION_FORM;
+use columns::IN;
+use columns::IN_LIST;
+use columns::INTERVAL_FORM;
+use columns::INTERVAL_ROLE;
+use columns::NEEDED;
+use columns::OBJECT_FORM;
+use columns::OBJECT_ROLE;
+use columns::ORIGINAL_ROLE;
+use columns::PARTNER_FORM;
+use columns::PARTY_FORM;
+use columns::PARTY_SCHEME_LIST;
+use columns::PERIOD_FORM;
+use columns::PERIOD_ROLE;
+use columns::POS_FORM;
+use columns::POS_ROLE;
+use columns::PROCESS_TYPE_LIST;
+use columns::PRODUCT_LIST;
+use columns::QTY_ROLE;
+use columns::RESOLUTION_FORM;
+use columns::RESOURCE_SCHEME_LIST;
+use columns::ROLE_LIST;
+use columns::ROOT_ROLE;
+use columns::SENDER_ROLE_TWO_LIST;
+use columns::SERIES_ID_FORM;
+use columns::SERIES_ID_ROLE;
+use columns::SERIES_ROLE;
+use columns::STATUS_LIST;
+use columns::UNIT_ONE_LIST;
+use columns::UNIT_TWO_LIST;
+use columns::V;
+use columns::VERSION_FORM;
 use elements::BESCHAFFUNGSANFORDERUNG;
 use elements::BUSINESS_TYPE;
 use elements::CONNECTING_AREA;
@@ -41,135 +89,73 @@ use elements::TIME_PERIOD_COVERED;
 use elements::TIME_SERIES_IDENTIFICATION;
 use structure::DOCUMENT;
 ghost use mathlib.Core.Path.{_≡_};
-ghost use lib.ListN.{length};
-ghost use Rattle.guideline.specs.Columns.{formOf, collapsed, schemeOf, roleOf};
-ghost use Rattle.guideline.specs.Rows.{rowsOf};
-ghost use Rattle.guideline.specs.Kinds.{kindOf, takesAnother, hasEnough};
+ghost use lib.ListN.{length, take, drop};
+ghost use Rattle.guideline.specs.Rows.{everyRow, rowsIn};
+ghost use Rattle.guideline.specs.Kinds.{kindAt, kindOf, takesAnother, hasEnough};
 
-// Columns of a row besides its name: the row that it stands in, whether it has to come, whether it may come again, whether leading and trailing
-// spaces of `v` are dropped, the form of `v`, the code list of codingScheme, and what it is to the reader.
-const IN: usize = 256;
+// What differs by kind, but for the rows.
+pub struct Kind {
+    // the number of the root's name
+    pub root: usize,
+    // the first of its rows among those of all kinds, and how many they are
+    pub first: usize,
+    pub count: usize,
+    // whether TimePeriodCovered is a delivery day
+    pub daily: bool,
+    // how many Intervals a Period has at least, and at most; UNBOUNDED is no bound
+    pub least: usize,
+    pub most: usize,
+    // whether it has one for each quarter hour
+    pub full: bool,
+    // whether Pos is counted up by one
+    pub counted: bool,
+}
 
-const NEEDED: usize = 65536;
+pub const UNBOUNDED: usize = 0;
 
-const AGAIN: usize = 131072;
-
-const COLLAPSED: usize = 262144;
-
-const V: usize = 524288;
-
-const BY: usize = 33554432;
-
-const AS: usize = 1073741824;
-
-// Forms of `v`; 0 is none, so the element has no `v`.
-pub const IDENTIFICATION_FORM: usize = 1;
-
-pub const SERIES_ID_FORM: usize = 2;
-
-pub const PARTNER_FORM: usize = 3;
-
-pub const VERSION_FORM: usize = 4;
-
-pub const DATE_TIME_FORM: usize = 5;
-
-pub const PERIOD_FORM: usize = 6;
-
-pub const INTERVAL_FORM: usize = 7;
-
-pub const RESOLUTION_FORM: usize = 8;
-
-pub const POS_FORM: usize = 9;
-
-pub const AMOUNT_FORM: usize = 10;
-
-pub const OBJECT_FORM: usize = 11;
-
-pub const PARTY_FORM: usize = 12;
-
-// A form from here on is a code list: LIST and the place of the list in section 5 of docs/GUIDELINE.md, counted from 0.
-pub const LIST: usize = 32;
-
-const DOCUMENT_TYPE_ONE_LIST: usize = LIST + 0;
-
-const DOCUMENT_TYPE_TWO_LIST: usize = LIST + 1;
-
-const PROCESS_TYPE_LIST: usize = LIST + 2;
-
-const ROLE_LIST: usize = LIST + 6;
-
-const SENDER_ROLE_TWO_LIST: usize = LIST + 7;
-
-const BUSINESS_TYPE_ONE_LIST: usize = LIST + 8;
-
-const BUSINESS_TYPE_TWO_LIST: usize = LIST + 9;
-
-const DIRECTION_LIST: usize = LIST + 10;
-
-const PRODUCT_LIST: usize = LIST + 11;
-
-const AREA_LIST: usize = LIST + 12;
-
-const CURVE_TYPE_LIST: usize = LIST + 13;
-
-const UNIT_ONE_LIST: usize = LIST + 14;
-
-const UNIT_TWO_LIST: usize = LIST + 15;
-
-const STATUS_LIST: usize = LIST + 16;
-
-// Code lists of codingScheme: 1 and the place of the list; 0 is none, so the element has no codingScheme.
-const PARTY: usize = 1 + 3;
-
-const EIC: usize = 1 + 4;
-
-const RESOURCE: usize = 1 + 5;
-
-// What a row is to the reader; 0 is nothing but its value.
-pub const ROOT_ROLE: usize = 1;
-
-pub const SERIES_ROLE: usize = 2;
-
-pub const PERIOD_ROLE: usize = 3;
-
-pub const INTERVAL_ROLE: usize = 4;
-
-pub const ORIGINAL_ROLE: usize = 5;
-
-pub const OBJECT_ROLE: usize = 6;
-
-pub const BUSINESS_ROLE: usize = 7;
-
-pub const SERIES_ID_ROLE: usize = 8;
-
-pub const POS_ROLE: usize = 9;
-
-pub const QTY_ROLE: usize = 10;
-
-// Beschaffungsanforderung.
-pub const ROWS_ONE: [usize; 32] = [
+// The rows of all kinds, one kind after the other; `first` and `count` of a kind say which are its own.
+pub const EVERY_ROW: [usize; 66] = [
+    // Beschaffungsanforderung
     DOCUMENT + IN * 255 + NEEDED,
     BESCHAFFUNGSANFORDERUNG + IN * 0 + NEEDED + AS * ROOT_ROLE,
     DOCUMENT_IDENTIFICATION + IN * 1 + NEEDED + V * IDENTIFICATION_FORM,
     DOCUMENT_VERSION + IN * 1 + NEEDED + V * VERSION_FORM + COLLAPSED,
-    DOCUMENT_TYPE + IN * 1 + NEEDED + V * DOCUMENT_TYPE_ONE_LIST + COLLAPSED,
-    PROCESS_TYPE + IN * 1 + NEEDED + V * PROCESS_TYPE_LIST + COLLAPSED,
-    SENDER_IDENTIFICATION + IN * 1 + NEEDED + V * PARTNER_FORM + BY * PARTY,
-    SENDER_ROLE + IN * 1 + NEEDED + V * ROLE_LIST + COLLAPSED,
-    RECEIVER_IDENTIFICATION + IN * 1 + NEEDED + V * PARTNER_FORM + BY * PARTY,
-    RECEIVER_ROLE + IN * 1 + NEEDED + V * ROLE_LIST + COLLAPSED,
+    DOCUMENT_TYPE + IN * 1 + NEEDED + V * (IN_LIST + DOCUMENT_TYPE_ONE_LIST) + COLLAPSED,
+    PROCESS_TYPE + IN * 1 + NEEDED + V * (IN_LIST + PROCESS_TYPE_LIST) + COLLAPSED,
+    SENDER_IDENTIFICATION + IN * 1 + NEEDED + V * PARTNER_FORM + BY * (BY_LIST + PARTY_SCHEME_LIST),
+    SENDER_ROLE + IN * 1 + NEEDED + V * (IN_LIST + ROLE_LIST) + COLLAPSED,
+    RECEIVER_IDENTIFICATION
+        + IN * 1
+        + NEEDED
+        + V * PARTNER_FORM
+        + BY * (BY_LIST + PARTY_SCHEME_LIST),
+    RECEIVER_ROLE + IN * 1 + NEEDED + V * (IN_LIST + ROLE_LIST) + COLLAPSED,
     DOCUMENT_DATE_TIME + IN * 1 + NEEDED + V * DATE_TIME_FORM + COLLAPSED,
     TIME_PERIOD_COVERED + IN * 1 + NEEDED + V * PERIOD_FORM,
     SCHEDULE_TIME_SERIES + IN * 1 + NEEDED + AGAIN + AS * SERIES_ROLE,
     TIME_SERIES_IDENTIFICATION + IN * 12 + NEEDED + V * SERIES_ID_FORM + AS * SERIES_ID_ROLE,
-    BUSINESS_TYPE + IN * 12 + NEEDED + V * BUSINESS_TYPE_ONE_LIST + COLLAPSED + AS * BUSINESS_ROLE,
-    PRODUCT + IN * 12 + NEEDED + V * PRODUCT_LIST + COLLAPSED,
-    IN_AREA + IN * 12 + NEEDED + V * AREA_LIST + BY * EIC,
-    OUT_AREA + IN * 12 + NEEDED + V * AREA_LIST + BY * EIC,
-    IN_PARTY + IN * 12 + NEEDED + V * PARTY_FORM + BY * EIC + AS * OBJECT_ROLE,
-    OUT_PARTY + IN * 12 + NEEDED + V * PARTY_FORM + BY * EIC,
-    MEASUREMENT_UNIT + IN * 12 + NEEDED + V * UNIT_ONE_LIST + COLLAPSED,
-    ORIGINAL_SENDER_IDENTIFICATION + IN * 12 + V * PARTNER_FORM + BY * PARTY + AS * ORIGINAL_ROLE,
+    BUSINESS_TYPE
+        + IN * 12
+        + NEEDED
+        + V * (IN_LIST + BUSINESS_TYPE_ONE_LIST)
+        + COLLAPSED
+        + AS * BUSINESS_ROLE,
+    PRODUCT + IN * 12 + NEEDED + V * (IN_LIST + PRODUCT_LIST) + COLLAPSED,
+    IN_AREA + IN * 12 + NEEDED + V * (IN_LIST + AREA_LIST) + BY * (BY_LIST + EIC_SCHEME_LIST),
+    OUT_AREA + IN * 12 + NEEDED + V * (IN_LIST + AREA_LIST) + BY * (BY_LIST + EIC_SCHEME_LIST),
+    IN_PARTY
+        + IN * 12
+        + NEEDED
+        + V * PARTY_FORM
+        + BY * (BY_LIST + EIC_SCHEME_LIST)
+        + AS * OBJECT_ROLE,
+    OUT_PARTY + IN * 12 + NEEDED + V * PARTY_FORM + BY * (BY_LIST + EIC_SCHEME_LIST),
+    MEASUREMENT_UNIT + IN * 12 + NEEDED + V * (IN_LIST + UNIT_ONE_LIST) + COLLAPSED,
+    ORIGINAL_SENDER_IDENTIFICATION
+        + IN * 12
+        + V * PARTNER_FORM
+        + BY * (BY_LIST + PARTY_SCHEME_LIST)
+        + AS * ORIGINAL_ROLE,
     ORIGINAL_DOCUMENT_IDENTIFICATION + IN * 12 + V * IDENTIFICATION_FORM + AS * ORIGINAL_ROLE,
     ORIGINAL_DOCUMENT_VERSION + IN * 12 + V * VERSION_FORM + AS * ORIGINAL_ROLE,
     ORIGINAL_DOCUMENT_DATE_TIME + IN * 12 + V * DATE_TIME_FORM + COLLAPSED + AS * ORIGINAL_ROLE,
@@ -180,34 +166,49 @@ pub const ROWS_ONE: [usize; 32] = [
     INTERVAL + IN * 26 + NEEDED + AGAIN + AS * INTERVAL_ROLE,
     POS + IN * 29 + NEEDED + V * POS_FORM + COLLAPSED + AS * POS_ROLE,
     QTY + IN * 29 + NEEDED + V * AMOUNT_FORM + COLLAPSED + AS * QTY_ROLE,
-];
-
-// Kostenblatt.
-pub const ROWS_TWO: [usize; 34] = [
+    // Kostenblatt
     DOCUMENT + IN * 255 + NEEDED,
     KOSTENBLATT + IN * 0 + NEEDED + AS * ROOT_ROLE,
     DOCUMENT_IDENTIFICATION + IN * 1 + NEEDED + V * IDENTIFICATION_FORM,
     DOCUMENT_VERSION + IN * 1 + NEEDED + V * VERSION_FORM + COLLAPSED,
-    DOCUMENT_TYPE + IN * 1 + NEEDED + V * DOCUMENT_TYPE_TWO_LIST + COLLAPSED,
-    PROCESS_TYPE + IN * 1 + NEEDED + V * PROCESS_TYPE_LIST + COLLAPSED,
-    SENDER_IDENTIFICATION + IN * 1 + NEEDED + V * PARTNER_FORM + BY * PARTY,
-    SENDER_ROLE + IN * 1 + NEEDED + V * SENDER_ROLE_TWO_LIST + COLLAPSED,
-    RECEIVER_IDENTIFICATION + IN * 1 + NEEDED + V * PARTNER_FORM + BY * PARTY,
-    RECEIVER_ROLE + IN * 1 + NEEDED + V * ROLE_LIST + COLLAPSED,
+    DOCUMENT_TYPE + IN * 1 + NEEDED + V * (IN_LIST + DOCUMENT_TYPE_TWO_LIST) + COLLAPSED,
+    PROCESS_TYPE + IN * 1 + NEEDED + V * (IN_LIST + PROCESS_TYPE_LIST) + COLLAPSED,
+    SENDER_IDENTIFICATION + IN * 1 + NEEDED + V * PARTNER_FORM + BY * (BY_LIST + PARTY_SCHEME_LIST),
+    SENDER_ROLE + IN * 1 + NEEDED + V * (IN_LIST + SENDER_ROLE_TWO_LIST) + COLLAPSED,
+    RECEIVER_IDENTIFICATION
+        + IN * 1
+        + NEEDED
+        + V * PARTNER_FORM
+        + BY * (BY_LIST + PARTY_SCHEME_LIST),
+    RECEIVER_ROLE + IN * 1 + NEEDED + V * (IN_LIST + ROLE_LIST) + COLLAPSED,
     DOCUMENT_DATE_TIME + IN * 1 + NEEDED + V * DATE_TIME_FORM + COLLAPSED,
     TIME_PERIOD_COVERED + IN * 1 + NEEDED + V * PERIOD_FORM,
     COST_TIME_SERIES + IN * 1 + NEEDED + AGAIN + AS * SERIES_ROLE,
     TIME_SERIES_IDENTIFICATION + IN * 12 + NEEDED + V * SERIES_ID_FORM + AS * SERIES_ID_ROLE,
-    BUSINESS_TYPE + IN * 12 + NEEDED + V * BUSINESS_TYPE_TWO_LIST + COLLAPSED + AS * BUSINESS_ROLE,
-    DIRECTION + IN * 12 + V * DIRECTION_LIST + COLLAPSED,
-    PRODUCT + IN * 12 + NEEDED + V * PRODUCT_LIST + COLLAPSED,
-    CONNECTING_AREA + IN * 12 + V * AREA_LIST + BY * EIC,
-    RESOURCE_OBJECT + IN * 12 + NEEDED + V * OBJECT_FORM + BY * RESOURCE + AS * OBJECT_ROLE,
-    RESOURCE_PROVIDER + IN * 12 + NEEDED + V * PARTNER_FORM + BY * PARTY,
-    CURVE_TYPE + IN * 12 + NEEDED + V * CURVE_TYPE_LIST + COLLAPSED,
-    MEASUREMENT_UNIT + IN * 12 + NEEDED + V * UNIT_TWO_LIST + COLLAPSED,
-    STATUS + IN * 12 + V * STATUS_LIST + COLLAPSED,
-    ORIGINAL_SENDER_IDENTIFICATION + IN * 12 + V * PARTNER_FORM + BY * PARTY + AS * ORIGINAL_ROLE,
+    BUSINESS_TYPE
+        + IN * 12
+        + NEEDED
+        + V * (IN_LIST + BUSINESS_TYPE_TWO_LIST)
+        + COLLAPSED
+        + AS * BUSINESS_ROLE,
+    DIRECTION + IN * 12 + V * (IN_LIST + DIRECTION_LIST) + COLLAPSED,
+    PRODUCT + IN * 12 + NEEDED + V * (IN_LIST + PRODUCT_LIST) + COLLAPSED,
+    CONNECTING_AREA + IN * 12 + V * (IN_LIST + AREA_LIST) + BY * (BY_LIST + EIC_SCHEME_LIST),
+    RESOURCE_OBJECT
+        + IN * 12
+        + NEEDED
+        + V * OBJECT_FORM
+        + BY * (BY_LIST + RESOURCE_SCHEME_LIST)
+        + AS * OBJECT_ROLE,
+    RESOURCE_PROVIDER + IN * 12 + NEEDED + V * PARTNER_FORM + BY * (BY_LIST + PARTY_SCHEME_LIST),
+    CURVE_TYPE + IN * 12 + NEEDED + V * (IN_LIST + CURVE_TYPE_LIST) + COLLAPSED,
+    MEASUREMENT_UNIT + IN * 12 + NEEDED + V * (IN_LIST + UNIT_TWO_LIST) + COLLAPSED,
+    STATUS + IN * 12 + V * (IN_LIST + STATUS_LIST) + COLLAPSED,
+    ORIGINAL_SENDER_IDENTIFICATION
+        + IN * 12
+        + V * PARTNER_FORM
+        + BY * (BY_LIST + PARTY_SCHEME_LIST)
+        + AS * ORIGINAL_ROLE,
     ORIGINAL_DOCUMENT_IDENTIFICATION + IN * 12 + V * IDENTIFICATION_FORM + AS * ORIGINAL_ROLE,
     ORIGINAL_DOCUMENT_VERSION + IN * 12 + V * VERSION_FORM + AS * ORIGINAL_ROLE,
     ORIGINAL_DOCUMENT_DATE_TIME + IN * 12 + V * DATE_TIME_FORM + COLLAPSED + AS * ORIGINAL_ROLE,
@@ -220,48 +221,76 @@ pub const ROWS_TWO: [usize; 34] = [
     QTY + IN * 31 + NEEDED + V * AMOUNT_FORM + COLLAPSED + AS * QTY_ROLE,
 ];
 
-// The rows of kind 1. Ruled out: those of the other kind, and a row that differs in any column from the guideline's.
-pub fn rows_one() -> [usize; 32]
-    ensures rows { λ r. ⌜ r ≡ rowsOf 1 ⌝ }
-    ensures size { λ r. ⌜ 32 ≡ length r ⌝ }
+// The rows of all kinds. Ruled out: the kinds in another order, and a row that differs in any column from the guideline's.
+pub fn every_row() -> [usize; 66]
+    ensures rows { λ r. ⌜ r ≡ everyRow ⌝ }
+    ensures size { λ r. ⌜ 66 ≡ length r ⌝ }
 {
-    ROWS_ONE
+    EVERY_ROW
 }
 
-// The rows of kind 2. Ruled out: those of the other kind, and a row that differs in any column from the guideline's.
-pub fn rows_two() -> [usize; 34]
-    ensures rows { λ r. ⌜ r ≡ rowsOf 2 ⌝ }
-    ensures size { λ r. ⌜ 34 ≡ length r ⌝ }
+// What the kind of a number is; a number that no kind has gets no rows. Ruled out: the other kind's; kind 2's for every number but 1.
+pub fn kind_at(kind: u32) -> Kind
+    ensures { λ r. ⌜ r ≡ kindAt kind ⌝ }
 {
-    ROWS_TWO
+    if kind == 1 {
+        return Kind {
+            root: BESCHAFFUNGSANFORDERUNG,
+            first: 0,
+            count: 32,
+            daily: true,
+            least: 92,
+            most: 100,
+            full: true,
+            counted: true,
+        };
+    }
+    if kind == 2 {
+        return Kind {
+            root: KOSTENBLATT,
+            first: 32,
+            count: 34,
+            daily: false,
+            least: 1,
+            most: UNBOUNDED,
+            full: false,
+            counted: false,
+        };
+    }
+    Kind {
+        root: 0,
+        first: 0,
+        count: 0,
+        daily: false,
+        least: 0,
+        most: UNBOUNDED,
+        full: false,
+        counted: false,
+    }
 }
 
-// The form of the element's `v`. Ruled out: the columns after it left in, and a code list's number without LIST.
-pub fn form_of(w: usize) -> usize
-    ensures { λ r. ⌜ r ≡ formOf w ⌝ }
+fn rows_from(rows: &[usize], n: usize) -> &[usize]
+    ensures { λ r. ⌜ now r ≡ drop n (now (rows .entry)) ⌝ }
 {
-    w / V % 64
+    if n <= rows.len() {
+        &rows[n..]
+    } else {
+        &rows[rows.len()..]
+    }
 }
 
-// Whether spaces are dropped at both ends of `v`. Ruled out: true where the guideline says nothing; true for every row.
-pub fn is_collapsed(w: usize) -> bool
-    ensures { λ r. ⌜ r ≡ collapsed w ⌝ }
+fn rows_up_to(rows: &[usize], n: usize) -> &[usize]
+    ensures { λ r. ⌜ now r ≡ take n (now (rows .entry)) ⌝ }
 {
-    w / COLLAPSED % 2 == 1
+    if n <= rows.len() { &rows[..n] } else { rows }
 }
 
-// The code list of the element's codingScheme and 1 more, 0 for none. Ruled out: the list of `v`, and 0 for the first list.
-pub fn scheme_of(w: usize) -> usize
-    ensures { λ r. ⌜ r ≡ schemeOf w ⌝ }
+// Of the rows of all kinds those of one. Ruled out: those of the kind before it; a row of another kind; any row before the root has told the kind.
+pub fn rows_of(rows: &[usize], kind: u32) -> &[usize]
+    ensures { λ r. ⌜ now r ≡ rowsIn (now (rows .entry)) kind ⌝ }
 {
-    w / BY % 32
-}
-
-// What the row is to the reader. Ruled out: another column, and a role for a row that is only a value.
-pub fn role_of(w: usize) -> usize
-    ensures { λ r. ⌜ r ≡ roleOf w ⌝ }
-{
-    w / AS % 16
+    let k = kind_at(kind);
+    rows_up_to(rows_from(rows, k.first), k.count)
 }
 
 // The kind that a root's name tells, 0 for a name that is no root's. Ruled out: 2 for every name that is not kind 1's; a kind for the name of another element.
@@ -281,18 +310,16 @@ pub fn kind_of_root(name: usize) -> u32
 pub fn takes_another(kind: u32, n: usize) -> bool
     ensures { λ r. ⌜ r ≡ takesAnother kind n ⌝ }
 {
-    if kind == 1 {
-        return n < 100;
+    let most = kind_at(kind).most;
+    if most == UNBOUNDED {
+        return true;
     }
-    true
+    n < most
 }
 
 // Whether a Period with n Intervals may end. Ruled out: 91 in kind 1 taken as enough; 1 in kind 2 taken as too few.
 pub fn has_enough(kind: u32, n: usize) -> bool
     ensures { λ r. ⌜ r ≡ hasEnough kind n ⌝ }
 {
-    if kind == 1 {
-        return 92 <= n;
-    }
-    1 <= n
+    kind_at(kind).least <= n
 }

@@ -22,10 +22,10 @@ fn show_row(i: usize, w: usize) {
     print_count(structure::parent_of(w));
     print_flag(structure::is_required(w));
     print_flag(structure::is_repeated(w));
-    print_count(guideline::form_of(w));
-    print_flag(guideline::is_collapsed(w));
-    print_count(guideline::scheme_of(w));
-    print_count(guideline::role_of(w));
+    print_count(columns::form_of(w));
+    print_flag(columns::is_collapsed(w));
+    print_count(columns::scheme_of(w));
+    print_count(columns::role_of(w));
     lines::print_text(b"\n");
 }
 
@@ -86,8 +86,9 @@ fn show_names(s: &[u8]) {
 }
 
 fn main() {
-    show_rows(&guideline::rows_one());
-    show_rows(&guideline::rows_two());
+    let rows = guideline::every_row();
+    show_rows(guideline::rows_of(&rows, 1));
+    show_rows(guideline::rows_of(&rows, 2));
     show_kind(1);
     show_kind(2);
     show_roots();

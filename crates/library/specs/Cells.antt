@@ -1,8 +1,13 @@
 -- The numbers of an answer, in the cells of a lent slice.
 use Prim.Native.Nat.{ℕ}
+use mathlib.Core.Path.{_≡_}
 use mathlib.Core.List.{List, [], _∷_, _++_}
+use lib.IntN.{ℤ}
 use lib.ListN.{take}
 use Rattle.lists.specs.Zeros.{zeros}
+use Rattle.notes.specs.Reader.{readRefusal, fiveOf}
+use Rattle.notes.specs.declared.NoteRead.{NoteRead}
+use Rattle.reader.specs.Answer.{Outcome, Permitted}
 use Rattle.reader.specs.declared.Answer.{Answer}
 
 -- n cells: the numbers from the first cell on, as far as there are cells, and 0 in those after them
@@ -13,3 +18,14 @@ cells n ns = take n (ns ++ zeros n)
 -- the note's length (0 on refusal 10)"
 unfoldable pub sevenOf : Answer → List ℕ
 sevenOf a = a .refusal ∷ a .place ∷ a .kind ∷ a .series ∷ a .intervals ∷ a .quarters ∷ a .note ∷ []
+
+-- what `lumintayag_read` answers and leaves: the refusal, the tables and the note of this outcome, and its seven numbers in k cells
+pub record PermittedCall (o : Outcome) (k refusal : ℕ) (series positions : List ℕ) (amounts : List ℤ) (note answer : List ℕ) : Type 0 where
+  pub refuses : refusal ≡ o .answer .refusal
+  pub leaves : Permitted o (o .answer) series positions amounts note
+  pub puts : answer ≡ cells k (sevenOf (o .answer))
+
+-- what `lumintayag_read_note` answers and leaves: 0 and the five numbers, or 11 and zeros, in k cells
+pub record PermittedNote (n : NoteRead) (k refusal : ℕ) (five : List ℕ) : Type 0 where
+  pub refuses : refusal ≡ readRefusal n
+  pub puts : five ≡ cells k (fiveOf n)

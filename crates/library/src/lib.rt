@@ -9,9 +9,9 @@ use tables::set_number;
 ghost use mathlib.Core.Path.{_≡_};
 ghost use Prim.Native.Nat.{_≤_};
 ghost use lib.ListN.{length};
-ghost use Rattle.notes.specs.Reader.{noteIn, readRefusal, fiveOf};
-ghost use Rattle.reader.specs.Answer.{readOf};
-ghost use Rattle.library.specs.Cells.{cells, sevenOf};
+ghost use Rattle.notes.specs.Reader.{noteIn};
+ghost use Rattle.reader.specs.Answer.{outcomeOf};
+ghost use Rattle.library.specs.Cells.{cells, sevenOf, PermittedCall, PermittedNote};
 ghost use Rattle.library.specs.Version.{version};
 
 // A function whose arguments, cells or rows are laid out anew gets a new name, so that no program is linked with a layout it does not know.
@@ -66,12 +66,10 @@ pub extern "C" fn lumintayag_read(
     note: &mut [u8],
     answer: &mut [u32],
 ) -> u32
-    ensures refusal { λ r. ⌜ r ≡ readOf (now (doc .entry)) (length (now (series .entry))) (length (now (positions .entry))) (length (now (amounts .entry))) (length (now (note .entry))) .answer .refusal ⌝ }
-    ensures series { λ _. ⌜ now (series .exit) ≡ readOf (now (doc .entry)) (length (now (series .entry))) (length (now (positions .entry))) (length (now (amounts .entry))) (length (now (note .entry))) .tables .series ⌝ }
-    ensures positions { λ _. ⌜ now (positions .exit) ≡ readOf (now (doc .entry)) (length (now (series .entry))) (length (now (positions .entry))) (length (now (amounts .entry))) (length (now (note .entry))) .tables .positions ⌝ }
-    ensures amounts { λ _. ⌜ now (amounts .exit) ≡ readOf (now (doc .entry)) (length (now (series .entry))) (length (now (positions .entry))) (length (now (amounts .entry))) (length (now (note .entry))) .tables .amounts ⌝ }
-    ensures note { λ _. ⌜ now (note .exit) ≡ readOf (now (doc .entry)) (length (now (series .entry))) (length (now (positions .entry))) (length (now (amounts .entry))) (length (now (note .entry))) .note ⌝ }
-    ensures answer { λ _. ⌜ now (answer .exit) ≡ cells (length (now (answer .entry))) (sevenOf (readOf (now (doc .entry)) (length (now (series .entry))) (length (now (positions .entry))) (length (now (amounts .entry))) (length (now (note .entry))) .answer)) ⌝ }
+    ensures { λ r. ⌜ PermittedCall
+        (outcomeOf (now (doc .entry)) (now (series .entry)) (now (positions .entry)) (now (amounts .entry)) (now (note .entry)))
+        (length (now (answer .entry)))
+        r (now (series .exit)) (now (positions .exit)) (now (amounts .exit)) (now (note .exit)) (now (answer .exit)) ⌝ }
 {
     let a = read(doc, series, positions, amounts, note);
     put_answer(answer, a);
@@ -82,8 +80,7 @@ pub extern "C" fn lumintayag_read(
 // Ruled out: numbers left in `five` on 11; 0 for bytes with anything after the note; the five in another order.
 #[no_mangle]
 pub extern "C" fn lumintayag_read_note(note: &[u8], five: &mut [u32]) -> u32
-    ensures refusal { λ r. ⌜ r ≡ readRefusal (noteIn (now (note .entry))) ⌝ }
-    ensures five { λ _. ⌜ now (five .exit) ≡ cells (length (now (five .entry))) (fiveOf (noteIn (now (note .entry)))) ⌝ }
+    ensures { λ r. ⌜ PermittedNote (noteIn (now (note .entry))) (length (now (five .entry))) r (now (five .exit)) ⌝ }
 {
     match read_note(note) {
         NoteRead::Taken(n) => {

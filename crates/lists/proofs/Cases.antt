@@ -2,7 +2,7 @@
 --     ⊎-elim (λ y. simp (y .1) ..) (λ y. simp (y .1) ..) (ltb-cases a b)
 -- Assumes nothing.
 use mathlib.Core.Path.{_≡_, refl, ap}
-use Prim.Native.Nat.{ℕ, _+_, _≤_, _<_}
+use Prim.Native.Nat.{ℕ, zero, suc, _+_, _≤_, _<_}
 use mathlib.Core.Bool.{Bool, true, false, cond}
 use mathlib.Core.Logic.{_⊎_, inl, inr}
 use native.Mathlib.Omega.{arith}
@@ -56,6 +56,20 @@ pub both-true : (t : Bool) {u : Bool} → cond t u false ≡ true → (t ≡ tru
 both-true true e = (refl, e)
 both-true false e = never e
 
+-- a test that is asked only where another holds
+pub where-true : (t : Bool) {u : Bool} → cond t u true ≡ true → t ≡ true → u ≡ true
+where-true true h e = h
+where-true false h e = never e
+
 -- a number that is none of those below m, nor m
 pub up : (m : ℕ) {k : ℕ} → m ≤ k → (k ≡ m → ⊥) → m + 1 ≤ k
 up m h n = omega arith
+
+-- k is none of the numbers below m: what the last arm of a `match` is told after arms for 0, 1 and so on
+abbrev pub NoneBelow : ℕ → ℕ → Type 0
+NoneBelow zero k = Unit
+NoneBelow (suc m) k = NoneBelow m k × (k ≡ m → ⊥)
+
+pub past-all : (m k : ℕ) → NoneBelow m k → m ≤ k
+past-all zero k r = omega arith
+past-all (suc m) k r = let h = past-all m k (r .0) in let n = r .1 in omega arith

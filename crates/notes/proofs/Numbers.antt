@@ -15,15 +15,15 @@ use lib.Seq.{drop-at}
 use borrow.Author.Tests.{lt-ltb, le-ltb, ne-eqb}
 use Rattle.lists.proofs.Cases.{ltb-cases, zero-not-one}
 use Rattle.notes.specs.Note.{groupsIn, groups, flat, AllBelow}
-use Rattle.notes.specs.Reader.{moreOf, numberIn, after, front, numbersIn}
+use Rattle.notes.specs.Reader.{moreOf, firstNumber, pastNumber, withNumber, numbersIn}
 use Rattle.notes.specs.declared.Got.{Got}
 use Rattle.notes.specs.declared.Got.the-variants.{Number, Bad}
 use Rattle.notes.proofs.Groups.{on, last, less, groups-three}
 use Rattle.notes.proofs.Reading.{not-bad, more-inv}
 
 -- ---- reading back
-pub number-back : (k n : ℕ) (rest : List ℕ) → n < 128 ^ suc k → numberIn (suc k) (groupsIn k n ++ rest) ≡ Number n (length (groupsIn k n))
-unfolding numberIn groupsIn
+pub number-back : (k n : ℕ) (rest : List ℕ) → n < 128 ^ suc k → firstNumber (suc k) (groupsIn k n ++ rest) ≡ Number n (length (groupsIn k n))
+unfolding firstNumber groupsIn
 number-back zero n rest h = simp (lt-ltb n 128 (omega arith))
 number-back (suc k) n rest h =
     ⊎-elim
@@ -33,7 +33,7 @@ number-back (suc k) n rest h =
     (ap₂ Number (omega arith) (add-one _)))
     (ltb-cases n 128)
 
-got-back : (n : ℕ) (rest : List ℕ) → n < 2 ^ 21 → numberIn 3 (groups n ++ rest) ≡ Number n (length (groups n))
+got-back : (n : ℕ) (rest : List ℕ) → n < 2 ^ 21 → firstNumber 3 (groups n ++ rest) ≡ Number n (length (groups n))
 got-back n rest h = rw (groups-three n h) (number-back 2 n rest h)
 
 pub numbers-back : (ns : List ℕ) → AllBelow (2 ^ 21) ns → numbersIn (length ns) (flat ns) ≡ some ns
@@ -64,8 +64,8 @@ more-groups k b v u w x s h t z ev eu g =
     let q : groupsIn (suc k) v ≡ b ∷ groupsIn k w = on k v n ∙ rw (m, d) refl in
     record { small = omega (arith, g .small); bytes = rw (q, eu, add-one) (ap (λ (l : List ℕ). b ∷ l) (g .bytes)) }
 
-pub number-is : (k : ℕ) (s : List ℕ) (v u : ℕ) → AllBelow 256 s → numberIn (suc k) s ≡ Number v u → Begins k v u s
-unfolding numberIn AllBelow
+pub number-is : (k : ℕ) (s : List ℕ) (v u : ℕ) → AllBelow 256 s → firstNumber (suc k) s ≡ Number v u → Begins k v u s
+unfolding firstNumber AllBelow
 number-is zero [] v u a e = absurd (not-bad e)
 number-is zero (b ∷ s) v u a e =
     ⊎-elim (λ y. one-group zero b v u s (y .0) (rw (y .1) at e)) (λ y. absurd (not-bad (rw (y .1) at e))) (ltb-cases b 128)
@@ -74,8 +74,8 @@ number-is (suc k) (b ∷ s) v u a e =
     ⊎-elim
     (λ y. one-group (suc k) b v u s (y .0) (rw (y .1) at e))
     (λ y.
-    let q : moreOf b (numberIn (suc k) s) ≡ Number v u = rw (y .1) at e in
-    let m = more-inv b (numberIn (suc k) s) v u q in
+    let q : moreOf b (firstNumber (suc k) s) ≡ Number v u = rw (y .1) at e in
+    let m = more-inv b (firstNumber (suc k) s) v u q in
     more-groups k b v u (m .0) (m .1) s (y .0) (a .0) (m .3) (m .4) (m .5) (number-is k s (m .0) (m .1) (a .1) (m .2)))
     (ltb-cases b 128)
 
@@ -106,7 +106,7 @@ front-is k v u s l b r =
     }
 
 step : (k : ℕ) (s l : List ℕ) → ((s′ l′ : List ℕ) → AllBelow 256 s′ → numbersIn k s′ ≡ some l′ → Are k s′ l′)
-    → AllBelow 256 s → (g : Got) → numberIn 3 s ≡ g → (o : Option (List ℕ)) → numbersIn k (after s g) ≡ o → front g o ≡ some l → Are (suc k) s l
+    → AllBelow 256 s → (g : Got) → firstNumber 3 s ≡ g → (o : Option (List ℕ)) → numbersIn k (pastNumber s g) ≡ o → withNumber g o ≡ some l → Are (suc k) s l
 step k s l ih a Bad eg o eo e = absurd (not-none e)
 step k s l ih a (Number v u) eg none eo e = absurd (not-none e)
 step k s l ih a (Number v u) eg (some l′) eo e =
@@ -118,4 +118,4 @@ unfolding numbersIn flat AllBelow
 numbers-are zero [] l a e = let q : [] ≡ l = cc in rw (← q) (record { many = refl; small = tt; bytes = refl })
 numbers-are zero (b ∷ s) l a e = absurd (not-none e)
 numbers-are (suc k) s l a e =
-    step k s l (λ s′ l′ a′ e′. numbers-are k s′ l′ a′ e′) a (numberIn 3 s) refl (numbersIn k (after s (numberIn 3 s))) refl e
+    step k s l (λ s′ l′ a′ e′. numbers-are k s′ l′ a′ e′) a (firstNumber 3 s) refl (numbersIn k (pastNumber s (firstNumber 3 s))) refl e

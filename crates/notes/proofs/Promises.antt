@@ -18,7 +18,7 @@ use Rattle.lists.specs.Zeros.{zeros}
 use Rattle.lists.proofs.Cases.{leb-cases}
 use Rattle.lists.proofs.Zeros.{take-padded}
 use Rattle.notes.specs.Note.{groupsIn, groups, flat, numbers, noteOf, wrote, left, writeRefusal, noteLength, AllBelow, IsNote}
-use Rattle.notes.specs.Reader.{numbersIn, answer, noteIn, readRefusal, fiveOf}
+use Rattle.notes.specs.Reader.{numbersIn, noteAnswer, noteIn, readRefusal, fiveOf}
 use Rattle.notes.specs.declared.Note.{Note}
 use Rattle.notes.specs.declared.NoteRead.{NoteRead}
 use Rattle.notes.specs.declared.NoteRead.the-variants.{Taken, NotOneNote}
@@ -72,7 +72,7 @@ five-are (a ∷ b ∷ c ∷ d ∷ e ∷ f ∷ l) h = absurd (omega arith)
 
 pub round-trip : (n : Note) → AllBelow (2 ^ 21) (numbers n) → noteIn (noteOf n) ≡ Taken n
 unfolding noteIn
-round-trip n h = ap answer (numbers-back (numbers n) h)
+round-trip n h = ap noteAnswer (numbers-back (numbers n) h)
 
 pub written-back : (n : Note) (room k : ℕ) → AllBelow (2 ^ 21) (numbers n) → wrote room (noteOf n) ≡ Written k
     → noteIn (take k (left (noteOf n) room)) ≡ Taken n
@@ -90,13 +90,13 @@ written-back n room k h e =
 abbrev pub Accepts : NoteRead → List ℕ → Type 0
 Accepts r ns = (readRefusal r ≡ 0) × (fiveOf r ≡ ns)
 
-accepted : (s ns : List ℕ) → AllBelow 256 s → (o : Option (List ℕ)) → numbersIn 5 s ≡ o → Accepts (answer o) ns → IsNote s ns
+accepted : (s ns : List ℕ) → AllBelow 256 s → (o : Option (List ℕ)) → numbersIn 5 s ≡ o → Accepts (noteAnswer o) ns → IsNote s ns
 accepted s ns a none e p = absurd (omega (arith, p .0))
 accepted s ns a (some l) e p =
     let r = numbers-are 5 s l a e in
     rw (sym (p .1) ∙ five-are l (r .many)) (record { five = r .many; small = r .small; bytes = r .bytes })
 
-taken : (s ns : List ℕ) → IsNote s ns → Accepts (answer (numbersIn 5 s)) ns
+taken : (s ns : List ℕ) → IsNote s ns → Accepts (noteAnswer (numbersIn 5 s)) ns
 taken s ns i =
     let q : numbersIn 5 s ≡ some ns = rw (i .bytes, ← i .five) (numbers-back ns (i .small)) in
     rw q (refl, five-are ns (i .five))

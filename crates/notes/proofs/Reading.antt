@@ -17,7 +17,7 @@ use lib.Seq.{drop-cons, drop-drop, take-suc-set, take-all}
 use borrow.Author.Tests.{lt-ltb, le-ltb}
 use Rattle.lists.specs.Zeros.{zeros}
 use Rattle.lists.proofs.Cases.{ltb-cases, eqb-cases, zero-not-one}
-use Rattle.notes.specs.Reader.{moreOf, numberIn, front, numbersIn}
+use Rattle.notes.specs.Reader.{moreOf, firstNumber, withNumber, numbersIn}
 use Rattle.notes.specs.declared.Got.{Got}
 use Rattle.notes.specs.declared.Got.the-variants.{Number, Bad}
 
@@ -33,7 +33,7 @@ pub record Sum (s : List ℕ) (i value unit least : ℕ) : Type 0 where
   pub weight : unit ≡ 128 ^ i
   pub small : value < unit
   pub low : least ≤ 1
-  pub all : under least value unit i (numberIn k (drop i s)) ≡ numberIn 3 s
+  pub all : under least value unit i (firstNumber k (drop i s)) ≡ firstNumber 3 s
 
 under-none : (g : Got) → under 0 0 1 0 g ≡ g
 unfolding under
@@ -41,7 +41,7 @@ under-none (Number v u) = simp (le-ltb v 0 (omega arith)) (ap₂ Number (zero-ad
 under-none Bad = refl
 
 pub sum-start : (s : List ℕ) → Sum s 0 0 1 0
-sum-start s = record { k = 3; count = zero-add 3; weight = refl; small = omega arith; low = omega arith; all = under-none (numberIn 3 s) }
+sum-start s = record { k = 3; count = zero-add 3; weight = refl; small = omega arith; low = omega arith; all = under-none (firstNumber 3 s) }
 
 -- a group with its top bit set goes from what is to come to what has been
 under-more : (least value unit i b : ℕ) (g : Got) → least ≤ 1 → under least value unit i (moreOf b g) ≡ under 1 (value + unit * (b - 128)) (unit * 128) (i + 1) g
@@ -73,38 +73,38 @@ module _ (s : List ℕ) (i value unit least : ℕ) (r : Sum s i value unit least
   group-fits h d = let f = sum-fits (getD s i 0 - 128) h (omega arith) in (omega arith, omega arith)
 
   -- what holds of the groups to come, of which there is one at least
-  on-next : (P : Got → Type 0) → i < 3 → ((k : ℕ) → suc i + k ≡ 3 → under least value unit i (numberIn (suc k) (drop i s)) ≡ numberIn 3 s → P (numberIn 3 s)) → P (numberIn 3 s)
+  on-next : (P : Got → Type 0) → i < 3 → ((k : ℕ) → suc i + k ≡ 3 → under least value unit i (firstNumber (suc k) (drop i s)) ≡ firstNumber 3 s → P (firstNumber 3 s)) → P (firstNumber 3 s)
   on-next P h f = go (r .k) (r .count) (r .all)
     where
-      go : (k : ℕ) → i + k ≡ 3 → under least value unit i (numberIn k (drop i s)) ≡ numberIn 3 s → P (numberIn 3 s)
+      go : (k : ℕ) → i + k ≡ 3 → under least value unit i (firstNumber k (drop i s)) ≡ firstNumber 3 s → P (firstNumber 3 s)
       go zero c a = absurd (omega arith)
       go (suc k) c a = f k (omega arith) a
 
-  pub sum-short : i < 3 → length s ≤ i → Bad ≡ numberIn 3 s
-  unfolding under numberIn
+  pub sum-short : i < 3 → length s ≤ i → Bad ≡ firstNumber 3 s
+  unfolding under firstNumber
   sum-short h l = on-next (λ (g : Got). Bad ≡ g) h (λ k c a. rw (drop-of-length-le s l) at a)
 
   module _ (h : i < 3) (l : i < length s) where
-    pub sum-idle : getD s i 0 < least → Bad ≡ numberIn 3 s
-    unfolding under numberIn
+    pub sum-idle : getD s i 0 < least → Bad ≡ firstNumber 3 s
+    unfolding under firstNumber
     sum-idle b =
         let d : getD s i 0 < 128 = omega (arith, r .low) in
         on-next (λ (g : Got). Bad ≡ g) h (λ k c a. simp (drop-cons s i 0 l, lt-ltb (getD s i 0) 128 d, lt-ltb (getD s i 0) least b) at a)
 
-    pub sum-last : least ≤ getD s i 0 → getD s i 0 < 128 → Number (value + unit * getD s i 0) (i + 1) ≡ numberIn 3 s
-    unfolding under numberIn
+    pub sum-last : least ≤ getD s i 0 → getD s i 0 < 128 → Number (value + unit * getD s i 0) (i + 1) ≡ firstNumber 3 s
+    unfolding under firstNumber
     sum-last b d =
         on-next (λ (g : Got). Number (value + unit * getD s i 0) (i + 1) ≡ g) h
         (λ k c a. simp (drop-cons s i 0 l, lt-ltb (getD s i 0) 128 d, le-ltb (getD s i 0) least b) at a)
 
-    more-at : (k : ℕ) → 128 ≤ getD s i 0 → numberIn (suc k) (drop i s) ≡ moreOf (getD s i 0) (numberIn k (drop (i + 1) s))
-    unfolding numberIn
+    more-at : (k : ℕ) → 128 ≤ getD s i 0 → firstNumber (suc k) (drop i s) ≡ moreOf (getD s i 0) (firstNumber k (drop (i + 1) s))
+    unfolding firstNumber
     more-at k d = rw (add-one, drop-cons s i 0 l) (simp (le-ltb (getD s i 0) 128 d))
 
     pub sum-next : 128 ≤ getD s i 0 → getD s i 0 < 256 → Sum s (i + 1) (value + unit * (getD s i 0 - 128)) (unit * 128) 1
     sum-next d t = go (r .k) (r .count) (r .all)
       where
-        go : (k : ℕ) → i + k ≡ 3 → under least value unit i (numberIn k (drop i s)) ≡ numberIn 3 s
+        go : (k : ℕ) → i + k ≡ 3 → under least value unit i (firstNumber k (drop i s)) ≡ firstNumber 3 s
             → Sum s (i + 1) (value + unit * (getD s i 0 - 128)) (unit * 128) 1
         go zero c a = absurd (omega arith)
         go (suc k) c a =
@@ -114,16 +114,16 @@ module _ (s : List ℕ) (i value unit least : ℕ) (r : Sum s i value unit least
               weight = rw add-one (omega (arith, r .weight, pow-succ' 128 i));
               small = omega (arith, sum-fits (getD s i 0 - 128) h (omega arith));
               low = omega arith;
-              all = sym (under-more least value unit i (getD s i 0) (numberIn k (drop (i + 1) s)) (r .low))
+              all = sym (under-more least value unit i (getD s i 0) (firstNumber k (drop (i + 1) s)) (r .low))
                   ∙ sym (ap (under least value unit i) (more-at k d)) ∙ a;
             }
 
   -- a fourth group
-  pub sum-end : 3 ≤ i → Bad ≡ numberIn 3 s
-  unfolding under numberIn
+  pub sum-end : 3 ≤ i → Bad ≡ firstNumber 3 s
+  unfolding under firstNumber
   sum-end h = go (r .k) (r .count) (r .all)
     where
-      go : (k : ℕ) → i + k ≡ 3 → under least value unit i (numberIn k (drop i s)) ≡ numberIn 3 s → Bad ≡ numberIn 3 s
+      go : (k : ℕ) → i + k ≡ 3 → under least value unit i (firstNumber k (drop i s)) ≡ firstNumber 3 s → Bad ≡ firstNumber 3 s
       go zero c a = a
       go (suc k) c a = absurd (omega arith)
 
@@ -146,16 +146,16 @@ more-inv b (Number w x) v u e =
     (eqb-cases w 0)
 
 -- a number lies within what it was read from
-pub got-len : (k : ℕ) (s : List ℕ) (v u : ℕ) → numberIn k s ≡ Number v u → u ≤ length s
-unfolding numberIn
+pub got-len : (k : ℕ) (s : List ℕ) (v u : ℕ) → firstNumber k s ≡ Number v u → u ≤ length s
+unfolding firstNumber
 got-len zero s v u e = absurd (not-bad e)
 got-len (suc k) [] v u e = absurd (not-bad e)
 got-len (suc k) (b ∷ s) v u e =
     ⊎-elim
     (λ y. let q : Number b 1 ≡ Number v u = rw (y .1) at e in let z : 1 ≡ u = cc in omega arith)
     (λ y.
-    let q : moreOf b (numberIn k s) ≡ Number v u = rw (y .1) at e in
-    let m = more-inv b (numberIn k s) v u q in
+    let q : moreOf b (firstNumber k s) ≡ Number v u = rw (y .1) at e in
+    let m = more-inv b (firstNumber k s) v u q in
     omega (arith, got-len k s (m .0) (m .1) (m .2), m .5))
     (ltb-cases b 128)
 
@@ -180,13 +180,13 @@ join-none none = refl
 pub rd-start : (s : List ℕ) → Rd s (zeros 5) 0 0
 rd-start s = record { j = 5; sum = zero-add 5; most = omega arith; long = refl; rest = join-none (numbersIn 5 s) }
 
-join-front : (p : List ℕ) (v u : ℕ) (x : Option (List ℕ)) → join p (front (Number v u) x) ≡ join (p ++ v ∷ []) x
+join-front : (p : List ℕ) (v u : ℕ) (x : Option (List ℕ)) → join p (withNumber (Number v u) x) ≡ join (p ++ v ∷ []) x
 unfolding join
 join-front p v u (some l) = ap some (sym (append-assoc p (v ∷ []) l))
 join-front p v u none = refl
 
 module _ (s ns : List ℕ) (at i : ℕ) (r : Rd s ns at i) where
-  rd-rest : (v u k : ℕ) → i < 5 → numberIn 3 (drop at s) ≡ Number v u → join (take i ns) (numbersIn (suc k) (drop at s)) ≡ numbersIn 5 s
+  rd-rest : (v u k : ℕ) → i < 5 → firstNumber 3 (drop at s) ≡ Number v u → join (take i ns) (numbersIn (suc k) (drop at s)) ≡ numbersIn 5 s
       → join (take (i + 1) (set ns i v)) (numbersIn k (drop (at + u) s)) ≡ numbersIn 5 s
   unfolding numbersIn
   rd-rest v u k h e q =
@@ -194,7 +194,7 @@ module _ (s ns : List ℕ) (at i : ℕ) (r : Rd s ns at i) where
       let t : take (i + 1) (set ns i v) ≡ take i ns ++ v ∷ [] = rw add-one (take-suc-set ns i v l) in
       rw (t, ← drop-drop u at s) (sym (join-front (take i ns) v u (numbersIn k (drop u (drop at s)))) ∙ rw e at q)
 
-  pub rd-next : (v u : ℕ) → i < 5 → numberIn 3 (drop at s) ≡ Number v u → Rd s (set ns i v) (at + u) (i + 1)
+  pub rd-next : (v u : ℕ) → i < 5 → firstNumber 3 (drop at s) ≡ Number v u → Rd s (set ns i v) (at + u) (i + 1)
   rd-next v u h e = go (r .j) (r .sum) (r .rest)
     where
       go : (j : ℕ) → i + j ≡ 5 → join (take i ns) (numbersIn j (drop at s)) ≡ numbersIn 5 s → Rd s (set ns i v) (at + u) (i + 1)
@@ -208,11 +208,11 @@ module _ (s ns : List ℕ) (at i : ℕ) (r : Rd s ns at i) where
             rest = rd-rest v u j h e re;
           }
 
-  stopped : (j : ℕ) → numberIn 3 (drop at s) ≡ Bad → join (take i ns) (numbersIn (suc j) (drop at s)) ≡ none
+  stopped : (j : ℕ) → firstNumber 3 (drop at s) ≡ Bad → join (take i ns) (numbersIn (suc j) (drop at s)) ≡ none
   unfolding numbersIn join
   stopped j e = rw e
 
-  pub rd-bad : i < 5 → numberIn 3 (drop at s) ≡ Bad → none ≡ numbersIn 5 s
+  pub rd-bad : i < 5 → firstNumber 3 (drop at s) ≡ Bad → none ≡ numbersIn 5 s
   rd-bad h e = go (r .j) (r .sum) (r .rest)
     where
       go : (j : ℕ) → i + j ≡ 5 → join (take i ns) (numbersIn j (drop at s)) ≡ numbersIn 5 s → none ≡ numbersIn 5 s

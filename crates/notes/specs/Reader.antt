@@ -18,35 +18,35 @@ moreOf b (Number v u) = cond (eqb v 0) Bad (Number (b - 128 + 128 * v) (u + 1))
 moreOf b Bad = Bad
 
 -- the number that s begins with, in at most k groups, and how many it has
-unfoldable pub numberIn : ℕ → List ℕ → Got
-numberIn zero s = Bad
-numberIn (suc k) [] = Bad
-numberIn (suc k) (b ∷ s) = cond (ltb b 128) (Number b 1) (moreOf b (numberIn k s))
+unfoldable pub firstNumber : ℕ → List ℕ → Got
+firstNumber zero s = Bad
+firstNumber (suc k) [] = Bad
+firstNumber (suc k) (b ∷ s) = cond (ltb b 128) (Number b 1) (moreOf b (firstNumber k s))
 
 -- what stands after a number that was read, and the number in front of those after it
-abbrev pub after : List ℕ → Got → List ℕ
-after s (Number v u) = drop u s
-after s Bad = []
+abbrev pub pastNumber : List ℕ → Got → List ℕ
+pastNumber s (Number v u) = drop u s
+pastNumber s Bad = []
 
-abbrev pub front : Got → Option (List ℕ) → Option (List ℕ)
-front (Number v u) (some l) = some (v ∷ l)
-front (Number v u) none = none
-front Bad l = none
+abbrev pub withNumber : Got → Option (List ℕ) → Option (List ℕ)
+withNumber (Number v u) (some l) = some (v ∷ l)
+withNumber (Number v u) none = none
+withNumber Bad l = none
 
 -- "exactly" k "numbers, each shortest and below 2^21" (three groups), "and nothing after"
 unfoldable pub numbersIn : ℕ → List ℕ → Option (List ℕ)
 numbersIn zero [] = some []
 numbersIn zero (b ∷ s) = none
-numbersIn (suc k) s = front (numberIn 3 s) (numbersIn k (after s (numberIn 3 s)))
+numbersIn (suc k) s = withNumber (firstNumber 3 s) (numbersIn k (pastNumber s (firstNumber 3 s)))
 
 -- the five numbers, in the note's order, or none
-abbrev pub answer : Option (List ℕ) → NoteRead
-answer (some l) =
+abbrev pub noteAnswer : Option (List ℕ) → NoteRead
+noteAnswer (some l) =
     Taken (record { refusal = getD l 0 0; place = getD l 1 0; kind = getD l 2 0; series = getD l 3 0; intervals = getD l 4 0 })
-answer none = NotOneNote
+noteAnswer none = NotOneNote
 
 unfoldable pub noteIn : List ℕ → NoteRead
-noteIn s = answer (numbersIn 5 s)
+noteIn s = noteAnswer (numbersIn 5 s)
 
 -- The paper's number and values for each answer of the note reader: "11: the bytes aren't one note", "on 11 its five numbers are 0"
 abbrev pub readRefusal : NoteRead → ℕ

@@ -2,7 +2,7 @@
 ghost use mathlib.Core.Path.{_≡_};
 ghost use lib.ListN.{length};
 ghost use Rattle.notes.specs.Note.{groups, noteOf, wrote, stored, left};
-ghost use Rattle.notes.specs.Reader.{numberIn, noteIn};
+ghost use Rattle.notes.specs.Reader.{firstNumber, noteIn};
 use lists::clear_bytes;
 
 // "The note is five numbers: refusal, place, kind, series, intervals."
@@ -93,7 +93,7 @@ enum Got {
 // The number that s begins with. `unit` is what the group at i counts and `value` what those before it come to;
 // a last group below `least` says nothing, so the number would not be shortest.
 fn get_number(s: &[u8]) -> Got
-    ensures { λ r. ⌜ r ≡ numberIn 3 (now (s .entry)) ⌝ }
+    ensures { λ r. ⌜ r ≡ firstNumber 3 (now (s .entry)) ⌝ }
 {
     let mut i: usize = 0;
     let mut value: u32 = 0;

@@ -20,7 +20,8 @@ use Rattle.reader.specs.Answer.{Outcome, noteFor, answerOf, told, noted, unnote
 use Rattle.reader.proofs.Sheets.{read-unnoted, read-noted}
 use Rattle.promises.specs.Rows.{ZeroPast, InRoom, Sized}
 use Rattle.promises.specs.Answers.{fiveOf, atOnce}
-use Rattle.promises.specs.Items.{before, starts, kindIn, seriesElement, intervalElement, itemsIn, PlaceOf}
+use Rattle.guideline.specs.Kinds.{seriesElement}
+use Rattle.promises.specs.Items.{before, starts, kindIn, intervalElement, itemsIn, PlaceOf}
 use Rattle.promises.proofs.Places.{sheet-here}
 use Rattle.promises.proofs.Cells.{blank-past, blank-sized}
 use Rattle.promises.proofs.Counted.{first-told, sheet-told}

@@ -15,7 +15,7 @@ use Rattle.prolog.specs.Prolog.{begin}
 use Rattle.prolog.specs.declared.Begin.{Begin}
 use Rattle.prolog.specs.declared.Begin.the-variants.{From, Unreadable}
 use Rattle.structure.specs.Rows.{overOf}
-use Rattle.guideline.specs.Kinds.{kindOf}
+use Rattle.guideline.specs.Kinds.{kindOf, seriesElement}
 use Rattle.guideline.specs.Rows.{rowsOf}
 use Rattle.states.specs.Moves.{oneMore, begun, step}
 use Rattle.states.specs.declared.State.{State}
@@ -27,10 +27,10 @@ use Rattle.reader.specs.Items.{Placed, placed, itemsAfter, itemsFrom}
 use Rattle.reader.specs.Rows.{spanOf, usedBefore}
 use Rattle.reader.specs.Reading.{Tables, Out, blank, roomIn, refusedAt, acceptedAt, endedAt, withoutUsed, stepOf, tablesAfter, readItems, itemsRead, readAfter, readInto, orBlank, readSheet}
 use Rattle.reader.proofs.Ran.{read-next, read-stop, items-over}
-use Rattle.blindness.proofs.Counts.{one-more}
+use Rattle.states.proofs.Judgements.{one-more}
 use Rattle.promises.specs.Rows.{ZeroPast, Sized}
-use Rattle.promises.specs.Items.{startedIn, before, starts, kindIn, seriesElement, intervalElement, itemsBy, itemsIn}
-use Rattle.promises.proofs.Steps.{Sound, Stepped, Rises}
+use Rattle.promises.specs.Items.{startedIn, before, starts, kindIn, intervalElement, itemsBy, itemsIn}
+use Rattle.promises.proofs.Steps.{Stepped, Rises}
 use Rattle.promises.proofs.Cells.{blank-past, blank-sized}
 use Rattle.promises.proofs.Readings.{Held, stepped, turned, passed, begun-held}
 use Rattle.promises.proofs.Starts.{raised, kindAfter, Raised, Raises, step-raises}
@@ -104,11 +104,11 @@ unfolding withoutUsed
 used-raises doc t x name p (Next y e) h = by-cond (Raises name x) (usedBefore doc t (spanOf (p .item)) (p .rest) (y .series) e) tt h
 used-raises doc t x name p (Refused n) h = tt
 
-step-raised : (doc t : List ℕ) (room : Room) (p : Placed) (x : State) → Sound x → Raises (startedIn (p .item) (p .rest)) x (stepOf doc t room p x)
+step-raised : (doc t : List ℕ) (room : Room) (p : Placed) (x : State) → Raises (startedIn (p .item) (p .rest)) x (stepOf doc t room p x)
 unfolding stepOf
-step-raised doc t room p x s =
-    used-raises doc t x (startedIn (p .item) (p .rest)) p (step x (rowsOf 1) (rowsOf 2) (p .item) (p .rest) room)
-    (step-raises x s (p .item) (p .rest) room)
+step-raised doc t room p x =
+    used-raises doc t x (startedIn (p .item) (p .rest)) p (step x (p .item) (p .rest) room)
+    (step-raises x (p .item) (p .rest) room)
 
 -- from the place `at` on, where the state was st
 pub record Counted (at : ℕ) (xs : List Placed) (st : State) (o : Out) : Type 0 where
@@ -144,23 +144,20 @@ module _ (doc : List ℕ) (small : length doc ≤ 1048576) (room : Room) (ns np 
         intervals = no-starts intervalElement (st .intervals) (before (length doc) []) z;
       }
 
-  ended-by : (st : State) (t : Tables) (k a b : Bool)
+  ended-by : (st : State) (t : Tables) (b : Bool)
       → Counted (length doc) [] st (record {
         found =
-            cond k (cond a (acceptedAt (length doc) st) (refusedAt 3 (length doc) st))
-            (cond b (acceptedAt (length doc) st) (refusedAt 3 (length doc) st));
+            cond b (acceptedAt (length doc) st) (refusedAt 3 (length doc) st);
         tables = t;
       })
-  ended-by st t true true b = accepted-counted st t
-  ended-by st t true false b = refused-counted 3 (length doc) [] st t (none-left (length doc))
-  ended-by st t false a true = accepted-counted st t
-  ended-by st t false a false = refused-counted 3 (length doc) [] st t (none-left (length doc))
+  ended-by st t true = accepted-counted st t
+  ended-by st t false = refused-counted 3 (length doc) [] st t (none-left (length doc))
 
   ended-counted : (at : ℕ) (st : State) (t : Tables) → at ≤ length doc
-      → Counted at [] st (record { found = endedAt (rowsOf 1) (rowsOf 2) (length doc) st; tables = t })
+      → Counted at [] st (record { found = endedAt (rowsOf (st .kind)) (length doc) st; tables = t })
   unfolding endedAt
   ended-counted at st t h =
-      let c = ended-by st t (eqb (st .kind) 1) (overOf (rowsOf 1) (st .row) (st .inside)) (overOf (rowsOf 2) (st .row) (st .inside)) in
+      let c = ended-by st t (overOf (rowsOf (st .kind)) (st .row) (st .inside)) in
       record { later = omega (arith, c .later); kind = c .kind; series = c .series; intervals = c .intervals }
 
   -- an item that moved the state, and what is read after it
@@ -205,7 +202,7 @@ module _ (doc : List ℕ) (small : length doc ≤ 1048576) (room : Room) (ns np 
       (λ y e r.
       items-counted n (suc at) l y (tablesAfter p y e t) (omega arith)
       (turned doc room ns np na (suc (length l)) st t h p (length l) (le-refl (suc (length l))) y e r))
-      (stepOf doc (t .series) room p st) refl (stepped doc (t .series) room p st (h .sound)) (step-raised doc (t .series) room p st (h .sound))
+      (stepOf doc (t .series) room p st) refl (stepped doc (t .series) room p st (h .sound)) (step-raised doc (t .series) room p st)
 
 -- of the whole document
 pub record Told (doc : List ℕ) (o : Out) : Type 0 where

@@ -31,14 +31,15 @@ use Rattle.times.specs.Periods.{costPeriod, quarterHours, deliveryDay, dayPerio
 use Rattle.rules.specs.Rules.{versionBy, version, amountBy, amount, judgeIntervalBy, judgeInterval, positionFits, judgePositionBy, judgePosition, judge, unless, formRefusal, periodFits, judgePeriodBy, judgePeriod}
 use Rattle.elements.specs.Names.{names, numberIn, elementNo}
 use Rattle.structure.specs.Rows.{nameOf, parentOf, required, repeated, nextIn, endsIn, startOf, endAt, endOf, endsAtOnce, closesDocument, overOf}
-use Rattle.guideline.specs.Columns.{collapsed, formOf, schemeOf, roleOf}
-use Rattle.guideline.specs.Kinds.{takesAnother, kindOf, hasEnough}
+use Rattle.columns.specs.Columns.{collapsed, formOf, schemeOf, roleOf}
+use Rattle.guideline.specs.Kinds.{noKind, kindOne, kindTwo, kindAt, withinMost, takesAnother, kindOf, hasEnough}
 use Rattle.guideline.specs.Rows.{beschaffungsanforderung, kostenblatt, rowsOf}
 use Rattle.states.specs.Attributes.{valueOf, schemeRefusal, least, alsoScheme, there, agree, asksV, asksScheme, noOthers, attributesFit, judgeTag}
-use Rattle.states.specs.Moves.{oneMore, oneSeries, oneInterval, oneOriginal, lastPos, covering, closedAt, endRefusal, endedAt as tagEnded, ended, begun, heldOf, cutShort, tooMany, noRoom, halfOriginals, valuesJudged, judgedAt, startJudged, placed, kept, entered, entryOf, startedBy, startedAt, started, countRefusal, moved, rootKind, kindTold, stepOn, step}
+use Rattle.states.specs.Moves.{oneMore, oneSeries, oneInterval, oneOriginal, lastPos, covering, closedAt, endRefusal, endedAt as tagEnded, ended, begun, heldOf, cutShort, tooMany, noRoom, halfOriginals, valuesJudged, judgedAt, startJudged, placed, kept, entered, entryOf, startedBy, startedAt, started, countRefusal, moved, rootKind, kindTold, step}
 use Rattle.notes.specs.Note.{groupsIn, flat, wrote, left}
 use Rattle.reader.specs.Items.{itemsAfter, itemsFrom}
-use Rattle.reader.specs.Rows.{quoted, cell, withView, thousandthsOf, identificationAt, used, spanOf, seriesAfter, positionsAfter, amountsAfter, usedBefore}
+use Rattle.series.specs.Row.{withView, view}
+use Rattle.reader.specs.Rows.{quoted, thousandthsOf, used, usedIn, usedWith, spanOf, broughtBy, fieldAfter, seriesWith, positionsWith, amountsWith, seriesAfter, positionsAfter, amountsAfter, usedBefore}
 use Rattle.reader.specs.Reading.{acceptedAt, blank, roomOf, refusedAt, endedAt, withoutUsed, stepOf, tablesAfter, readItems, roomIn, itemsRead, readAfter, readInto, orBlank, readSheet}
 use Rattle.reader.specs.Answer.{Outcome, noteFor, answerOf, told, noted, readOf}
 use mathlib.Core.Bool.{true}
@@ -62,11 +63,12 @@ unfolding byte run same begins walk seqLen control single charAt saidBy saidAt s
     octoberSunday yearOf inSummer startOfDay deliveryDay dayPeriod versionBy version amountBy
     amount judgeIntervalBy judgeInterval positionFits judgePositionBy judgePosition judge unless formRefusal periodFits judgePeriodBy
     judgePeriod names numberIn elementNo nameOf parentOf required repeated nextIn endsIn startOf endAt endOf endsAtOnce closesDocument overOf
-    collapsed formOf schemeOf roleOf takesAnother kindOf hasEnough beschaffungsanforderung kostenblatt rowsOf valueOf schemeRefusal least
+    collapsed formOf schemeOf roleOf noKind kindOne kindTwo kindAt withinMost takesAnother kindOf hasEnough beschaffungsanforderung kostenblatt rowsOf valueOf schemeRefusal least
     alsoScheme there agree asksV asksScheme noOthers attributesFit judgeTag oneMore oneSeries oneInterval oneOriginal lastPos covering closedAt
     endRefusal tagEnded ended begun heldOf cutShort tooMany noRoom halfOriginals valuesJudged judgedAt startJudged placed kept entered entryOf
-    startedBy startedAt started countRefusal moved rootKind kindTold stepOn step groupsIn flat wrote left itemsAfter itemsFrom quoted cell
-    withView thousandthsOf identificationAt used spanOf seriesAfter positionsAfter amountsAfter usedBefore acceptedAt blank roomOf refusedAt
+    startedBy startedAt started countRefusal moved rootKind kindTold step groupsIn flat wrote left itemsAfter itemsFrom quoted
+    withView view thousandthsOf used usedIn usedWith spanOf broughtBy fieldAfter seriesWith positionsWith
+    amountsWith seriesAfter positionsAfter amountsAfter usedBefore acceptedAt blank roomOf refusedAt
     endedAt withoutUsed stepOf tablesAfter readItems roomIn itemsRead readAfter readInto orBlank readSheet noteFor answerOf told noted readOf
 computed = (refl, refl)
 

@@ -9,3 +9,4 @@ pub mod Starts
 pub mod Counted
 pub mod Places
 pub mod Answers
+pub mod Faces

@@ -1,25 +1,28 @@
 -- A row is reached through the row that it stands in: below the row of a series only through that row, below the row of an Interval only through
--- that one. The tables of both kinds have this by a computed test (`one-rooted` to `two-interval`). Assumes nothing.
+-- that one. The rows of each kind have this by a computed test (`table`). Assumes nothing.
 use Prim.Native.Nat.{ℕ, suc, zero, _+_, _≤_, _<_}
 use mathlib.Core.Path.{_≡_, refl, sym, ap, _∙_}
 use mathlib.Core.List.{List, [], _∷_}
-use mathlib.Core.Bool.{Bool, true, false, cond}
+use mathlib.Core.Bool.{Bool, true, false, cond, not}
 use mathlib.Core.Logic.{⊎-elim}
 use native.Mathlib.Omega.{arith}
 use native.Mathlib.Nat.{add-zero, zero-add}
 use lib.Dec.{leb, ltb, eqb}
 use lib.ListN.{length, getD}
-use borrow.Author.Tests.{lt-leb, ne-eqb, leb-true, ltb-true}
-use Rattle.lists.proofs.Cases.{leb-cases, eqb-cases, both-true}
+use borrow.Author.Tests.{lt-leb, ne-eqb, eqb-true, leb-true, ltb-true, not-true}
+use Rattle.lists.proofs.Cases.{bool-cases, leb-cases, eqb-cases, both-true, zero-not-one}
 use Rattle.slices.specs.Same.{same}
-use Rattle.slices.specs.Text.{text}
 use Rattle.elements.specs.Names.{names, numberIn, elementNo}
 use Rattle.structure.specs.Rows.{nameOf, parentOf, startOf, endOf}
 use Rattle.structure.specs.Means.{NextIn}
-use Rattle.structure.specs.declared.Due.the-variants.{Row}
+use Rattle.structure.specs.declared.Due.the-variants.{Row, NotDue}
 use Rattle.structure.proofs.Means.{start-means, end-means}
-use Rattle.guideline.specs.Columns.{roleOf}
+use Rattle.columns.specs.Columns.{roleOf, seriesRole, intervalRole, objectRole, businessRole, seriesIdRole, posRole, qtyRole}
+use Rattle.guideline.specs.Kinds.{isKind, seriesElement}
 use Rattle.guideline.specs.Rows.{beschaffungsanforderung, kostenblatt, rowsOf}
+use Rattle.guideline.proofs.Each.{of-kind, rowWith}
+use Rattle.guideline.proofs.Roots.{no-start, no-end}
+use Rattle.promises.specs.Items.{intervalElement}
 
 -- each row, with its number, passes the test; the first of them has the number i
 abbrev eachRow : (ℕ → ℕ → Bool) → ℕ → List ℕ → Bool
@@ -42,10 +45,11 @@ pub record Rooted (t : List ℕ) : Type 0 where
   pub short : length t ≤ 255
   pub parents : (i : ℕ) → 1 ≤ i → i < length t → parentOf (getD t i 0) < i
 
--- row m has this role, the rows before it have roles up to `lim`, and those after it stand in it or below it
-pub record Mark (t : List ℕ) (m role lim : ℕ) : Type 0 where
+-- row m, which is not the first, has this role, no row before it brings what needs it, and those after it stand in it or below it
+pub record Mark (t : List ℕ) (m role : ℕ) (brings : ℕ → Bool) : Type 0 where
+  pub late : 0 < m
   pub own : roleOf (getD t m 0) ≡ role
-  pub before : (i : ℕ) → i < m → i < length t → roleOf (getD t i 0) ≤ lim
+  pub before : (i : ℕ) → i < m → i < length t → brings (roleOf (getD t i 0)) ≡ false
   pub below : (i : ℕ) → m < i → i < length t → m ≤ parentOf (getD t i 0)
 
 module _ (t : List ℕ) (root : Rooted t) (r x q : ℕ) where
@@ -76,7 +80,7 @@ module _ (t : List ℕ) (root : Rooted t) (r x q : ℕ) where
       let d = start-means t r x q false e in
       ⊎-elim (λ g. let h = d .0 in omega (arith, g .itself)) (λ g. g .1 .within) (d .1)
 
-  module _ (m role lim : ℕ) (mark : Mark t m role lim) (h : r < m) where
+  module _ (m role : ℕ) (brings : ℕ → Bool) (mark : Mark t m role brings) (h : r < m) where
     next-climb : (p : ℕ) → (m ≤ p → ⊥) → NextIn t r p x q → q ≤ m
     next-climb p f d =
         ⊎-elim
@@ -106,13 +110,13 @@ module _ (t : List ℕ) (root : Rooted t) (r x q : ℕ) where
         (d .1)
 
 -- of a count that rises at the mark: past the mark it is not 0
-pub counted : (t : List ℕ) → Rooted t → (m role lim : ℕ) → Mark t m role lim → (r x q : ℕ) (o : Bool) → startOf t r o x ≡ Row q
+pub counted : (t : List ℕ) → Rooted t → (m role : ℕ) (brings : ℕ → Bool) → Mark t m role brings → (r x q : ℕ) (o : Bool) → startOf t r o x ≡ Row q
     → (n n′ : ℕ) → (m ≤ r → 1 ≤ n) → n ≤ n′ → (roleOf (getD t q 0) ≡ role → 1 ≤ n′) → m ≤ q → 1 ≤ n′
-counted t root m role lim mark r x q o e n n′ f u g l =
+counted t root m role brings mark r x q o e n n′ f u g l =
     ⊎-elim
     (λ y. let k = f (y .0) in omega arith)
     (λ y.
-    let c = climb t root r x q m role lim mark (y .0) o e in
+    let c = climb t root r x q m role brings mark (y .0) o e in
     let z : q ≡ m = omega arith in
     g (ap (λ (k : ℕ). roleOf (getD t k 0)) z ∙ mark .own))
     (leb-cases m r)
@@ -121,31 +125,50 @@ counted t root m role lim mark r x q o e n n′ f u g l =
 abbrev parentBefore : ℕ → ℕ → Bool
 parentBefore i w = cond (eqb i 0) true (ltb (parentOf w) i)
 
-abbrev roleUpTo : ℕ → ℕ → ℕ → ℕ → Bool
-roleUpTo m lim i w = cond (leb m i) true (leb (roleOf w) lim)
+abbrev noneBefore : ℕ → (ℕ → Bool) → ℕ → ℕ → Bool
+noneBefore m brings i w = cond (leb m i) true (not (brings (roleOf w)))
 
 abbrev standsBelow : ℕ → ℕ → ℕ → Bool
 standsBelow m i w = cond (leb i m) true (leb m (parentOf w))
 
+abbrev all : List Bool → Bool
+all [] = true
+all (b ∷ bs) = cond b (all bs) false
+
 module _ (t : List ℕ) where
-  rooted-by : parentOf (getD t 0 0) ≡ 255 → length t ≤ 255 → eachRow parentBefore 0 t ≡ true → Rooted t
-  rooted-by e s p =
+  abbrev rootedTest : Bool
+  rootedTest = all (eqb (parentOf (getD t 0 0)) 255 ∷ leb (length t) 255 ∷ eachRow parentBefore 0 t ∷ [])
+
+  rooted-by : rootedTest ≡ true → Rooted t
+  rooted-by h =
+      let a = both-true (eqb (parentOf (getD t 0 0)) 255) h in
+      let b = both-true (leb (length t) 255) (a .1) in
+      let c = both-true (eachRow parentBefore 0 t) (b .1) in
       record {
-        top = e;
-        short = s;
+        top = eqb-true (parentOf (getD t 0 0)) 255 (a .0);
+        short = leb-true (length t) 255 (b .0);
         parents =
-            λ i a b.
+            λ i l m.
             let z : i ≡ 0 → ⊥ = λ q. omega arith in
-            ltb-true (parentOf (getD t i 0)) i (rw (ne-eqb i 0 z) at (row-of parentBefore t p i b));
+            ltb-true (parentOf (getD t i 0)) i (rw (ne-eqb i 0 z) at (row-of parentBefore t (c .0) i m));
       }
 
-  mark-by : (m role lim : ℕ) → roleOf (getD t m 0) ≡ role → eachRow (roleUpTo m lim) 0 t ≡ true → eachRow (standsBelow m) 0 t ≡ true → Mark t m role lim
-  mark-by m role lim e p q =
-      record {
-        own = e;
-        before = λ i a b. leb-true (roleOf (getD t i 0)) lim (rw (lt-leb m i a) at (row-of (roleUpTo m lim) t p i b));
-        below = λ i a b. leb-true m (parentOf (getD t i 0)) (rw (lt-leb i m a) at (row-of (standsBelow m) t q i b));
-      }
+  module _ (m role : ℕ) (brings : ℕ → Bool) where
+    abbrev markTest : Bool
+    markTest = all (ltb 0 m ∷ eqb (roleOf (getD t m 0)) role ∷ eachRow (noneBefore m brings) 0 t ∷ eachRow (standsBelow m) 0 t ∷ [])
+
+    mark-by : markTest ≡ true → Mark t m role brings
+    mark-by h =
+        let a = both-true (ltb 0 m) h in
+        let b = both-true (eqb (roleOf (getD t m 0)) role) (a .1) in
+        let c = both-true (eachRow (noneBefore m brings) 0 t) (b .1) in
+        let d = both-true (eachRow (standsBelow m) 0 t) (c .1) in
+        record {
+          late = ltb-true 0 m (a .0);
+          own = eqb-true (roleOf (getD t m 0)) role (b .0);
+          before = λ i k l. not-true (brings (roleOf (getD t i 0))) (rw (lt-leb m i k) at (row-of (noneBefore m brings) t (c .0) i l));
+          below = λ i k l. leb-true m (parentOf (getD t i 0)) (rw (lt-leb i m k) at (row-of (standsBelow m) t (d .0) i l));
+        }
 
 -- of this name is a row of this role, and no other
 abbrev named : ℕ → ℕ → ℕ → ℕ → Bool
@@ -162,36 +185,61 @@ agreed false false e = refl
 named-by : (t : List ℕ) (role name : ℕ) → eachRow (named role name) 0 t ≡ true → Named t role name
 named-by t role name e i h = agreed (eqb (roleOf (getD t i 0)) role) (eqb (nameOf (getD t i 0)) name) (row-of (named role name) t e i h)
 
-pub one-named : Named (rowsOf 1) 2 (elementNo (text "ScheduleTimeSeries")) × Named (rowsOf 1) 4 (elementNo (text "Interval"))
-unfolding rowsOf beschaffungsanforderung elementNo numberIn names same nameOf roleOf
-one-named =
-    (named-by (rowsOf 1) 2 (elementNo (text "ScheduleTimeSeries")) refl, named-by (rowsOf 1) 4 (elementNo (text "Interval")) refl)
+-- what goes into the row of a series, and into that of an Interval
+abbrev pub forSeries : ℕ → Bool
+forSeries role =
+    cond (eqb role seriesRole) true
+    (cond (eqb role intervalRole) true
+    (cond (eqb role objectRole) true (cond (eqb role businessRole) true (eqb role seriesIdRole))))
 
-pub two-named : Named (rowsOf 2) 2 (elementNo (text "CostTimeSeries")) × Named (rowsOf 2) 4 (elementNo (text "Interval"))
-unfolding rowsOf kostenblatt elementNo numberIn names same nameOf roleOf
-two-named =
-    (named-by (rowsOf 2) 2 (elementNo (text "CostTimeSeries")) refl, named-by (rowsOf 2) 4 (elementNo (text "Interval")) refl)
+abbrev pub forInterval : ℕ → Bool
+forInterval role = cond (eqb role posRole) true (eqb role qtyRole)
 
-pub one-rooted : Rooted (rowsOf 1)
-unfolding rowsOf beschaffungsanforderung elementNo numberIn names same parentOf
-one-rooted = rooted-by (rowsOf 1) refl (omega arith) refl
+-- the row of a series and that of an Interval, by kind
+abbrev pub seriesRow : ℕ → ℕ
+seriesRow kind = rowWith seriesRole (rowsOf kind)
 
-pub two-rooted : Rooted (rowsOf 2)
-unfolding rowsOf kostenblatt elementNo numberIn names same parentOf
-two-rooted = rooted-by (rowsOf 2) refl (omega arith) refl
+abbrev pub intervalRow : ℕ → ℕ
+intervalRow kind = rowWith intervalRole (rowsOf kind)
 
-pub one-series : Mark (rowsOf 1) 12 2 1
-unfolding rowsOf beschaffungsanforderung elementNo numberIn names same parentOf roleOf
-one-series = mark-by (rowsOf 1) 12 2 1 refl refl refl
+-- what is known of the rows of a kind
+pub record Table (kind : ℕ) : Type 0 where
+  pub rooted : Rooted (rowsOf kind)
+  pub series : Mark (rowsOf kind) (seriesRow kind) seriesRole forSeries
+  pub intervals : Mark (rowsOf kind) (intervalRow kind) intervalRole forInterval
+  pub series-named : Named (rowsOf kind) seriesRole (seriesElement kind)
+  pub interval-named : Named (rowsOf kind) intervalRole intervalElement
 
-pub two-series : Mark (rowsOf 2) 12 2 1
-unfolding rowsOf kostenblatt elementNo numberIn names same parentOf roleOf
-two-series = mark-by (rowsOf 2) 12 2 1 refl refl refl
+pub table : (kind : ℕ) → isKind kind ≡ true → Table kind
+unfolding rowsOf beschaffungsanforderung kostenblatt elementNo numberIn names same parentOf roleOf nameOf seriesElement intervalElement
+table kind known =
+    record {
+      rooted = rooted-by (rowsOf kind) (of-kind (λ k. rootedTest (rowsOf k)) refl kind known);
+      series =
+          mark-by (rowsOf kind) (seriesRow kind) seriesRole forSeries
+          (of-kind (λ k. markTest (rowsOf k) (seriesRow k) seriesRole forSeries) refl kind known);
+      intervals =
+          mark-by (rowsOf kind) (intervalRow kind) intervalRole forInterval
+          (of-kind (λ k. markTest (rowsOf k) (intervalRow k) intervalRole forInterval) refl kind known);
+      series-named =
+          named-by (rowsOf kind) seriesRole (seriesElement kind)
+          (of-kind (λ k. eachRow (named seriesRole (seriesElement k)) 0 (rowsOf k)) refl kind known);
+      interval-named =
+          named-by (rowsOf kind) intervalRole intervalElement
+          (of-kind (λ k. eachRow (named intervalRole intervalElement) 0 (rowsOf k)) refl kind known);
+    }
 
-pub one-interval : Mark (rowsOf 1) 29 4 8
-unfolding rowsOf beschaffungsanforderung elementNo numberIn names same parentOf roleOf
-one-interval = mark-by (rowsOf 1) 29 4 8 refl refl refl
+-- a tag is due by the rows of a kind alone
+pub due-known : (kind r : ℕ) (o : Bool) (x q : ℕ) → startOf (rowsOf kind) r o x ≡ Row q → isKind kind ≡ true
+due-known kind r o x q e =
+    ⊎-elim
+    (λ y. y)
+    (λ y. let z : NotDue ≡ Row q = sym (no-start kind y r o x) ∙ e in absurd (zero-not-one (cc)))
+    (bool-cases (isKind kind))
 
-pub two-interval : Mark (rowsOf 2) 31 4 8
-unfolding rowsOf kostenblatt elementNo numberIn names same parentOf roleOf
-two-interval = mark-by (rowsOf 2) 31 4 8 refl refl refl
+pub end-known : (kind r : ℕ) (o : Bool) (x q : ℕ) → endOf (rowsOf kind) r o x ≡ Row q → isKind kind ≡ true
+end-known kind r o x q e =
+    ⊎-elim
+    (λ y. y)
+    (λ y. let z : NotDue ≡ Row q = sym (no-end kind y r o x) ∙ e in absurd (zero-not-one (cc)))
+    (bool-cases (isKind kind))

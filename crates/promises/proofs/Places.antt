@@ -30,22 +30,19 @@ module _ (doc : List ℕ) (room : Room) where
   abbrev Here : List Placed → Out → Type 0
   Here xs o = (o .found .place ≡ length doc) ⊎ (standsAt (o .found .place) xs ≡ true)
 
-  ended-by : (st : State) (t : Tables) (k a b : Bool)
+  ended-by : (st : State) (t : Tables) (b : Bool)
       → Here [] (record {
         found =
-            cond k (cond a (acceptedAt (length doc) st) (refusedAt 3 (length doc) st))
-            (cond b (acceptedAt (length doc) st) (refusedAt 3 (length doc) st));
+            cond b (acceptedAt (length doc) st) (refusedAt 3 (length doc) st);
         tables = t;
       })
   unfolding acceptedAt refusedAt
-  ended-by st t true true b = inl refl
-  ended-by st t true false b = inl refl
-  ended-by st t false a true = inl refl
-  ended-by st t false a false = inl refl
+  ended-by st t true = inl refl
+  ended-by st t false = inl refl
 
-  ended-here : (st : State) (t : Tables) → Here [] (record { found = endedAt (rowsOf 1) (rowsOf 2) (length doc) st; tables = t })
+  ended-here : (st : State) (t : Tables) → Here [] (record { found = endedAt (rowsOf (st .kind)) (length doc) st; tables = t })
   unfolding endedAt
-  ended-here st t = ended-by st t (eqb (st .kind) 1) (overOf (rowsOf 1) (st .row) (st .inside)) (overOf (rowsOf 2) (st .row) (st .inside))
+  ended-here st t = ended-by st t (overOf (rowsOf (st .kind)) (st .row) (st .inside))
 
   stands-first : (p : Placed) (xs : List Placed) → standsAt (p .at) (p ∷ xs) ≡ true
   unfolding standsAt

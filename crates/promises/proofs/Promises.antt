@@ -13,9 +13,13 @@ use Rattle.notes.specs.Note.{noteOf}
 use Rattle.notes.specs.Reader.{noteIn}
 use Rattle.notes.specs.declared.NoteRead.the-variants.{Taken}
 use Rattle.reader.specs.Reading.{blank, roomOf}
-use Rattle.reader.specs.Answer.{Outcome, readOf}
+use Rattle.reader.specs.Answer.{Outcome, readOf, Permitted}
 use Rattle.reader.specs.declared.Answer.{Answer}
-use Rattle.reader.proofs.Unique.{Permitted, read-one}
+use Rattle.reader.proofs.Unique.{read-one}
+use Rattle.library.specs.Cells.{PermittedCall, PermittedNote}
+use Rattle.library.proofs.Unique.{lumintayag-read-one, lumintayag-read-note-one}
+use Rattle.replies.specs.Reply.{replyTo, PermittedReply}
+use Rattle.replies.proofs.Unique.{put-reply-one}
 use Rattle.blindness.specs.Readable.{DifferInQty}
 use Rattle.blindness.specs.Blind.{OwnDigitsDiffer}
 use Rattle.blindness.proofs.Outcomes.{two-runs}
@@ -27,10 +31,12 @@ use Rattle.contents.specs.Shown.{Tells, SameButPlaces}
 use Rattle.contents.proofs.Theorems.{accepted-legal, legal-accepted, one-content, nothing-but-places}
 use Rattle.promises.specs.Answers.{fiveOf, atOnce}
 use Rattle.promises.specs.Rows.{ZeroPast, InRoom, Sized}
-use Rattle.promises.specs.Items.{before, starts, kindIn, seriesElement, intervalElement, itemsIn, PlaceOf}
+use Rattle.guideline.specs.Kinds.{seriesElement}
+use Rattle.promises.specs.Items.{before, starts, kindIn, intervalElement, itemsIn, PlaceOf}
 use Rattle.promises.specs.Examples.{examples, allPass}
 use Rattle.promises.specs.Sheet.{sheet, sheetOutcome}
 use Rattle.promises.proofs.Answers.{ten-is, ten-only, long-is, long-only, refusal-clears, refusal-known, place-within, place-told, accepted-whole, counts-within, cells-past, rows-kept, counts-told, note-told}
+use Rattle.promises.proofs.Faces.{two-calls, two-replies}
 use Rattle.promises.proofs.Examples.{examples-pass, sheet-read, sheet-content}
 
 -- "P1 to P12 form a single table with a single proved statement."
@@ -51,6 +57,11 @@ module _ (doc : List ℕ) (ns np na nb : ℕ) where
   pub one-outcome : {a a′ : Answer} {s s′ p p′ : List ℕ} {m m′ : List ℤ} {n n′ : List ℕ} → Permitted outcome a s p m n → Permitted outcome a′ s′ p′ m′ n′
       → (a ≡ a′) × (s ≡ s′) × (p ≡ p′) × (m ≡ m′) × (n ≡ n′)
   one-outcome = read-one doc ns np na nb
+
+  -- the same of `lumintayag_read`, with k cells for the answer's numbers
+  pub one-call : (k : ℕ) {r r′ : ℕ} {s s′ p p′ : List ℕ} {m m′ : List ℤ} {n n′ a a′ : List ℕ} → PermittedCall outcome k r s p m n a → PermittedCall outcome k r′ s′ p′ m′ n′ a′
+      → (r ≡ r′) × (s ≡ s′) × (p ≡ p′) × (m ≡ m′) × (n ≡ n′) × (a ≡ a′)
+  one-call k = lumintayag-read-one doc ns np na nb k
 
   -- "On every refusal by the document reader, all cells of the three tables are 0."; "N (0 on every refusal)"
   pub refusal-leaves-nothing : (outcome .answer .refusal ≡ 0 → ⊥) → (outcome .tables ≡ blank ns np na) × (outcome .answer .quarters ≡ 0)
@@ -132,3 +143,21 @@ pub amounts-alone : (x y : List ℕ) (ns np na nb : ℕ) → DifferInQty x y →
     → Permitted (readOf x ns np na nb) a s p m n → Permitted (readOf y ns np na nb) a′ s′ p′ m′ n′
     → (a ≡ a′) × (n ≡ n′) × (s ≡ s′) × (p ≡ p′) × ((k : ℕ) → (getD m k (pos 0) ≡ getD m′ k (pos 0)) ⊎ OwnDigitsDiffer ns np na nb x y k)
 amounts-alone = two-runs
+
+-- the same of `lumintayag_read`
+pub amounts-alone-called : (x y : List ℕ) → DifferInQty x y → (ns np na nb k : ℕ) {r r′ : ℕ} {s s′ p p′ : List ℕ} {m m′ : List ℤ} {n n′ a a′ : List ℕ}
+    → PermittedCall (readOf x ns np na nb) k r s p m n a → PermittedCall (readOf y ns np na nb) k r′ s′ p′ m′ n′ a′
+    → (r ≡ r′) × (a ≡ a′) × (n ≡ n′) × (s ≡ s′) × (p ≡ p′) × ((j : ℕ) → (getD m j (pos 0) ≡ getD m′ j (pos 0)) ⊎ OwnDigitsDiffer ns np na nb x y j)
+amounts-alone-called = two-calls
+
+-- the note reader and the program have one outcome too
+pub one-note-call : (note : List ℕ) (k : ℕ) {r r′ : ℕ} {f f′ : List ℕ} → PermittedNote (noteIn note) k r f → PermittedNote (noteIn note) k r′ f′ → (r ≡ r′) × (f ≡ f′)
+one-note-call = lumintayag-read-note-one
+
+pub one-reply : (input out : List ℕ) {r r′ : ℕ} {b b′ : List ℕ} → PermittedReply (replyTo input) out r b → PermittedReply (replyTo input) out r′ b′ → (r ≡ r′) × (b ≡ b′)
+one-reply = put-reply-one
+
+-- what the program prints does not depend on the digits of a price
+pub replies-alone : (x y : List ℕ) → DifferInQty x y → (out : List ℕ) {r r′ : ℕ} {b b′ : List ℕ} → PermittedReply (replyTo x) out r b → PermittedReply (replyTo y) out r′ b′
+    → (r ≡ r′) × (b ≡ b′)
+replies-alone = two-replies

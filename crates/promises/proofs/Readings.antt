@@ -45,7 +45,7 @@ used-rises doc t room x p (Refused n) h = h
 pub stepped : (doc t : List ℕ) (room : Room) (p : Placed) (x : State) → Sound x → Rises room x (stepOf doc t room p x)
 unfolding stepOf
 stepped doc t room p x s =
-    used-rises doc t room x p (step x (rowsOf 1) (rowsOf 2) (p .item) (p .rest) room) (step-rises x s (p .item) (p .rest) room)
+    used-rises doc t room x p (step x (p .item) (p .rest) room) (step-rises x s (p .item) (p .rest) room)
 
 module _ (doc : List ℕ) (room : Room) (ns np na : ℕ) where
   pub record Fine (o : Out) : Type 0 where
@@ -108,21 +108,18 @@ module _ (doc : List ℕ) (room : Room) (ns np na : ℕ) where
           sized = h .sized;
         }
 
-    ended-by : (k a b : Bool)
+    ended-by : (b : Bool)
         → Fine (record {
           found =
-              cond k (cond a (acceptedAt (length doc) st) (refusedAt 3 (length doc) st))
-              (cond b (acceptedAt (length doc) st) (refusedAt 3 (length doc) st));
+              cond b (acceptedAt (length doc) st) (refusedAt 3 (length doc) st);
           tables = t;
         })
-    ended-by true true b = accepted-fine
-    ended-by true false b = refused-fine 3 (length doc) (le-refl (length doc)) (λ e. omega arith) refl
-    ended-by false a true = accepted-fine
-    ended-by false a false = refused-fine 3 (length doc) (le-refl (length doc)) (λ e. omega arith) refl
+    ended-by true = accepted-fine
+    ended-by false = refused-fine 3 (length doc) (le-refl (length doc)) (λ e. omega arith) refl
 
-    ended-fine : Fine (record { found = endedAt (rowsOf 1) (rowsOf 2) (length doc) st; tables = t })
+    ended-fine : Fine (record { found = endedAt (rowsOf (st .kind)) (length doc) st; tables = t })
     unfolding endedAt
-    ended-fine = ended-by (eqb (st .kind) 1) (overOf (rowsOf 1) (st .row) (st .inside)) (overOf (rowsOf 2) (st .row) (st .inside))
+    ended-fine = ended-by (overOf (rowsOf (st .kind)) (st .row) (st .inside))
 
     -- an item, and what is read after it
     turn-fine : (p : Placed) (xs : List Placed) → p .at ≤ length doc

@@ -18,8 +18,8 @@ use Rattle.times.specs.declared.Interval.the-variants.{Minutes, NotInterval}
 use Rattle.numbers.specs.Number.{numberOf}
 use Rattle.numbers.specs.declared.Number.{Number}
 use Rattle.numbers.specs.declared.Number.the-variants.{Is, NotNumber}
-use Rattle.guideline.specs.Columns.{formOf, schemeOf, roleOf}
-use Rattle.guideline.specs.Kinds.{hasEnough}
+use Rattle.columns.specs.Columns.{formOf, schemeOf, roleOf}
+use Rattle.guideline.specs.Kinds.{kindAt, hasEnough}
 use Rattle.rules.specs.Rules.{unless, version, formRefusal, periodFits, judgePeriodBy, judgePeriod, judgeIntervalBy, judgeInterval, positionFits, judgePositionBy, judgePosition, judge}
 use Rattle.rules.specs.declared.Held.{Held}
 use Rattle.rules.specs.declared.Judged.{Judged}
@@ -122,5 +122,5 @@ unfolding endRefusal countRefusal
 end-given x rows r =
     let n = x .intervals - x .first in
     by-cond Given (eqb (roleOf (getD rows r 0)) 3)
-    (by-cond Given (hasEnough (x .kind) n) (by-cond Given (eqb (x .kind) 1) (by-cond Given (eqb n (x .quarters)) refl refl) refl) refl)
+    (by-cond Given (hasEnough (x .kind) n) (by-cond Given (kindAt (x .kind) .full) (by-cond Given (eqb n (x .quarters)) refl refl) refl) refl)
     refl

@@ -15,23 +15,23 @@ use Rattle.elements.specs.Names.{names, numberIn, elementNo}
 use Rattle.structure.specs.Rows.{nameOf, startOf, endOf}
 use Rattle.structure.specs.declared.Due.{Due}
 use Rattle.structure.specs.declared.Due.the-variants.{Row, NotDue}
-use Rattle.guideline.specs.Columns.{formOf, roleOf}
-use Rattle.guideline.specs.Kinds.{kindOf}
+use Rattle.columns.specs.Columns.{formOf, roleOf}
+use Rattle.guideline.specs.Kinds.{kindOne, kindTwo, kindOf, seriesElement}
 use Rattle.guideline.specs.Rows.{rowsOf}
+use Rattle.guideline.proofs.Each.{kind-some}
 use Rattle.items.specs.declared.Tag.{Tag}
 use Rattle.items.specs.declared.Item.{Item}
 use Rattle.items.specs.declared.Item.the-variants.{Start, Empty, End, Text, Comment}
 use Rattle.items.specs.declared.Item.the-variants.{Refused as Unreadable}
 use Rattle.rules.specs.declared.Judged.{Judged}
-use Rattle.states.specs.Moves.{oneMore, placed, oneSeries, oneInterval, oneOriginal, lastPos, covering, kept, entered, startJudged, startedBy, startedAt, started, closedAt, endRefusal, endedAt, ended, moved, rootKind, kindTold, stepOn, step}
+use Rattle.states.specs.Moves.{oneMore, placed, oneSeries, oneInterval, oneOriginal, lastPos, covering, kept, entered, startJudged, startedBy, startedAt, started, closedAt, endRefusal, endedAt, ended, moved, rootKind, kindTold, step}
 use Rattle.states.specs.declared.State.{State}
 use Rattle.states.specs.declared.Room.{Room}
 use Rattle.states.specs.declared.Step.{Step}
 use Rattle.states.specs.declared.Step.the-variants.{Next, Refused}
-use Rattle.promises.specs.Items.{startedIn, seriesElement, intervalElement}
-use Rattle.guideline.proofs.Roots.{no-root}
-use Rattle.promises.proofs.Marks.{Rooted, Named, due-within, due-named, one-named, two-named, one-rooted, two-rooted}
-use Rattle.promises.proofs.Steps.{Sound, told-none, by-eqb, kept-keeps}
+use Rattle.promises.specs.Items.{startedIn, intervalElement}
+use Rattle.promises.proofs.Marks.{due-within, due-named, table, due-known}
+use Rattle.promises.proofs.Steps.{by-eqb, kept-keeps}
 
 -- a count that rises where the item starts this element
 abbrev pub raised : ℕ → ℕ → ℕ → ℕ
@@ -87,7 +87,7 @@ none-series : (k n : ℕ) → raised 0 (seriesElement k) n ≡ n
 unfolding seriesElement elementNo numberIn names same
 none-series k n =
     let z : eqb 0 (seriesElement k) ≡ false =
-    by-cond (λ (m : ℕ). eqb 0 m ≡ false) (eqb k 1) {a = elementNo (text "ScheduleTimeSeries")} {b = elementNo (text "CostTimeSeries")} refl refl in
+    by-cond (λ (m : ℕ). eqb 0 m ≡ false) (eqb k 1) refl (by-cond (λ (m : ℕ). eqb 0 m ≡ false) (eqb k 2) refl refl) in
     rw z refl
 
 none-interval : (n : ℕ) → raised 0 intervalElement n ≡ n
@@ -95,41 +95,44 @@ unfolding intervalElement elementNo numberIn names same
 none-interval n = refl
 
 none-kind : (kind : ℕ) → kind ≡ kindAfter 0 kind
-unfolding kindOf elementNo numberIn names same
+unfolding kindOf kindOne kindTwo elementNo numberIn names same
 none-kind kind = ⊎-elim (λ y. rw (y .1) (y .0)) (λ y. rw (y .1) refl) (eqb-cases kind 0)
 
 unraised : (x y : State) → y .kind ≡ x .kind → y .series ≡ x .series → y .intervals ≡ x .intervals → Raised 0 x y
 unraised x y a b c =
     record { kind = a ∙ none-kind (x .kind); series = λ k _. b ∙ sym (none-series k (x .series)); intervals = c ∙ sym (none-interval (x .intervals)) }
 
-module _ (x : State) (kind : ℕ) (rows : List ℕ) (root : Rooted rows) (ser : Named rows 2 (seriesElement kind)) (int : Named rows 4 intervalElement) where
-  entered-raises : (r name : ℕ) → startOf rows (x .row) (x .inside) name ≡ Row r → kind ≡ kindAfter name (x .kind) → (kind ≡ 0 → ⊥)
+module _ (x : State) (kind : ℕ) where
+  abbrev rows : List ℕ
+  rows = rowsOf kind
+
+  entered-raises : (r name : ℕ) → startOf rows (x .row) (x .inside) name ≡ Row r → kind ≡ kindAfter name (x .kind)
       → (j : Judged) (within : Bool) → Raised name x (entered x kind r (getD rows r 0) j within)
   unfolding entered placed
-  entered-raises r name e told f j within =
+  entered-raises r name e told j within =
+      let known = due-known kind (x .row) (x .inside) name r e in
+      let tab = table kind known in
       let w = getD rows r 0 in
       let p = placed x kind r within in
       let k = kept-keeps p w j in
-      let inside : r < length rows = due-within rows root (x .row) name r (x .inside) e in
-      let n : nameOf w ≡ name = due-named rows root (x .row) name r (x .inside) e in
+      let inside : r < length rows = due-within rows (tab .rooted) (x .row) name r (x .inside) e in
+      let n : nameOf w ≡ name = due-named rows (tab .rooted) (x .row) name r (x .inside) e in
       record {
         kind = k .kind ∙ told;
         series =
             λ l g.
-            let q : l ≡ kind = g (λ z. f (sym (k .kind) ∙ z)) ∙ k .kind in
-            kept-series-is p w j ∙ rw (q, ← n) (ap (λ (t : Bool). cond t (oneMore (x .series)) (x .series)) (ser r inside));
-        intervals = kept-intervals-is p w j ∙ rw (← n) (ap (λ (t : Bool). cond t (oneMore (x .intervals)) (x .intervals)) (int r inside));
+            let q : l ≡ kind = g (λ z. kind-some kind known (sym (k .kind) ∙ z)) ∙ k .kind in
+            kept-series-is p w j ∙ rw (q, ← n) (ap (λ (t : Bool). cond t (oneMore (x .series)) (x .series)) (tab .series-named r inside));
+        intervals = kept-intervals-is p w j ∙ rw (← n) (ap (λ (t : Bool). cond t (oneMore (x .intervals)) (x .intervals)) (tab .interval-named r inside));
       }
 
-  module _ (name : ℕ) (t : Tag) (s : List ℕ) (empty : Bool) (room : Room) (told : kind ≡ kindAfter name (x .kind))
-      (none : kind ≡ 0 → startOf rows (x .row) (x .inside) name ≡ NotDue) where
+  module _ (name : ℕ) (t : Tag) (s : List ℕ) (empty : Bool) (room : Room) (told : kind ≡ kindAfter name (x .kind)) where
     started-at : (d : Due) → startOf rows (x .row) (x .inside) name ≡ d → Raises name x (startedAt x kind rows t s empty room d)
     unfolding startedAt startedBy
     started-at NotDue e = tt
     started-at (Row r) e =
         let j = startJudged x kind rows r t s empty room in
-        let k : kind ≡ 0 → ⊥ = λ z. let q : NotDue ≡ Row r = sym (none z) ∙ e in zero-not-one (cc) in
-        by-cond (Raises name x) (eqb (j .number) 0) (entered-raises r name e told k j (not empty)) tt
+        by-cond (Raises name x) (eqb (j .number) 0) (entered-raises r name e told j (not empty)) tt
 
     started-raises : Raises name x (started x kind rows name t s empty room)
     unfolding started
@@ -141,22 +144,17 @@ module _ (x : State) (kind : ℕ) (rows : List ℕ) (root : Rooted rows) (ser : 
   ended-at (Row r) = by-cond (Raises 0 x) (eqb (endRefusal x rows r) 0) (unraised x (closedAt x r) refl refl refl) tt
 
   moved-raises : (item : Item) (s : List ℕ) (room : Room) → kind ≡ kindAfter (startedIn item s) (x .kind)
-      → (kind ≡ 0 → (x .row ≡ 0) × (rows ≡ rowsOf 2) × (rootKind item s ≡ 0))
       → Raises (startedIn item s) x (moved x kind rows item s room)
-  unfolding moved rootKind startedIn ended
-  moved-raises (Start t) s room told f =
-      started-raises (elementNo (partOf s 1 (t .name))) t s false room told
-      (λ z. let g = f z in rw (g .0, g .1) (no-root (x .inside) (elementNo (partOf s 1 (t .name))) (g .2)))
-  moved-raises (Empty t) s room told f =
-      started-raises (elementNo (partOf s 1 (t .name))) t s true room told
-      (λ z. let g = f z in rw (g .0, g .1) (no-root (x .inside) (elementNo (partOf s 1 (t .name))) (g .2)))
-  moved-raises (End n e) s room told f = ended-at (endOf rows (x .row) (x .inside) (elementNo (partOf s 2 n)))
-  moved-raises (Text white e) s room told f = by-cond (Raises 0 x) white (unraised x x refl refl refl) tt
-  moved-raises (Comment e) s room told f = unraised x x refl refl refl
-  moved-raises (Unreadable p) s room told f = tt
+  unfolding moved startedIn ended
+  moved-raises (Start t) s room told = started-raises (elementNo (partOf s 1 (t .name))) t s false room told
+  moved-raises (Empty t) s room told = started-raises (elementNo (partOf s 1 (t .name))) t s true room told
+  moved-raises (End n e) s room told = ended-at (endOf rows (x .row) (x .inside) (elementNo (partOf s 2 n)))
+  moved-raises (Text white e) s room told = by-cond (Raises 0 x) white (unraised x x refl refl refl) tt
+  moved-raises (Comment e) s room told = unraised x x refl refl refl
+  moved-raises (Unreadable p) s room told = tt
 
 root-is : (item : Item) (s : List ℕ) → rootKind item s ≡ kindOf (startedIn item s)
-unfolding rootKind startedIn kindOf elementNo numberIn names same
+unfolding rootKind startedIn kindOf kindOne kindTwo elementNo numberIn names same
 root-is (Start t) s = refl
 root-is (Empty t) s = refl
 root-is (End n e) s = refl
@@ -164,22 +162,11 @@ root-is (Text white e) s = refl
 root-is (Comment e) s = refl
 root-is (Unreadable p) s = refl
 
-module _ (x : State) (b : Sound x) (item : Item) (s : List ℕ) (room : Room) where
+module _ (x : State) (item : Item) (s : List ℕ) (room : Room) where
   told-is : kindTold x item s ≡ kindAfter (startedIn item s) (x .kind)
   unfolding kindTold
   told-is = ap (λ (k : ℕ). cond (eqb (x .kind) 0) k (x .kind)) (root-is item s)
 
-  pub step-raises : Raises (startedIn item s) x (step x (rowsOf 1) (rowsOf 2) item s room)
-  unfolding step stepOn seriesElement intervalElement
-  step-raises =
-      let kind = kindTold x item s in
-      ⊎-elim
-      (λ (y : (kind ≡ 1) × (eqb kind 1 ≡ true)).
-      let n : Named (rowsOf 1) 2 (seriesElement kind) = rw (y .1) (one-named .0) in
-      rw (y .1) (moved-raises x kind (rowsOf 1) one-rooted n (one-named .1) item s room told-is (λ z. absurd (omega (arith, y .0, z)))))
-      (λ (y : (kind ≡ 1 → ⊥) × (eqb kind 1 ≡ false)).
-      let n : Named (rowsOf 2) 2 (seriesElement kind) = rw (y .1) (two-named .0) in
-      rw (y .1)
-      (moved-raises x kind (rowsOf 2) two-rooted n (two-named .1) item s room told-is
-      (λ z. let g = told-none x b item s room z in (g .0, refl, g .1))))
-      (eqb-cases kind 1)
+  pub step-raises : Raises (startedIn item s) x (step x item s room)
+  unfolding step
+  step-raises = moved-raises x (kindTold x item s) item s room told-is

@@ -8,22 +8,22 @@ use native.Mathlib.Omega.{arith}
 use native.Mathlib.Nat.{le-refl}
 use lib.Dec.{ltb, eqb}
 use lib.ListN.{getD, length}
-use Rattle.lists.proofs.Cases.{by-cond, leb-cases, eqb-cases, ltb-cases, zero-not-one}
-use Rattle.slices.specs.Text.{text}
+use Rattle.lists.proofs.Cases.{by-cond, leb-cases, eqb-cases, ltb-cases, never}
 use Rattle.attributes.specs.Attribute.{partOf}
 use Rattle.elements.specs.Names.{elementNo}
 use Rattle.structure.specs.Rows.{startOf, endOf}
 use Rattle.structure.specs.declared.Due.{Due}
 use Rattle.structure.specs.declared.Due.the-variants.{Row, NotDue}
-use Rattle.guideline.specs.Columns.{formOf, roleOf}
-use Rattle.guideline.specs.Kinds.{kindOf}
+use Rattle.columns.specs.Columns.{formOf, roleOf, seriesRole, intervalRole, objectRole, businessRole, seriesIdRole, posRole, qtyRole}
+use Rattle.guideline.specs.Kinds.{kindOne, kindTwo, isKind, kindOf}
 use Rattle.guideline.specs.Rows.{rowsOf}
+use Rattle.guideline.proofs.Each.{kind-some, rowWith}
 use Rattle.items.specs.declared.Tag.{Tag}
 use Rattle.items.specs.declared.Item.{Item}
 use Rattle.items.specs.declared.Item.the-variants.{Start, Empty, End, Text, Comment}
 use Rattle.items.specs.declared.Item.the-variants.{Refused as Unreadable}
 use Rattle.rules.specs.declared.Judged.{Judged}
-use Rattle.states.specs.Moves.{oneMore, begun, placed, oneSeries, oneInterval, oneOriginal, lastPos, covering, kept, entered, entryOf, startJudged, startedBy, startedAt, started, closedAt, endRefusal, endedAt, ended, moved, rootKind, kindTold, stepOn, step}
+use Rattle.states.specs.Moves.{oneMore, begun, placed, oneSeries, oneInterval, oneOriginal, lastPos, covering, kept, entered, entryOf, startJudged, startedBy, startedAt, started, closedAt, endRefusal, endedAt, ended, moved, rootKind, kindTold, step}
 use Rattle.states.specs.declared.State.{State}
 use Rattle.states.specs.declared.Room.{Room}
 use Rattle.states.specs.declared.Entry.{Entry}
@@ -32,18 +32,17 @@ use Rattle.states.specs.declared.Step.{Step}
 use Rattle.states.specs.declared.Step.the-variants.{Next, Refused}
 use Rattle.states.proofs.Judgements.{judged-passed, series-room, interval-room}
 use Rattle.promises.proofs.Refusals.{Given, start-given, end-given}
-use Rattle.guideline.proofs.Roots.{no-root}
-use Rattle.promises.proofs.Marks.{Rooted, Mark, due-within, end-back, counted, one-rooted, two-rooted, one-series, two-series, one-interval, two-interval}
+use Rattle.promises.proofs.Marks.{Mark, due-within, end-back, counted, forSeries, forInterval, seriesRow, intervalRow, table, due-known, end-known}
 
--- the row of Interval, by kind
-abbrev pub intervalRow : ℕ → ℕ
-intervalRow kind = cond (eqb kind 1) 29 31
+-- a row of the kind that is not before the first with this role
+abbrev Past : ℕ → ℕ → ℕ → Type 0
+Past role kind row = (isKind kind ≡ true) × (rowWith role (rowsOf kind) ≤ row)
 
 -- where a series has started, one is counted, and so with an Interval; before the root there is no kind
 pub record Sound (x : State) : Type 0 where
   pub kinds : x .kind ≤ 2
-  pub series : 12 ≤ x .row → 1 ≤ x .series
-  pub intervals : intervalRow (x .kind) ≤ x .row → 1 ≤ x .intervals
+  pub series : Past seriesRole (x .kind) (x .row) → 1 ≤ x .series
+  pub intervals : Past intervalRole (x .kind) (x .row) → 1 ≤ x .intervals
   pub outside : x .kind ≡ 0 → x .row ≡ 0
 
 -- an entry has a row
@@ -155,35 +154,35 @@ kept-interval : (x : State) (w : ℕ) (j : Judged) → roleOf w ≡ 4 → 1 ≤ 
 unfolding kept oneInterval
 kept-interval x w j e = rw e (more-some (x .intervals))
 
-entry-fits : (y : State) (role p : ℕ) → (2 ≤ role → 1 ≤ y .series) → (9 ≤ role → 1 ≤ y .intervals) → Fits y (entryOf role p)
+entry-fits : (y : State) (role p : ℕ) → (forSeries role ≡ true → 1 ≤ y .series) → (forInterval role ≡ true → 1 ≤ y .intervals) → Fits y (entryOf role p)
 unfolding entryOf
 entry-fits y role p f g =
-    by-eqb (Fits y) role 2 (λ e. f (omega arith))
-    (by-eqb (Fits y) role 4 (λ e. f (omega arith))
-    (by-eqb (Fits y) role 6 (λ e. f (omega arith))
-    (by-eqb (Fits y) role 7 (λ e. f (omega arith))
-    (by-eqb (Fits y) role 8 (λ e. f (omega arith))
-    (by-eqb (Fits y) role 9 (λ e. g (omega arith))
-    (by-eqb (Fits y) role 10 (λ e. g (omega arith)) tt))))))
-
--- what is known of the rows of a kind
-pub record Table (rows : List ℕ) (kind : ℕ) : Type 0 where
-  pub rooted : Rooted rows
-  pub series : Mark rows 12 2 1
-  pub intervals : Mark rows (intervalRow kind) 4 8
+    by-eqb (Fits y) role seriesRole (λ e. f (rw e refl))
+    (by-eqb (Fits y) role intervalRole (λ e. f (rw e refl))
+    (by-eqb (Fits y) role objectRole (λ e. f (rw e refl))
+    (by-eqb (Fits y) role businessRole (λ e. f (rw e refl))
+    (by-eqb (Fits y) role seriesIdRole (λ e. f (rw e refl))
+    (by-eqb (Fits y) role posRole (λ e. g (rw e refl))
+    (by-eqb (Fits y) role qtyRole (λ e. g (rw e refl)) tt))))))
 
 -- what is known of a state before an item that tells the kind
 pub record Before (x : State) (kind : ℕ) : Type 0 where
   pub sound : Sound x
   pub kinds : kind ≤ 2
-  pub held : intervalRow kind ≤ x .row → 1 ≤ x .intervals
+  pub series : Past seriesRole kind (x .row) → 1 ≤ x .series
+  pub intervals : Past intervalRole kind (x .row) → 1 ≤ x .intervals
 
-module _ (x : State) (kind : ℕ) (b : Before x kind) (rows : List ℕ) (tab : Table rows kind) where
-  entered-steps : (r name : ℕ) → startOf rows (x .row) (x .inside) name ≡ Row r → (kind ≡ 0 → ⊥) → (j : Judged) (within : Bool) (room : Room)
-      → (roleOf (getD rows r 0) ≡ 2 → x .series < room .series) → (roleOf (getD rows r 0) ≡ 4 → x .intervals < room .intervals)
+module _ (x : State) (kind : ℕ) (b : Before x kind) where
+  abbrev rows : List ℕ
+  rows = rowsOf kind
+
+  entered-steps : (r name : ℕ) → startOf rows (x .row) (x .inside) name ≡ Row r → (j : Judged) (within : Bool) (room : Room)
+      → (roleOf (getD rows r 0) ≡ seriesRole → x .series < room .series) → (roleOf (getD rows r 0) ≡ intervalRole → x .intervals < room .intervals)
       → Stepped room x (entered x kind r (getD rows r 0) j within) (entryOf (roleOf (getD rows r 0)) (j .first))
   unfolding entered placed
-  entered-steps r name e root j within room f g =
+  entered-steps r name e j within room f g =
+      let known = due-known kind (x .row) (x .inside) name r e in
+      let tab = table kind known in
       let w = getD rows r 0 in
       let p = placed x kind r within in
       let y = kept p w j in
@@ -196,40 +195,38 @@ module _ (x : State) (kind : ℕ) (b : Before x kind) (rows : List ℕ) (tab : T
         intervals-up = k .counts .intervals-up;
         intervals-one = k .counts .intervals-one;
       } in
-      let ser : 12 ≤ r → 1 ≤ y .series =
-      counted rows (tab .rooted) 12 2 1 (tab .series) (x .row) name r (x .inside) e (x .series) (y .series) (b .sound .series) (c .series-up)
-      (kept-series p w j) in
+      let ser : seriesRow kind ≤ r → 1 ≤ y .series =
+      counted rows (tab .rooted) (seriesRow kind) seriesRole forSeries (tab .series) (x .row) name r (x .inside) e (x .series) (y .series)
+      (λ l. b .series (known, l)) (c .series-up) (kept-series p w j) in
       let int : intervalRow kind ≤ r → 1 ≤ y .intervals =
-      counted rows (tab .rooted) (intervalRow kind) 4 8 (tab .intervals) (x .row) name r (x .inside) e (x .intervals) (y .intervals) (b .held)
-      (c .intervals-up) (kept-interval p w j) in
+      counted rows (tab .rooted) (intervalRow kind) intervalRole forInterval (tab .intervals) (x .row) name r (x .inside) e (x .intervals) (y .intervals)
+      (λ l. b .intervals (known, l)) (c .intervals-up) (kept-interval p w j) in
       record {
         sound =
             record {
               kinds = rw (k .kind) (b .kinds);
-              series = rw (k .row) ser;
-              intervals = rw (k .kind, k .row) int;
-              outside = λ z. absurd (root (sym (k .kind) ∙ z));
+              series = rw (k .kind, k .row) (λ l. ser (l .1));
+              intervals = rw (k .kind, k .row) (λ l. int (l .1));
+              outside = λ z. absurd (kind-some kind known (sym (k .kind) ∙ z));
             };
         fits =
             entry-fits y (roleOf w) (j .first)
-            (λ l. ⊎-elim (λ h. ser (h .0)) (λ h. absurd (omega (arith, tab .series .before r (h .0) inside))) (leb-cases 12 r))
-            (λ l. ⊎-elim (λ h. int (h .0)) (λ h. absurd (omega (arith, tab .intervals .before r (h .0) inside))) (leb-cases (intervalRow kind) r));
+            (λ l. ⊎-elim (λ h. ser (h .0)) (λ h. never (sym (tab .series .before r (h .0) inside) ∙ l)) (leb-cases (seriesRow kind) r))
+            (λ l. ⊎-elim (λ h. int (h .0)) (λ h. never (sym (tab .intervals .before r (h .0) inside) ∙ l)) (leb-cases (intervalRow kind) r));
         counts = c;
         housed = λ h. kept-housed room p w j f g (record { series = h .series; intervals = h .intervals });
       }
 
-  -- a tag that tells no kind is due nowhere
-  module _ (name : ℕ) (t : Tag) (s : List ℕ) (empty : Bool) (room : Room) (root : kind ≡ 0 → startOf rows (x .row) (x .inside) name ≡ NotDue) where
+  module _ (name : ℕ) (t : Tag) (s : List ℕ) (empty : Bool) (room : Room) where
     started-at : (d : Due) → startOf rows (x .row) (x .inside) name ≡ d → Rises room x (startedAt x kind rows t s empty room d)
     unfolding startedAt startedBy
     started-at NotDue e = (λ z. omega arith, refl)
     started-at (Row r) e =
         let j = startJudged x kind rows r t s empty room in
-        let k : kind ≡ 0 → ⊥ = λ z. let q : NotDue ≡ Row r = sym (root z) ∙ e in zero-not-one (cc) in
         ⊎-elim
         (λ y.
         let free = judged-passed x kind rows r t s empty room (y .0) .free in
-        rw (y .1) (entered-steps r name e k j (not empty) room (series-room x (roleOf (getD rows r 0)) room free) (interval-room x (roleOf (getD rows r 0)) room free)))
+        rw (y .1) (entered-steps r name e j (not empty) room (series-room x (roleOf (getD rows r 0)) room free) (interval-room x (roleOf (getD rows r 0)) room free)))
         (λ y. rw (y .1) (y .0, start-given x kind rows r t s empty room))
         (eqb-cases (j .number) 0)
 
@@ -245,8 +242,8 @@ module _ (x : State) (kind : ℕ) (b : Before x kind) (rows : List ℕ) (tab : T
         sound =
             record {
               kinds = b .kinds;
-              series = λ l. b .series (omega arith);
-              intervals = λ l. b .intervals (omega arith);
+              series = λ l. b .series (l .0, omega (arith, l .1));
+              intervals = λ l. b .intervals (l .0, omega (arith, l .1));
               outside = λ z. let k = b .outside z in omega arith;
             };
         fits = tt;
@@ -258,6 +255,7 @@ module _ (x : State) (kind : ℕ) (b : Before x kind) (rows : List ℕ) (tab : T
   unfolding endedAt
   ended-at room name NotDue e = (λ z. omega arith, refl)
   ended-at room name (Row r) e =
+      let tab = table kind (end-known kind (x .row) (x .inside) name r e) in
       ⊎-elim
       (λ y. rw (y .1) (closed-steps room r (end-back rows (tab .rooted) (x .row) name r (x .inside) e)))
       (λ y. rw (y .1) (y .0, end-given x rows r))
@@ -270,25 +268,19 @@ module _ (x : State) (kind : ℕ) (b : Before x kind) (rows : List ℕ) (tab : T
   still : (room : Room) → Stepped room x x Nothing
   still room = record { sound = b .sound; fits = tt; counts = same-counts x x refl refl; housed = λ h. h }
 
-  moved-rises : (item : Item) (s : List ℕ) (room : Room) → (kind ≡ 0 → (x .row ≡ 0) × (rows ≡ rowsOf 2) × (rootKind item s ≡ 0))
-      → Rises room x (moved x kind rows item s room)
-  unfolding moved rootKind
-  moved-rises (Start t) s room f =
-      started-rises (elementNo (partOf s 1 (t .name))) t s false room
-      (λ z. let g = f z in rw (g .0, g .1) (no-root (x .inside) (elementNo (partOf s 1 (t .name))) (g .2)))
-  moved-rises (Empty t) s room f =
-      started-rises (elementNo (partOf s 1 (t .name))) t s true room
-      (λ z. let g = f z in rw (g .0, g .1) (no-root (x .inside) (elementNo (partOf s 1 (t .name))) (g .2)))
-  moved-rises (End n e) s room f = ended-rises room (elementNo (partOf s 2 n))
-  moved-rises (Text white e) s room f = by-cond (Rises room x) white (still room) (λ z. omega arith, refl)
-  moved-rises (Comment e) s room f = still room
-  moved-rises (Unreadable p) s room f = (λ z. omega arith, refl)
+  moved-rises : (item : Item) (s : List ℕ) (room : Room) → Rises room x (moved x kind rows item s room)
+  unfolding moved
+  moved-rises (Start t) s room = started-rises (elementNo (partOf s 1 (t .name))) t s false room
+  moved-rises (Empty t) s room = started-rises (elementNo (partOf s 1 (t .name))) t s true room
+  moved-rises (End n e) s room = ended-rises room (elementNo (partOf s 2 n))
+  moved-rises (Text white e) s room = by-cond (Rises room x) white (still room) (λ z. omega arith, refl)
+  moved-rises (Comment e) s room = still room
+  moved-rises (Unreadable p) s room = (λ z. omega arith, refl)
 
 kind-small : (n : ℕ) → kindOf n ≤ 2
 unfolding kindOf
 kind-small n =
-    by-cond (λ (k : ℕ). k ≤ 2) (eqb n (elementNo (text "Beschaffungsanforderung"))) (omega arith)
-    (by-cond (λ (k : ℕ). k ≤ 2) (eqb n (elementNo (text "Kostenblatt"))) (omega arith) (omega arith))
+    by-cond (λ (k : ℕ). k ≤ 2) (eqb n (kindOne .root)) (omega arith) (by-cond (λ (k : ℕ). k ≤ 2) (eqb n (kindTwo .root)) (omega arith) (omega arith))
 
 root-small : (item : Item) (s : List ℕ) → rootKind item s ≤ 2
 unfolding rootKind
@@ -299,50 +291,26 @@ root-small (Text white e) s = omega arith
 root-small (Comment e) s = omega arith
 root-small (Unreadable p) s = omega arith
 
-one-table : (kind : ℕ) → kind ≡ 1 → Table (rowsOf 1) kind
-one-table kind e = rw e (record { rooted = one-rooted; series = one-series; intervals = one-interval })
-
-two-table : (kind : ℕ) → eqb kind 1 ≡ false → Table (rowsOf 2) kind
-two-table kind e = record { rooted = two-rooted; series = two-series; intervals = rw e two-interval }
-
 module _ (x : State) (b : Sound x) (item : Item) (s : List ℕ) (room : Room) where
   told-before : Before x (kindTold x item s)
   unfolding kindTold
   told-before =
       ⊎-elim
       (λ y.
+      let z = b .outside (y .0) in
       rw (y .1)
       (record {
         sound = b;
         kinds = root-small item s;
-        held =
-            λ l.
-            let z = b .outside (y .0) in
-            let k : 29 ≤ intervalRow (rootKind item s) =
-            by-cond (λ (n : ℕ). 29 ≤ n) (eqb (rootKind item s) 1) (omega arith) (omega arith) in
-            absurd (omega arith);
+        series = λ l. absurd (omega (arith, z, l .1, table (rootKind item s) (l .0) .series .late));
+        intervals = λ l. absurd (omega (arith, z, l .1, table (rootKind item s) (l .0) .intervals .late));
       }))
-      (λ y. rw (y .1) (record { sound = b; kinds = b .kinds; held = b .intervals }))
+      (λ y. rw (y .1) (record { sound = b; kinds = b .kinds; series = b .series; intervals = b .intervals }))
       (eqb-cases (x .kind) 0)
 
-  pub told-none : kindTold x item s ≡ 0 → (x .row ≡ 0) × (rootKind item s ≡ 0)
-  unfolding kindTold
-  told-none e =
-      ⊎-elim
-      (λ y. (b .outside (y .0), rw (y .1) at e))
-      (λ y. absurd (y .0 (rw (y .1) at e)))
-      (eqb-cases (x .kind) 0)
-
-  pub step-rises : Rises room x (step x (rowsOf 1) (rowsOf 2) item s room)
-  unfolding step stepOn
-  step-rises =
-      let kind = kindTold x item s in
-      ⊎-elim
-      (λ y. rw (y .1) (moved-rises x kind told-before (rowsOf 1) (one-table kind (y .0)) item s room (λ z. absurd (omega (arith, y .0, z)))))
-      (λ y.
-      rw (y .1)
-      (moved-rises x kind told-before (rowsOf 2) (two-table kind (y .1)) item s room (λ z. let g = told-none z in (g .0, refl, g .1))))
-      (eqb-cases kind 1)
+  pub step-rises : Rises room x (step x item s room)
+  unfolding step
+  step-rises = moved-rises x (kindTold x item s) told-before item s room
 
 -- before the first item
 pub begun-housed : (room : Room) → Housed room begun
@@ -350,5 +318,5 @@ unfolding begun
 begun-housed room = record { series = omega arith; intervals = omega arith }
 
 pub begun-sound : Sound begun
-unfolding begun
-begun-sound = record { kinds = omega arith; series = λ l. absurd (omega arith); intervals = λ l. absurd (omega arith); outside = λ z. refl }
+unfolding begun isKind
+begun-sound = record { kinds = omega arith; series = λ l. never (l .0); intervals = λ l. never (l .0); outside = λ z. refl }

@@ -12,7 +12,7 @@ use Rattle.numbers.specs.Amount.{amountOf}
 use Rattle.numbers.specs.declared.Amount.{Amount}
 use Rattle.numbers.specs.declared.Amount.the-variants.{Thousandths, NotAmount}
 use Rattle.times.specs.Periods.{quarterHours}
-use Rattle.guideline.specs.Columns.{dateTime}
+use Rattle.columns.specs.Columns.{dateTimeForm}
 use Rattle.rules.specs.Rules.{formRefusal, judgePeriod}
 use Rattle.rules.specs.declared.Judged.{Judged}
 use Rattle.states.specs.Moves.{countRefusal}
@@ -93,7 +93,7 @@ abbrev pub passes : Example → Bool
 passes (document doc refusal place note) = hasOutcome (readOf doc 512 2048 2048 16) refusal place note
 passes (amount cs z) = isAmount (amountOf cs) z
 passes (noAmount cs) = isNone (amountOf cs)
-passes (moment cs refusal) = eqb (formRefusal dateTime cs) refusal
+passes (moment cs refusal) = eqb (formRefusal dateTimeForm cs) refusal
 passes (period cs refusal n) = hasPeriod (judgePeriod 1 cs) refusal n
 passes (periodEnd quarters n refusal) = eqb (countRefusal 1 quarters n) refusal
 

@@ -58,9 +58,5 @@ unfoldable pub kindIn : List Placed → ℕ
 kindIn [] = 0
 kindIn (x ∷ xs) = let rest = kindIn xs in cond (eqb (kindOf (startedIn (x .item) (x .rest))) 0) rest (kindOf (startedIn (x .item) (x .rest)))
 
--- a series, by kind; an Interval
-unfoldable pub seriesElement : ℕ → ℕ
-seriesElement kind = cond (eqb kind 1) (elementNo (text "ScheduleTimeSeries")) (elementNo (text "CostTimeSeries"))
-
 unfoldable pub intervalElement : ℕ
 intervalElement = elementNo (text "Interval")

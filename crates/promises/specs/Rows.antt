@@ -1,9 +1,10 @@
 -- What the tables hold besides the rows of the series and of the intervals.
-use Prim.Native.Nat.{ℕ, _*_, _≤_}
+use Prim.Native.Nat.{ℕ, _≤_}
 use mathlib.Core.Path.{_≡_}
 use mathlib.Core.List.{List}
 use lib.IntN.{pos}
 use lib.ListN.{length, getD}
+use Rattle.series.specs.Row.{cellsOf}
 use Rattle.reader.specs.Reading.{Tables}
 
 -- 0 from cell n on
@@ -12,13 +13,13 @@ ZeroFrom n zero l = (j : ℕ) → n ≤ j → getD l j zero ≡ zero
 
 -- "Cells past the last row are 0.": "A series takes eight u32 numbers. .. Intervals take one position and one amount at the same index."
 pub record ZeroPast (series intervals : ℕ) (t : Tables) : Type 0 where
-  pub series-cells : ZeroFrom (8 * series) 0 (t .series)
+  pub series-cells : ZeroFrom (cellsOf series) 0 (t .series)
   pub positions : ZeroFrom intervals 0 (t .positions)
   pub amounts : ZeroFrom intervals (pos 0) (t .amounts)
 
 -- "Room for series is the table length divided by 8, rounded down. .. room is the shorter length.": as many rows have room in tables of these lengths
 pub record InRoom (ns np na series intervals : ℕ) : Type 0 where
-  pub series-rows : 8 * series ≤ ns
+  pub series-rows : cellsOf series ≤ ns
   pub position-rows : intervals ≤ np
   pub amount-rows : intervals ≤ na
 

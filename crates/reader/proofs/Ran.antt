@@ -1,22 +1,23 @@
 -- The loop over the items: its invariant, `Ran`, and how it starts, goes on and ends. Assumes nothing.
-use Prim.Native.Nat.{ℕ, zero, suc, _+_, _≤_, _<_}
+use Prim.Native.Nat.{ℕ, zero, suc, pred, _+_, _≤_, _<_}
 use mathlib.Core.Path.{_≡_, refl, sym, ap, _∙_}
 use mathlib.Core.List.{List, [], _∷_}
 use mathlib.Core.Bool.{true}
 use native.Mathlib.Omega.{arith}
 use native.Mathlib.Nat.{add-zero}
-use lib.Dec.{eqb}
 use lib.IntN.{ℤ}
 use lib.ListN.{length, drop, drop-of-length-le, length-drop}
 use lib.Seq.{drop-drop}
-use Rattle.lists.proofs.Cases.{by-cond, never}
+use Rattle.lists.proofs.Cases.{never}
 use Rattle.items.specs.Item.{item, itemEnd}
 use Rattle.items.specs.declared.Item.{Item}
 use Rattle.items.specs.declared.Item.the-variants.{Start, Empty, End, Text, Comment}
 use Rattle.items.specs.declared.Item.the-variants.{Refused as Unreadable}
 use Rattle.items.proofs.Promises.{Placed as At, item-placed}
-use Rattle.guideline.specs.Rows.{rowsOf}
-use Rattle.states.specs.Moves.{begun, step, stepOn, moved, kindTold}
+use Rattle.guideline.specs.Rows.{everyRow, rowsIn}
+use Rattle.guideline.proofs.Each.{rows-in}
+use Rattle.states.specs.Moves.{begun, stepBy, step, moved}
+use Rattle.states.proofs.Acts.{step-rows}
 use Rattle.states.specs.declared.State.{State}
 use Rattle.states.specs.declared.Room.{Room}
 use Rattle.states.specs.declared.Entry.{Entry}
@@ -24,9 +25,9 @@ use Rattle.states.specs.declared.Entry.the-variants.{Nothing}
 use Rattle.states.specs.declared.Step.{Step}
 use Rattle.states.specs.declared.Step.the-variants.{Next, Refused}
 use Rattle.reader.specs.Items.{Placed, placed, itemsAfter, itemsFrom, passed}
-use Rattle.reader.specs.Rows.{spanOf, seriesAfter, positionsAfter, amountsAfter, usedBefore}
+use Rattle.reader.specs.Rows.{broughtBy, seriesWith, positionsWith, amountsWith, seriesAfter, positionsAfter, amountsAfter, usedWith, usedBefore}
 use Rattle.reader.specs.declared.Found.{Found}
-use Rattle.reader.specs.Reading.{Tables, roomIn, refusedAt, endedAt, withoutUsed, stepOf, tablesAfter, readItems, itemsRead}
+use Rattle.reader.specs.Reading.{Tables, tab, out, roomIn, refusedAt, endedAt, withoutUsed, stepOf, tablesAfter, readItems, itemsRead}
 
 skip : (k at : ℕ) (l : List ℕ) → itemsAfter k at l ≡ itemsAfter 0 (at + k) (drop k l)
 unfolding itemsAfter
@@ -66,14 +67,9 @@ module _ (doc : List ℕ) (room : Room) (p : Placed) (xs : List Placed) (st : St
   unfolding readItems
   read-stop n q = rw (readItems, q)
 
--- the tables as the code has them
-abbrev pub tab : List ℕ → List ℕ → List ℤ → Tables
-tab ser pos ams = record { series = ser; positions = pos; amounts = ams }
-
 -- what is left of the items at the place `at` comes to what all of them come to
-pub record Ran (doc : List ℕ) (from : ℕ) (t : Tables) (one two : List ℕ) (room : Room) (ser pos : List ℕ) (ams : List ℤ) (st : State) (at : ℕ) : Type 0 where
-  pub ones : one ≡ rowsOf 1
-  pub twos : two ≡ rowsOf 2
+pub record Ran (doc : List ℕ) (from : ℕ) (t : Tables) (rows : List ℕ) (room : Room) (ser pos : List ℕ) (ams : List ℤ) (st : State) (at : ℕ) : Type 0 where
+  pub all : rows ≡ everyRow
   pub rooms : room ≡ roomIn t
   pub ser-same : length ser ≡ length (t .series)
   pub pos-same : length pos ≡ length (t .positions)
@@ -81,58 +77,55 @@ pub record Ran (doc : List ℕ) (from : ℕ) (t : Tables) (one two : List ℕ) (
   pub left : readItems doc (roomIn t) (itemsFrom doc at) st (tab ser pos ams) ≡ itemsRead doc from t
 
 module _ (doc : List ℕ) (from : ℕ) (t : Tables) where
-  pub ran-start : {one two : List ℕ} {room : Room} {st : State} → one ≡ rowsOf 1 → two ≡ rowsOf 2 → room ≡ roomIn t → st ≡ begun
-      → Ran doc from t one two room (t .series) (t .positions) (t .amounts) st from
+  pub ran-start : {rows : List ℕ} {room : Room} {st : State} → rows ≡ everyRow → room ≡ roomIn t → st ≡ begun
+      → Ran doc from t rows room (t .series) (t .positions) (t .amounts) st from
   unfolding itemsRead
-  ran-start e1 e2 er es =
-      record { ones = e1; twos = e2; rooms = er; ser-same = refl; pos-same = refl; ams-same = refl; left = rw es refl }
+  ran-start ea er es =
+      record { all = ea; rooms = er; ser-same = refl; pos-same = refl; ams-same = refl; left = rw es refl }
 
-pub unreadable : (st : State) (one two : List ℕ) (p : ℕ) (s : List ℕ) (room : Room) → step st one two (Unreadable p) s room ≡ Refused 2
-unfolding step stepOn moved
-unreadable st one two p s room =
-    by-cond (λ (y : Step). y ≡ Refused 2) (eqb (kindTold st (Unreadable p) s) 1) refl refl
+pub unreadable : (st : State) (p : ℕ) (s : List ℕ) (room : Room) → step st (Unreadable p) s room ≡ Refused 2
+unfolding step moved
+unreadable st p s room = refl
 
-pub still : (st : State) (one two : List ℕ) (x : Item) → passed x ≡ true → (s : List ℕ) (room : Room) → step st one two x s room ≡ Next st Nothing
-unfolding step stepOn moved passed
-still st one two (Start t) w s room = never w
-still st one two (Empty t) w s room = never w
-still st one two (End n e) w s room = never w
-still st one two (Text white e) w s room = rw w (by-cond (λ (y : Step). y ≡ Next st Nothing) (eqb (kindTold st (Text true e) s) 1) refl refl)
-still st one two (Comment e) w s room = by-cond (λ (y : Step). y ≡ Next st Nothing) (eqb (kindTold st (Comment e) s) 1) refl refl
-still st one two (Unreadable p) w s room = never w
+pub still : (st : State) (x : Item) → passed x ≡ true → (s : List ℕ) (room : Room) → step st x s room ≡ Next st Nothing
+unfolding step moved passed
+still st (Start t) w s room = never w
+still st (Empty t) w s room = never w
+still st (End n e) w s room = never w
+still st (Text white e) w s room = rw w refl
+still st (Comment e) w s room = refl
+still st (Unreadable p) w s room = never w
 
-module _ {doc : List ℕ} {from : ℕ} {t : Tables} {one two : List ℕ} {room : Room} {ser pos : List ℕ} {ams : List ℤ} {st : State} {at : ℕ}
-    (r : Ran doc from t one two room ser pos ams st at) where
-  pub ran-end : length doc ≤ at → {f : Found} → f ≡ endedAt one two (length doc) st → record { found = f; tables = tab ser pos ams } ≡ itemsRead doc from t
+module _ {doc : List ℕ} {from : ℕ} {t : Tables} {rows : List ℕ} {room : Room} {ser pos : List ℕ} {ams : List ℤ} {st : State} {at : ℕ}
+    (r : Ran doc from t rows room ser pos ams st at) where
+  pub ran-end : length doc ≤ at → {f : Found} → f ≡ endedAt (rowsIn rows (st .kind)) (length doc) st → out f ser pos ams ≡ itemsRead doc from t
   unfolding readItems
-  ran-end h e = rw (e, r .ones, r .twos) (sym (ap (λ (xs : List Placed). readItems doc (roomIn t) xs st (tab ser pos ams)) (items-over doc at h)) ∙ r .left)
+  ran-end h e = rw (e, r .all, rows-in (st .kind)) (sym (ap (λ (xs : List Placed). readItems doc (roomIn t) xs st (tab ser pos ams)) (items-over doc at h)) ∙ r .left)
 
   -- s is the part from `at` on, x its first item, y what the state came to
   module _ {s : List ℕ} {x : Item} (h : at < length doc) (es : s ≡ drop at doc) (ex : x ≡ item at s) (m : 1 ≤ itemEnd x) where
     ahead : itemsFrom doc at ≡ placed at (drop at doc) ∷ itemsFrom doc (at + itemEnd x)
     ahead = items-next doc at (itemEnd x) h (sym (ap itemEnd (ex ∙ ap (item at) es))) m
 
-    turn : {y : Step} → y ≡ withoutUsed doc ser x s (step st one two x s room) → stepOf doc ser (roomIn t) (placed at (drop at doc)) st ≡ y
+    turn : {y : Step} → y ≡ withoutUsed doc ser x s (stepBy st rows x s room) → stepOf doc ser (roomIn t) (placed at (drop at doc)) st ≡ y
     unfolding stepOf
-    turn ey = sym (rw (r .ones, r .twos, r .rooms, ex, es) at ey)
+    turn ey = sym (rw (r .all, step-rows st x s room, r .rooms, ex, es) at ey)
 
-    pub ran-stop : {y : Step} {n : ℕ} → y ≡ withoutUsed doc ser x s (step st one two x s room) → y ≡ Refused n
-        → record { found = refusedAt n at st; tables = tab ser pos ams } ≡ itemsRead doc from t
+    pub ran-stop : {y : Step} {n : ℕ} → y ≡ withoutUsed doc ser x s (stepBy st rows x s room) → y ≡ Refused n
+        → out (refusedAt n at st) ser pos ams ≡ itemsRead doc from t
     ran-stop {y} {n} ey q =
         sym (read-stop doc (roomIn t) (placed at (drop at doc)) (itemsFrom doc (at + itemEnd x)) st (tab ser pos ams) n (turn ey ∙ q))
         ∙ sym (ap (λ (xs : List Placed). readItems doc (roomIn t) xs st (tab ser pos ams)) ahead)
         ∙ r .left
 
-    pub ran-next : {y : Step} {st′ : State} {e : Entry} {ser′ pos′ : List ℕ} {ams′ : List ℤ} → y ≡ withoutUsed doc ser x s (step st one two x s room) → y ≡ Next st′ e
+    pub ran-next : {y : Step} {st′ : State} {e : Entry} {ser′ pos′ : List ℕ} {ams′ : List ℤ} → y ≡ withoutUsed doc ser x s (stepBy st rows x s room) → y ≡ Next st′ e
         → length ser′ ≡ length ser → length pos′ ≡ length pos → length ams′ ≡ length ams
-        → ser′ ≡ seriesAfter at (spanOf x) s st′ e ser → pos′ ≡ positionsAfter st′ e pos → ams′ ≡ amountsAfter (spanOf x) s st′ e ams
-        → Ran doc from t one two room ser′ pos′ ams′ st′ (at + itemEnd x)
-    unfolding tablesAfter
-    ran-next {y} {st′} {e} {ser′} {pos′} {ams′} ey q ls lp la qs qp qa =
-        let et : tab ser′ pos′ ams′ ≡ tablesAfter (placed at (drop at doc)) st′ e (tab ser pos ams) = rw (qs, qp, qa) (rw (ex, es) refl) in
+        → tab ser′ pos′ ams′ ≡ tablesAfter (record { at = at; item = x; rest = s }) st′ e (tab ser pos ams)
+        → Ran doc from t rows room ser′ pos′ ams′ st′ (at + itemEnd x)
+    ran-next {y} {st′} {e} {ser′} {pos′} {ams′} ey q ls lp la qt =
+        let et : tab ser′ pos′ ams′ ≡ tablesAfter (placed at (drop at doc)) st′ e (tab ser pos ams) = qt ∙ rw (ex, es) refl in
         record {
-          ones = r .ones;
-          twos = r .twos;
+          all = r .all;
           rooms = r .rooms;
           ser-same = ls ∙ r .ser-same;
           pos-same = lp ∙ r .pos-same;
@@ -145,14 +138,21 @@ module _ {doc : List ℕ} {from : ℕ} {t : Tables} {one two : List ℕ} {room :
         }
 
     -- an item that is passed over
-    pub ran-pass : passed x ≡ true → Ran doc from t one two room ser pos ams st (at + itemEnd x)
-    unfolding withoutUsed usedBefore seriesAfter positionsAfter amountsAfter
-    ran-pass w = ran-next {y = Next st Nothing} (rw (still st one two x w s room) refl) refl refl refl refl refl refl refl
+    pub ran-pass : passed x ≡ true → Ran doc from t rows room ser pos ams st (at + itemEnd x)
+    unfolding withoutUsed usedBefore usedWith tablesAfter seriesAfter seriesWith positionsAfter positionsWith amountsAfter amountsWith broughtBy
+    ran-pass w = ran-next {y = Next st Nothing} (rw (r .all, step-rows st x s room, still st x w s room) refl) refl refl refl refl refl
 
   -- "An item is either one of five kinds or a refusal with its place": the loop returns with that place
   pub ran-unread : {s : List ℕ} {x : Item} {p : ℕ} → at < length doc → s ≡ drop at doc → x ≡ item at s → 1 ≤ itemEnd x → x ≡ Unreadable p
-      → (p ≡ at) × (record { found = refusedAt 2 p st; tables = tab ser pos ams } ≡ itemsRead doc from t)
+      → (p ≡ at) × (out (refusedAt 2 p st) ser pos ams ≡ itemsRead doc from t)
   unfolding withoutUsed At
   ran-unread {s} {x} {p} h es ex m q =
       let k : p ≡ at = rw (sym ex ∙ q) at (item-placed at s) in
-      (k, rw k (ran-stop h es ex m {y = Refused 2} (rw (q, unreadable st one two p s room) refl) refl))
+      (k, rw k (ran-stop h es ex m {y = Refused 2} (rw (q, r .all, step-rows st (Unreadable p) s room, unreadable st p s room) refl) refl))
+
+-- no item has no byte
+pub items-few : (l : List ℕ) (k at : ℕ) → length (itemsAfter k at l) ≤ length l
+unfolding itemsAfter
+items-few [] k at = omega arith
+items-few (b ∷ t) (suc k) at = let h = items-few t k (suc at) in omega (arith, h)
+items-few (b ∷ t) zero at = let h = items-few t (pred (itemEnd (item at (b ∷ t)))) (suc at) in omega (arith, h)

@@ -1,18 +1,20 @@
 -- How a document is read around its items: the declaration, refusals 1 and 10, blank tables, the note. Assumes nothing.
 use Prim.Native.Nat.{ℕ, _≤_, _<_}
-use mathlib.Core.Path.{_≡_, refl}
+use mathlib.Core.Path.{_≡_, refl, sym, ap, _∙_}
 use mathlib.Core.List.{List}
 use lib.IntN.{ℤ}
 use lib.ListN.{length}
+use borrow.Author.Needs.{needs}
 use borrow.Author.Tests.{lt-ltb, le-ltb, eq-eqb, ne-eqb}
 use Rattle.lists.specs.Zeros.{zeros}
-use Rattle.tables.specs.Cells.{noAmounts}
+use Rattle.notes.specs.Note.{noteOf, left}
 use Rattle.prolog.specs.Prolog.{begin}
 use Rattle.prolog.specs.declared.Begin.the-variants.{From, Unreadable}
 use Rattle.states.specs.Moves.{begun}
-use Rattle.reader.specs.Reading.{Tables, blank, refusedAt, itemsRead, readAfter, readInto, orBlank, readSheet}
-use Rattle.reader.specs.Answer.{noted, unnoted, readOf}
-use Rattle.reader.proofs.Ran.{tab}
+use Rattle.reader.specs.declared.Found.{Found}
+use Rattle.reader.specs.declared.Answer.{Answer}
+use Rattle.reader.specs.Reading.{Tables, Out, tab, blank, refusedAt, itemsRead, readAfter, readInto, orBlank, readSheet}
+use Rattle.reader.specs.Answer.{Outcome, noteFor, answerOf, told, noted, unnoted, readOf, Permitted}
 
 module _ (doc : List ℕ) (t : Tables) where
   pub into-items : (n : ℕ) → begin doc ≡ From n → itemsRead doc n t ≡ readInto doc t
@@ -23,29 +25,49 @@ module _ (doc : List ℕ) (t : Tables) where
   unfolding readInto readAfter
   into-unread p e = rw e refl
 
-pub blank-is : (ns np na : ℕ) {ser pos : List ℕ} {ams : List ℤ} → ser ≡ zeros ns → pos ≡ zeros np → ams ≡ noAmounts na → tab ser pos ams ≡ blank ns np na
-unfolding blank
-blank-is ns np na es ep ea = rw (es, ep, ea) refl
-
-module _ (doc : List ℕ) (ns np na : ℕ) where
-  pub sheet-long : 1048576 < length doc → record { found = refusedAt 1 0 begun; tables = blank ns np na } ≡ readSheet doc ns np na
+-- into tables of these lengths; u is the tables made blank
+module _ (doc : List ℕ) (ns np na : ℕ) {u : Tables} (q : u ≡ blank ns np na) where
+  pub sheet-long : 1048576 < length doc → {f : Found} → f ≡ refusedAt 1 0 begun → record { found = f; tables = u } ≡ readSheet doc ns np na
   unfolding readSheet orBlank refusedAt
-  sheet-long h = rw (lt-ltb _ _ h) refl
+  sheet-long h e = rw (e, q, lt-ltb _ _ h) refl
 
-  pub sheet-taken : length doc ≤ 1048576 → readInto doc (blank ns np na) .found .refusal ≡ 0 → readInto doc (blank ns np na) ≡ readSheet doc ns np na
-  unfolding readSheet orBlank
-  sheet-taken h e = rw (le-ltb _ _ h, eq-eqb _ _ e) refl
+  -- o is what came of the items
+  module _ {o : Out} (h : length doc ≤ 1048576) (e : o ≡ readInto doc u) where
+    into : readInto doc (blank ns np na) ≡ o
+    into = sym (e ∙ ap (readInto doc) q)
 
-  pub sheet-refused : length doc ≤ 1048576 → (readInto doc (blank ns np na) .found .refusal ≡ 0 → ⊥)
-      → record { found = readInto doc (blank ns np na) .found; tables = blank ns np na } ≡ readSheet doc ns np na
-  unfolding readSheet orBlank
-  sheet-refused h e = rw (le-ltb _ _ h, ne-eqb _ _ e) refl
+    pub sheet-taken : o .found .refusal ≡ 0 → o ≡ readSheet doc ns np na
+    unfolding readSheet orBlank
+    sheet-taken k = rw (le-ltb _ _ h, into, eq-eqb _ _ k) refl
 
-  module _ (nb : ℕ) where
-    pub read-unnoted : nb < 16 → unnoted ns np na nb ≡ readOf doc ns np na nb
-    unfolding readOf
-    read-unnoted h = rw (lt-ltb _ _ h) refl
+    pub sheet-refused : (o .found .refusal ≡ 0 → ⊥) → {w : Tables} → w ≡ blank ns np na → record { found = o .found; tables = w } ≡ readSheet doc ns np na
+    unfolding readSheet orBlank
+    sheet-refused k z = rw (le-ltb _ _ h, into, ne-eqb _ _ k, z) refl
 
-    pub read-noted : 16 ≤ nb → noted nb (readSheet doc ns np na) ≡ readOf doc ns np na nb
-    unfolding readOf
-    read-noted h = rw (le-ltb _ _ h) refl
+pub blank-same : {ns np na ns′ np′ na′ : ℕ} → ns ≡ ns′ → np ≡ np′ → na ≡ na′ → blank ns np na ≡ blank ns′ np′ na′
+blank-same a b c = rw (a, b, c) refl
+
+-- and the note of it into a buffer of nb bytes
+module _ (doc : List ℕ) (ns np na nb : ℕ) where
+  pub read-unnoted : nb < 16 → unnoted ns np na nb ≡ readOf doc ns np na nb
+  unfolding readOf
+  read-unnoted h = rw (lt-ltb _ _ h) refl
+
+  pub read-noted : 16 ≤ nb → noted nb (readSheet doc ns np na) ≡ readOf doc ns np na nb
+  unfolding readOf
+  read-noted h = rw (le-ltb _ _ h) refl
+
+  -- what is answered, and left in the four buffers
+  module _ {a : Answer} {n : List ℕ} where
+    pub read-ten : nb < 16 → a ≡ answerOf (refusedAt 10 0 begun) 0 → {u : Tables} → u ≡ blank ns np na → n ≡ zeros nb
+        → record { answer = a; tables = u; note = n } ≡ readOf doc ns np na nb
+    unfolding unnoted
+    read-ten h ea eu en = rw (ea, eu, en) (read-unnoted h)
+
+    pub read-told : 16 ≤ nb → {o : Out} → o ≡ readSheet doc ns np na → a ≡ told nb (o .found) → n ≡ left (noteOf (noteFor (o .found))) nb
+        → record { answer = a; tables = o .tables; note = n } ≡ readOf doc ns np na nb
+    unfolding noted
+    read-told h e ea en = rw (ea, en, e) (read-noted h)
+
+pub permitted : {o : Outcome} {a : Answer} {s p : List ℕ} {m : List ℤ} {n : List ℕ} → record { answer = a; tables = tab s p m; note = n } ≡ o → Permitted o a s p m n
+permitted e = rw (← e) (search needs)

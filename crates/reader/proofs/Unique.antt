@@ -4,16 +4,8 @@ use mathlib.Core.Path.{_≡_}
 use mathlib.Core.List.{List}
 use lib.IntN.{ℤ}
 use Rattle.lists.proofs.Unique.{one}
-use Rattle.reader.specs.Answer.{Outcome, readOf}
+use Rattle.reader.specs.Answer.{readOf, Permitted}
 use Rattle.reader.specs.declared.Answer.{Answer}
-
--- what the contract says of an answer and of the series, position and amount tables and the note at exit
-pub record Permitted (o : Outcome) (answer : Answer) (series positions : List ℕ) (amounts : List ℤ) (note : List ℕ) : Type 0 where
-  pub answers : answer ≡ o .answer
-  pub series-left : series ≡ o .tables .series
-  pub positions-left : positions ≡ o .tables .positions
-  pub amounts-left : amounts ≡ o .tables .amounts
-  pub note-left : note ≡ o .note
 
 pub read-one : (doc : List ℕ) (ns np na nb : ℕ) {a a′ : Answer} {s s′ p p′ : List ℕ} {m m′ : List ℤ} {n n′ : List ℕ}
     → Permitted (readOf doc ns np na nb) a s p m n → Permitted (readOf doc ns np na nb) a′ s′ p′ m′ n′

@@ -1,8 +1,11 @@
 -- What the document reader answers, and what it leaves in the four lent buffers.
 use Prim.Native.Nat.{ℕ}
+use mathlib.Core.Path.{_≡_}
 use mathlib.Core.List.{List}
 use mathlib.Core.Bool.{cond}
 use lib.Dec.{ltb}
+use lib.IntN.{ℤ}
+use lib.ListN.{length}
 use Rattle.lists.specs.Zeros.{zeros}
 use Rattle.notes.specs.Note.{noteOf, wrote, left, noteLength}
 use Rattle.notes.specs.declared.Note.{Note}
@@ -45,3 +48,16 @@ unnoted ns np na nb = record { answer = answerOf (refusedAt 10 0 begun) 0; table
 -- the note buffer
 unfoldable pub readOf : List ℕ → ℕ → ℕ → ℕ → ℕ → Outcome
 readOf doc ns np na nb = cond (ltb nb 16) (unnoted ns np na nb) (noted nb (readSheet doc ns np na))
+
+-- with these lists lent
+abbrev pub outcomeOf : List ℕ → List ℕ → List ℕ → List ℤ → List ℕ → Outcome
+outcomeOf doc series positions amounts note = readOf doc (length series) (length positions) (length amounts) (length note)
+
+-- "the contract leaves one possible answer and one possible content of every lent buffer": what is answered, and left in the series, position and amount
+-- tables and the note buffer, is this outcome
+pub record Permitted (o : Outcome) (answer : Answer) (series positions : List ℕ) (amounts : List ℤ) (note : List ℕ) : Type 0 where
+  pub answers : answer ≡ o .answer
+  pub series-left : series ≡ o .tables .series
+  pub positions-left : positions ≡ o .tables .positions
+  pub amounts-left : amounts ≡ o .tables .amounts
+  pub note-left : note ≡ o .note

@@ -1,5 +1,5 @@
 -- The items from front to back: "The first item with a fault decides; where it has several, the smallest number."
-use Prim.Native.Nat.{ℕ, _/_}
+use Prim.Native.Nat.{ℕ}
 use mathlib.Core.List.{List, [], _∷_}
 use mathlib.Core.Bool.{cond}
 use lib.IntN.{ℤ}
@@ -11,6 +11,7 @@ use Rattle.prolog.specs.Prolog.{begin}
 use Rattle.prolog.specs.declared.Begin.{Begin}
 use Rattle.prolog.specs.declared.Begin.the-variants.{From, Unreadable}
 use Rattle.tables.specs.Cells.{noAmounts}
+use Rattle.series.specs.Row.{rowsIn}
 use Rattle.structure.specs.Rows.{overOf}
 use Rattle.guideline.specs.Rows.{rowsOf}
 use Rattle.states.specs.Moves.{begun, step}
@@ -29,13 +30,19 @@ pub record Tables : Type 0 where
   pub positions : List ℕ
   pub amounts : List ℤ
 
+abbrev pub tab : List ℕ → List ℕ → List ℤ → Tables
+tab series positions amounts = record { series = series; positions = positions; amounts = amounts }
+
 -- with all cells 0
 unfoldable pub blank : ℕ → ℕ → ℕ → Tables
 blank ns np na = record { series = zeros ns; positions = zeros np; amounts = noAmounts na }
 
+abbrev pub blankAs : Tables → Tables
+blankAs t = blank (length (t .series)) (length (t .positions)) (length (t .amounts))
+
 -- "Room for series is the table length divided by 8, rounded down. Intervals take one position and one amount at the same index; room is the shorter length."
 unfoldable pub roomOf : ℕ → ℕ → ℕ → Room
-roomOf ns np na = cond (leb np na) (record { series = ns / 8; intervals = np }) (record { series = ns / 8; intervals = na })
+roomOf ns np na = cond (leb np na) (record { series = rowsIn ns; intervals = np }) (record { series = rowsIn ns; intervals = na })
 
 -- "Kind is that of a root start standing in an item before the faulty one, else 0. Series and intervals count their start tags in items before
 -- the faulty one."; "N (0 on every refusal)"
@@ -48,12 +55,9 @@ unfoldable pub acceptedAt : ℕ → State → Found
 acceptedAt place st =
     record { refusal = 0; place = place; kind = st .kind; series = st .series; intervals = st .intervals; quarters = st .quarters }
 
--- "Missing elements show .. at the end of the document.": 3 at the length. `one` and `two` are the rows of the kinds
-unfoldable pub endedAt : List ℕ → List ℕ → ℕ → State → Found
-endedAt one two place st =
-    cond (eqb (st .kind) 1)
-    (cond (overOf one (st .row) (st .inside)) (acceptedAt place st) (refusedAt 3 place st))
-    (cond (overOf two (st .row) (st .inside)) (acceptedAt place st) (refusedAt 3 place st))
+-- "Missing elements show .. at the end of the document.": 3 at the length, by the rows of the kind
+unfoldable pub endedAt : List ℕ → ℕ → State → Found
+endedAt rows place st = cond (overOf rows (st .row) (st .inside)) (acceptedAt place st) (refusedAt 3 place st)
 
 -- an item that moved the state is refused where it brings a TimeSeriesIdentification that was used before
 unfoldable pub withoutUsed : List ℕ → List ℕ → Item → List ℕ → Step → Step
@@ -61,7 +65,7 @@ withoutUsed doc t item s (Next st e) = cond (usedBefore doc t (spanOf item) s (s
 withoutUsed doc t item s (Refused n) = Refused n
 
 unfoldable pub stepOf : List ℕ → List ℕ → Room → Placed → State → Step
-stepOf doc t room x st = withoutUsed doc t (x .item) (x .rest) (step st (rowsOf 1) (rowsOf 2) (x .item) (x .rest) room)
+stepOf doc t room x st = withoutUsed doc t (x .item) (x .rest) (step st (x .item) (x .rest) room)
 
 -- the tables after an item; st is the state after it
 unfoldable pub tablesAfter : Placed → State → Entry → Tables → Tables
@@ -77,9 +81,12 @@ pub record Out : Type 0 where
   pub found : Found
   pub tables : Tables
 
+abbrev pub out : Found → List ℕ → List ℕ → List ℤ → Out
+out found series positions amounts = record { found = found; tables = tab series positions amounts }
+
 -- the items that are left, in a state, with the tables so far
 unfoldable pub readItems : List ℕ → Room → List Placed → State → Tables → Out
-readItems doc room [] st t = record { found = endedAt (rowsOf 1) (rowsOf 2) (length doc) st; tables = t }
+readItems doc room [] st t = record { found = endedAt (rowsOf (st .kind)) (length doc) st; tables = t }
 readItems doc room (x ∷ xs) st t =
     elim (stepOf doc (t .series) room x st) [
       | Next st′ e ↦ readItems doc room xs st′ (tablesAfter x st′ e t)
@@ -109,3 +116,7 @@ orBlank ns np na o = record { found = o .found; tables = cond (eqb (o .found .re
 unfoldable pub readSheet : List ℕ → ℕ → ℕ → ℕ → Out
 readSheet doc ns np na =
     orBlank ns np na (cond (ltb 1048576 (length doc)) (record { found = refusedAt 1 0 begun; tables = blank ns np na }) (readInto doc (blank ns np na)))
+
+-- into tables of these lengths
+abbrev pub sheetInto : List ℕ → Tables → Out
+sheetInto doc t = readSheet doc (length (t .series)) (length (t .positions)) (length (t .amounts))

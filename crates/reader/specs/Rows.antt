@@ -1,11 +1,10 @@
--- "A series takes eight u32 numbers, a length here being in bytes between the quotes: start and length of its TimeSeriesIdentification; of its
--- object (InParty in kind 1, ResourceObject in kind 2); of its BusinessType, spaces dropped; its first interval row; its interval count. ..
--- Intervals take one position and one amount at the same index. .. Rows come in document order."
-use Prim.Native.Nat.{ℕ, zero, suc, _+_, _-_, _*_}
+-- What an item brings into the lent tables: a field of the series row, or the position or the amount of the interval row. "Intervals take one position
+-- and one amount at the same index. .. Rows come in document order."
+use Prim.Native.Nat.{ℕ, zero, suc, _+_, _-_}
 use mathlib.Core.List.{List}
 use mathlib.Core.Bool.{Bool, true, false, cond}
 use lib.IntN.{ℤ, pos}
-use lib.ListN.{length, getD, set}
+use lib.ListN.{length, set}
 use Rattle.slices.specs.Run.{run}
 use Rattle.slices.specs.Same.{same}
 use Rattle.characters.specs.Says.{says}
@@ -17,9 +16,15 @@ use Rattle.trims.specs.Trim.{space, dropped}
 use Rattle.numbers.specs.Amount.{amountOf}
 use Rattle.numbers.specs.declared.Amount.the-variants.{Thousandths, NotAmount}
 use Rattle.numbers.specs.declared.Amount.{Amount as Read}
+use Rattle.series.specs.Row.{withField, withView, view}
+use Rattle.series.specs.declared.Field.{Field}
+use Rattle.series.specs.declared.Field.the-variants.{Identification, Object, BusinessType, FirstRow, Count}
 use Rattle.states.specs.declared.State.{State}
 use Rattle.states.specs.declared.Entry.{Entry}
-use Rattle.states.specs.declared.Entry.the-variants.{Nothing, Series, Identification, Object, BusinessType, Interval, Position, Amount}
+use Rattle.states.specs.declared.Entry.the-variants.{Nothing, Series, Interval, Position, Amount}
+use Rattle.states.specs.declared.Entry.the-variants.{Identification as BringsIdentification, Object as BringsObject, BusinessType as BringsBusinessType}
+use Rattle.reader.specs.declared.rows.Brought.{Brought}
+use Rattle.reader.specs.declared.rows.Brought.the-variants.{NoCell, InRow, AtPosition, AtAmount}
 
 -- where the value of `v` stands in the item
 unfoldable pub spanOf : Item → Span
@@ -34,66 +39,76 @@ spanOf (Refused p) = record { start = 0; len = 0 }
 unfoldable pub quoted : Span → List ℕ → List ℕ
 quoted v s = partOf s (v .start) (v .len)
 
--- cell k in the row of the last series; the row of the last interval
-unfoldable pub cell : ℕ → ℕ → ℕ
-cell series k = 8 * (series - 1) + k
+-- the series table after an item at the place `at` that brings a field of the last row; its `v` is in v, and st is the state after it
+unfoldable pub fieldAfter : ℕ → Span → List ℕ → State → Field → List ℕ → List ℕ
+fieldAfter at v s st Identification t = withView t (st .series - 1) Identification (at + v .start) (v .len)
+fieldAfter at v s st Object t = withView t (st .series - 1) Object (at + v .start) (v .len)
+fieldAfter at v s st BusinessType t =
+    withView t (st .series - 1) BusinessType (at + v .start + run space (quoted v s)) (length (dropped (quoted v s)))
+fieldAfter at v s st FirstRow t = withField t (st .series - 1) FirstRow (st .first)
+fieldAfter at v s st Count t = withField t (st .series - 1) Count (st .intervals - st .first)
 
--- start and length in two cells from i on
-unfoldable pub withView : List ℕ → ℕ → ℕ → ℕ → List ℕ
-withView t i start len = set (set t i start) (i + 1) len
-
--- the series table after an item at the place `at`, whose `v` is in v; st is the state after it
-unfoldable pub seriesAfter : ℕ → Span → List ℕ → State → Entry → List ℕ → List ℕ
-seriesAfter at v s st Nothing t = t
-seriesAfter at v s st Series t = set t (cell (st .series) 6) (st .first)
-seriesAfter at v s st Identification t = withView t (cell (st .series) 0) (at + v .start) (v .len)
-seriesAfter at v s st Object t = withView t (cell (st .series) 2) (at + v .start) (v .len)
-seriesAfter at v s st BusinessType t =
-    withView t (cell (st .series) 4) (at + v .start + run space (quoted v s)) (length (dropped (quoted v s)))
-seriesAfter at v s st Interval t = set t (cell (st .series) 7) (st .intervals - st .first)
-seriesAfter at v s st (Position p) t = t
-seriesAfter at v s st Amount t = t
-
-unfoldable pub positionsAfter : State → Entry → List ℕ → List ℕ
-positionsAfter st Nothing t = t
-positionsAfter st Series t = t
-positionsAfter st Identification t = t
-positionsAfter st Object t = t
-positionsAfter st BusinessType t = t
-positionsAfter st Interval t = t
-positionsAfter st (Position p) t = set t (st .intervals - 1) p
-positionsAfter st Amount t = t
+-- what an item brings, by where it goes
+unfoldable pub broughtBy : Entry → Brought
+broughtBy Nothing = NoCell
+broughtBy Series = InRow FirstRow
+broughtBy BringsIdentification = InRow Identification
+broughtBy BringsObject = InRow Object
+broughtBy BringsBusinessType = InRow BusinessType
+broughtBy Interval = InRow Count
+broughtBy (Position p) = AtPosition p
+broughtBy Amount = AtAmount
 
 unfoldable pub thousandthsOf : Read → ℤ
 thousandthsOf (Thousandths a) = a
 thousandthsOf NotAmount = pos 0
 
+-- the three tables after it
+unfoldable pub seriesWith : ℕ → Span → List ℕ → State → Brought → List ℕ → List ℕ
+seriesWith at v s st NoCell t = t
+seriesWith at v s st (InRow f) t = fieldAfter at v s st f t
+seriesWith at v s st (AtPosition p) t = t
+seriesWith at v s st AtAmount t = t
+
+unfoldable pub positionsWith : State → Brought → List ℕ → List ℕ
+positionsWith st NoCell t = t
+positionsWith st (InRow f) t = t
+positionsWith st (AtPosition p) t = set t (st .intervals - 1) p
+positionsWith st AtAmount t = t
+
+unfoldable pub amountsWith : Span → List ℕ → State → Brought → List ℤ → List ℤ
+amountsWith v s st NoCell t = t
+amountsWith v s st (InRow f) t = t
+amountsWith v s st (AtPosition p) t = t
+amountsWith v s st AtAmount t = set t (st .intervals - 1) (thousandthsOf (amountOf (says (dropped (quoted v s)))))
+
+unfoldable pub seriesAfter : ℕ → Span → List ℕ → State → Entry → List ℕ → List ℕ
+seriesAfter at v s st e t = seriesWith at v s st (broughtBy e) t
+
+unfoldable pub positionsAfter : State → Entry → List ℕ → List ℕ
+positionsAfter st e t = positionsWith st (broughtBy e) t
+
 unfoldable pub amountsAfter : Span → List ℕ → State → Entry → List ℤ → List ℤ
-amountsAfter v s st Nothing t = t
-amountsAfter v s st Series t = t
-amountsAfter v s st Identification t = t
-amountsAfter v s st Object t = t
-amountsAfter v s st BusinessType t = t
-amountsAfter v s st Interval t = t
-amountsAfter v s st (Position p) t = t
-amountsAfter v s st Amount t = set t (st .intervals - 1) (thousandthsOf (amountOf (says (dropped (quoted v s)))))
+amountsAfter v s st e t = amountsWith v s st (broughtBy e) t
 
--- the TimeSeriesIdentification that row i of the series table shows
-unfoldable pub identificationAt : List ℕ → List ℕ → ℕ → List ℕ
-identificationAt doc t i = partOf doc (getD t (8 * i) 0) (getD t (8 * i + 1) 0)
-
--- one of the first n rows shows it: "compared byte for byte"
+-- one of the first n rows of the series table shows this TimeSeriesIdentification: "compared byte for byte"
 unfoldable pub used : List ℕ → List ℕ → ℕ → List ℕ → Bool
 used doc t zero id = false
-used doc t (suc n) id = let before = used doc t n id in cond (same (identificationAt doc t n) id) true before
+used doc t (suc n) id = let before = used doc t n id in cond (same (view doc t n Identification) id) true before
 
 -- "9: TimeSeriesIdentification used before in this document": by a series before the last
+unfoldable pub usedIn : List ℕ → List ℕ → Span → List ℕ → ℕ → Field → Bool
+usedIn doc t v s series Identification = used doc t (series - 1) (quoted v s)
+usedIn doc t v s series Object = false
+usedIn doc t v s series BusinessType = false
+usedIn doc t v s series FirstRow = false
+usedIn doc t v s series Count = false
+
+unfoldable pub usedWith : List ℕ → List ℕ → Span → List ℕ → ℕ → Brought → Bool
+usedWith doc t v s series NoCell = false
+usedWith doc t v s series (InRow f) = usedIn doc t v s series f
+usedWith doc t v s series (AtPosition p) = false
+usedWith doc t v s series AtAmount = false
+
 unfoldable pub usedBefore : List ℕ → List ℕ → Span → List ℕ → ℕ → Entry → Bool
-usedBefore doc t v s series Nothing = false
-usedBefore doc t v s series Series = false
-usedBefore doc t v s series Identification = used doc t (series - 1) (quoted v s)
-usedBefore doc t v s series Object = false
-usedBefore doc t v s series BusinessType = false
-usedBefore doc t v s series Interval = false
-usedBefore doc t v s series (Position p) = false
-usedBefore doc t v s series Amount = false
+usedBefore doc t v s series e = usedWith doc t v s series (broughtBy e)

@@ -1,8 +1,8 @@
 // The document reader: a sheet comes in, the lent tables are filled, and a note is written.
 mod rows;
 
-use guideline::rows_one;
-use guideline::rows_two;
+use guideline::every_row;
+use guideline::rows_of;
 use items::Item;
 use items::item_at;
 use lists::clear_bytes;
@@ -11,13 +11,11 @@ use notes::Put;
 use notes::write_note;
 use prolog::Begin;
 use prolog::first_item;
-use rows::enter_amount;
-use rows::enter_position;
-use rows::enter_series;
+use rows::enter;
 use rows::is_used_before;
 use rows::span_of;
+use series::rows_in;
 use slices::rest;
-use states::Entry;
 use states::Room;
 use states::State;
 use states::Step;
@@ -26,17 +24,14 @@ use tables::clear_amounts;
 use tables::clear_numbers;
 use tags::Span;
 ghost use mathlib.Core.Path.{_≡_};
-ghost use Prim.Native.Nat.{_+_, _≤_};
+ghost use Prim.Native.Nat.{_≤_};
 ghost use lib.ListN.{length};
-ghost use Rattle.lists.specs.Zeros.{zeros};
-ghost use Rattle.tables.specs.Cells.{noAmounts};
-ghost use Rattle.items.specs.Item.{itemEnd, itemValue};
+ghost use Rattle.items.specs.Item.{itemEnd};
 ghost use Rattle.notes.specs.Note.{noteOf, left};
-ghost use Rattle.states.specs.Moves.{step};
+ghost use Rattle.states.specs.Moves.{stepBy};
 ghost use Rattle.reader.specs.Items.{passed};
-ghost use Rattle.reader.specs.Rows.{spanOf, seriesAfter, positionsAfter, amountsAfter};
-ghost use Rattle.reader.specs.Reading.{roomOf, refusedAt, acceptedAt, endedAt, withoutUsed, itemsRead, readInto, readSheet};
-ghost use Rattle.reader.specs.Answer.{noteFor, told, readOf};
+ghost use Rattle.reader.specs.Reading.{tab, blankAs, roomOf, refusedAt, acceptedAt, endedAt, withoutUsed, out, itemsRead, readInto, sheetInto};
+ghost use Rattle.reader.specs.Answer.{noteFor, told, outcomeOf, Permitted};
 
 // What the items of a document come to. `quarters` is N.
 struct Found {
@@ -89,14 +84,15 @@ fn is_passed(item: Item) -> bool
 fn room_of(ns: usize, np: usize, na: usize) -> Room
     ensures { λ r. ⌜ r ≡ roomOf ns np na ⌝ }
 {
+    let series = rows_in(ns);
     if np <= na {
         return Room {
-            series: ns / 8,
+            series,
             intervals: np,
         };
     }
     Room {
-        series: ns / 8,
+        series,
         intervals: na,
     }
 }
@@ -127,28 +123,19 @@ fn accepted_at(place: u32, st: State) -> Found
     }
 }
 
-// At the end of the document. `one` and `two` are the rows of the kinds.
-fn ended_at(place: u32, st: State, one: &[usize], two: &[usize]) -> Found
-    ensures { λ r. ⌜ r ≡ endedAt (now (one .entry)) (now (two .entry)) place st ⌝ }
+// At the end of the document. `rows` are the rows of the kind.
+fn ended_at(place: u32, st: State, rows: &[usize]) -> Found
+    ensures { λ r. ⌜ r ≡ endedAt (now (rows .entry)) place st ⌝ }
 {
-    let row = st.row;
-    let inside = st.inside;
-    if st.kind == 1 {
-        if is_over(one, row, inside) {
-            return accepted_at(place, st);
-        }
-        return refused_at(3, place, st);
-    }
-    if is_over(two, row, inside) {
+    if is_over(rows, st.row, st.inside) {
         return accepted_at(place, st);
     }
     refused_at(3, place, st)
 }
 
 fn clear_tables(series: &mut [u32], positions: &mut [u32], amounts: &mut [i64])
-    ensures series { λ _. ⌜ now (series .exit) ≡ zeros (length (now (series .entry))) ⌝ }
-    ensures positions { λ _. ⌜ now (positions .exit) ≡ zeros (length (now (positions .entry))) ⌝ }
-    ensures amounts { λ _. ⌜ now (amounts .exit) ≡ noAmounts (length (now (amounts .entry))) ⌝ }
+    ensures { λ _. ⌜ tab (now (series .exit)) (now (positions .exit)) (now (amounts .exit))
+        ≡ blankAs (tab (now (series .entry)) (now (positions .entry)) (now (amounts .entry))) ⌝ }
 {
     clear_numbers(series);
     clear_numbers(positions);
@@ -156,19 +143,18 @@ fn clear_tables(series: &mut [u32], positions: &mut [u32], amounts: &mut [i64])
 }
 
 // An item moves the state, or is refused.
-fn step_in<'a>(
+fn step_in(
     doc: &[u8],
     t: &[u32],
     room: Room,
     item: Item,
     s: &[u8],
     st: State,
-    one: &'a [usize],
-    two: &'a [usize],
+    rows: &[usize],
 ) -> Step
-    ensures { λ r. ⌜ r ≡ withoutUsed (now (doc .entry)) (now (t .entry)) item (now (s .entry)) (step st (now (one .entry)) (now (two .entry)) item (now (s .entry)) room) ⌝ }
+    ensures { λ r. ⌜ r ≡ withoutUsed (now (doc .entry)) (now (t .entry)) item (now (s .entry)) (stepBy st (now (rows .entry)) item (now (s .entry)) room) ⌝ }
 {
-    match st.step(one, two, item, s, room) {
+    match st.step(rows, item, s, room) {
         Step::Next(next, entry) => {
             if is_used_before(doc, t, span_of(item), s, next.series, entry) {
                 return Step::Refused(9);
@@ -177,28 +163,6 @@ fn step_in<'a>(
         }
         Step::Refused(n) => Step::Refused(n),
     }
-}
-
-// What an item brings into the tables; st is the state after it.
-fn enter(
-    series: &mut [u32],
-    positions: &mut [u32],
-    amounts: &mut [i64],
-    at: usize,
-    item: Item,
-    s: &[u8],
-    st: State,
-    entry: Entry,
-)
-    requires { ⌜ at + itemValue item ≤ 4294967295 ⌝ }
-    ensures series { λ _. ⌜ now (series .exit) ≡ seriesAfter at (spanOf item) (now (s .entry)) st entry (now (series .entry)) ⌝ }
-    ensures positions { λ _. ⌜ now (positions .exit) ≡ positionsAfter st entry (now (positions .entry)) ⌝ }
-    ensures amounts { λ _. ⌜ now (amounts .exit) ≡ amountsAfter (spanOf item) (now (s .entry)) st entry (now (amounts .entry)) ⌝ }
-{
-    let v = span_of(item);
-    enter_series(series, at, v, s, st, entry);
-    enter_position(positions, st, entry);
-    enter_amount(amounts, v, s, st, entry);
 }
 
 // The items from the place `from` on, into tables that are blank.
@@ -210,13 +174,10 @@ fn read_items(
     amounts: &mut [i64],
 ) -> Found
     requires { ⌜ length (now doc) ≤ 1048576 ⌝ }
-    ensures found { λ r. ⌜ r ≡ itemsRead (now (doc .entry)) from (record { series = now (series .entry); positions = now (positions .entry); amounts = now (amounts .entry) }) .found ⌝ }
-    ensures series { λ _. ⌜ now (series .exit) ≡ itemsRead (now (doc .entry)) from (record { series = now (series .entry); positions = now (positions .entry); amounts = now (amounts .entry) }) .tables .series ⌝ }
-    ensures positions { λ _. ⌜ now (positions .exit) ≡ itemsRead (now (doc .entry)) from (record { series = now (series .entry); positions = now (positions .entry); amounts = now (amounts .entry) }) .tables .positions ⌝ }
-    ensures amounts { λ _. ⌜ now (amounts .exit) ≡ itemsRead (now (doc .entry)) from (record { series = now (series .entry); positions = now (positions .entry); amounts = now (amounts .entry) }) .tables .amounts ⌝ }
+    ensures { λ r. ⌜ out r (now (series .exit)) (now (positions .exit)) (now (amounts .exit))
+        ≡ itemsRead (now (doc .entry)) from (tab (now (series .entry)) (now (positions .entry)) (now (amounts .entry))) ⌝ }
 {
-    let one = rows_one();
-    let two = rows_two();
+    let rows = every_row();
     let room = room_of(series.len(), positions.len(), amounts.len());
     let mut st = State::begin();
     let mut at = from;
@@ -230,7 +191,7 @@ fn read_items(
             at += item_len(item);
             continue;
         }
-        match step_in(doc, series, room, item, s, st, &one, &two) {
+        match step_in(doc, series, room, item, s, st, &rows) {
             Step::Next(next, entry) => {
                 enter(series, positions, amounts, at, item, s, next, entry);
                 st = next;
@@ -239,16 +200,14 @@ fn read_items(
         }
         at += item_len(item);
     }
-    ended_at(doc.len() as u32, st, &one, &two)
+    ended_at(doc.len() as u32, st, rows_of(&rows, st.kind))
 }
 
 // From the first item on, or not at all where the XML declaration is unreadable.
 fn read_all(doc: &[u8], series: &mut [u32], positions: &mut [u32], amounts: &mut [i64]) -> Found
     requires { ⌜ length (now doc) ≤ 1048576 ⌝ }
-    ensures found { λ r. ⌜ r ≡ readInto (now (doc .entry)) (record { series = now (series .entry); positions = now (positions .entry); amounts = now (amounts .entry) }) .found ⌝ }
-    ensures series { λ _. ⌜ now (series .exit) ≡ readInto (now (doc .entry)) (record { series = now (series .entry); positions = now (positions .entry); amounts = now (amounts .entry) }) .tables .series ⌝ }
-    ensures positions { λ _. ⌜ now (positions .exit) ≡ readInto (now (doc .entry)) (record { series = now (series .entry); positions = now (positions .entry); amounts = now (amounts .entry) }) .tables .positions ⌝ }
-    ensures amounts { λ _. ⌜ now (amounts .exit) ≡ readInto (now (doc .entry)) (record { series = now (series .entry); positions = now (positions .entry); amounts = now (amounts .entry) }) .tables .amounts ⌝ }
+    ensures { λ r. ⌜ out r (now (series .exit)) (now (positions .exit)) (now (amounts .exit))
+        ≡ readInto (now (doc .entry)) (tab (now (series .entry)) (now (positions .entry)) (now (amounts .entry))) ⌝ }
 {
     match first_item(doc) {
         Begin::From(n) => read_items(doc, n, series, positions, amounts),
@@ -258,10 +217,8 @@ fn read_all(doc: &[u8], series: &mut [u32], positions: &mut [u32], amounts: &mut
 
 // The tables are blank where the document is refused.
 fn read_sheet(doc: &[u8], series: &mut [u32], positions: &mut [u32], amounts: &mut [i64]) -> Found
-    ensures found { λ r. ⌜ r ≡ readSheet (now (doc .entry)) (length (now (series .entry))) (length (now (positions .entry))) (length (now (amounts .entry))) .found ⌝ }
-    ensures series { λ _. ⌜ now (series .exit) ≡ readSheet (now (doc .entry)) (length (now (series .entry))) (length (now (positions .entry))) (length (now (amounts .entry))) .tables .series ⌝ }
-    ensures positions { λ _. ⌜ now (positions .exit) ≡ readSheet (now (doc .entry)) (length (now (series .entry))) (length (now (positions .entry))) (length (now (amounts .entry))) .tables .positions ⌝ }
-    ensures amounts { λ _. ⌜ now (amounts .exit) ≡ readSheet (now (doc .entry)) (length (now (series .entry))) (length (now (positions .entry))) (length (now (amounts .entry))) .tables .amounts ⌝ }
+    ensures { λ r. ⌜ out r (now (series .exit)) (now (positions .exit)) (now (amounts .exit))
+        ≡ sheetInto (now (doc .entry)) (tab (now (series .entry)) (now (positions .entry)) (now (amounts .entry))) ⌝ }
 {
     clear_tables(series, positions, amounts);
     if 1048576 < doc.len() {
@@ -312,11 +269,9 @@ pub fn read(
     amounts: &mut [i64],
     note: &mut [u8],
 ) -> Answer
-    ensures answer { λ r. ⌜ r ≡ readOf (now (doc .entry)) (length (now (series .entry))) (length (now (positions .entry))) (length (now (amounts .entry))) (length (now (note .entry))) .answer ⌝ }
-    ensures series { λ _. ⌜ now (series .exit) ≡ readOf (now (doc .entry)) (length (now (series .entry))) (length (now (positions .entry))) (length (now (amounts .entry))) (length (now (note .entry))) .tables .series ⌝ }
-    ensures positions { λ _. ⌜ now (positions .exit) ≡ readOf (now (doc .entry)) (length (now (series .entry))) (length (now (positions .entry))) (length (now (amounts .entry))) (length (now (note .entry))) .tables .positions ⌝ }
-    ensures amounts { λ _. ⌜ now (amounts .exit) ≡ readOf (now (doc .entry)) (length (now (series .entry))) (length (now (positions .entry))) (length (now (amounts .entry))) (length (now (note .entry))) .tables .amounts ⌝ }
-    ensures note { λ _. ⌜ now (note .exit) ≡ readOf (now (doc .entry)) (length (now (series .entry))) (length (now (positions .entry))) (length (now (amounts .entry))) (length (now (note .entry))) .note ⌝ }
+    ensures { λ r. ⌜ Permitted
+        (outcomeOf (now (doc .entry)) (now (series .entry)) (now (positions .entry)) (now (amounts .entry)) (now (note .entry)))
+        r (now (series .exit)) (now (positions .exit)) (now (amounts .exit)) (now (note .exit)) ⌝ }
 {
     if note.len() < 16 {
         clear_tables(series, positions, amounts);

@@ -3,6 +3,10 @@ use attributes::part;
 use items::Item;
 use numbers::Amount;
 use numbers::amount_of;
+use series::Field;
+use series::set_field;
+use series::set_view;
+use series::view_of;
 use slices::is_same;
 use states::Entry;
 use states::State;
@@ -13,15 +17,42 @@ use tags::Span;
 use trims::leading_spaces;
 use trims::trimmed;
 ghost use mathlib.Core.Path.{_≡_};
-ghost use Prim.Native.Nat.{_+_, _-_, _*_, _≤_};
-ghost use lib.ListN.{getD, length};
+ghost use Prim.Native.Nat.{_+_, _-_, _≤_};
+ghost use lib.ListN.{length};
 ghost use Rattle.slices.specs.Bytes.{byte};
 ghost use Rattle.slices.specs.Run.{run};
 ghost use Rattle.slices.specs.Same.{same};
 ghost use Rattle.characters.specs.Says.{says};
 ghost use Rattle.trims.specs.Trim.{space, dropped};
+ghost use Rattle.items.specs.Item.{itemValue};
 ghost use Rattle.numbers.specs.Amount.{amountOf};
-ghost use Rattle.reader.specs.Rows.{spanOf, quoted, cell, withView, seriesAfter, positionsAfter, thousandthsOf, amountsAfter, identificationAt, used, usedBefore};
+ghost use Rattle.series.specs.declared.Field.the-variants.{Identification};
+ghost use Rattle.series.specs.Row.{withView, view};
+ghost use Rattle.reader.specs.Rows.{broughtBy, spanOf, quoted, fieldAfter, thousandthsOf, used, usedIn, usedBefore};
+ghost use Rattle.reader.specs.Reading.{tab, tablesAfter};
+
+// What an item brings, by where it goes: a field of its series' row, or the position or the amount of its interval's.
+enum Brought {
+    NoCell,
+    InRow(Field),
+    AtPosition(u32),
+    AtAmount,
+}
+
+fn brought_by(entry: Entry) -> Brought
+    ensures { λ r. ⌜ r ≡ broughtBy entry ⌝ }
+{
+    match entry {
+        Entry::Nothing => Brought::NoCell,
+        Entry::Series => Brought::InRow(Field::FirstRow),
+        Entry::Identification => Brought::InRow(Field::Identification),
+        Entry::Object => Brought::InRow(Field::Object),
+        Entry::BusinessType => Brought::InRow(Field::BusinessType),
+        Entry::Interval => Brought::InRow(Field::Count),
+        Entry::Position(p) => Brought::AtPosition(p),
+        Entry::Amount => Brought::AtAmount,
+    }
+}
 
 pub(crate) fn span_of(item: Item) -> Span
     ensures { λ r. ⌜ r ≡ spanOf item ⌝ }
@@ -53,77 +84,39 @@ fn last_of(n: u32) -> u32
     n - 1
 }
 
-// Cell k of the row of the last series.
-fn cell_of(series: u32, k: u32) -> usize
-    ensures cell { λ r. ⌜ r ≡ cell series k ⌝ }
-    ensures size { λ r. ⌜ r ≤ 8 * 4294967295 + 4294967295 ⌝ }
-{
-    let row = last_of(series) as usize;
-    8 * row + k as usize
-}
-
-fn set_view(t: &mut [u32], series: u32, k: u32, start: usize, len: usize)
-    requires { ⌜ start + len ≤ 4294967295 ⌝ }
-    ensures { λ _. ⌜ now (t .exit) ≡ withView (now (t .entry)) (cell series k) start len ⌝ }
-{
-    let i = cell_of(series, k);
-    set_number(t, i, start as u32);
-    set_number(t, i + 1, len as u32);
-}
-
-// Of BusinessType "spaces dropped"; its value is b, which starts at the place `at`.
-fn set_trimmed(t: &mut [u32], series: u32, at: usize, b: &[u8])
+// A view with "spaces dropped"; its value is b, which starts at the place `at`.
+fn set_trimmed(t: &mut [u32], row: u32, f: Field, at: usize, b: &[u8])
     requires { ⌜ at + length (now b) ≤ 4294967295 ⌝ }
-    ensures { λ _. ⌜ now (t .exit) ≡ withView (now (t .entry)) (cell series 4) (at + run space (now (b .entry))) (length (dropped (now (b .entry)))) ⌝ }
+    ensures { λ _. ⌜ now (t .exit) ≡ withView (now (t .entry)) row f (at + run space (now (b .entry))) (length (dropped (now (b .entry)))) ⌝ }
 {
     let from = at + leading_spaces(b);
     let len = trimmed(b).len();
-    set_view(t, series, 4, from, len);
+    set_view(t, row, f, from as u32, len as u32);
 }
 
-// The series table; st is the state after the item, which is at the place `at`, and v the value in it.
-pub(crate) fn enter_series(t: &mut [u32], at: usize, v: Span, s: &[u8], st: State, entry: Entry)
+// A field of the row of the last series; st is the state after the item, which is at the place `at`, and v the value in it.
+fn enter_field(t: &mut [u32], at: usize, v: Span, s: &[u8], st: State, f: Field)
     requires { ⌜ at + (v .start + v .len) ≤ 4294967295 ⌝ }
-    ensures { λ _. ⌜ now (t .exit) ≡ seriesAfter at v (now (s .entry)) st entry (now (t .entry)) ⌝ }
+    ensures { λ _. ⌜ now (t .exit) ≡ fieldAfter at v (now (s .entry)) st f (now (t .entry)) ⌝ }
 {
+    let row = last_of(st.series);
     let from = at + v.start;
-    match entry {
-        Entry::Nothing => {}
-        Entry::Series => {
-            set_number(t, cell_of(st.series, 6), st.first);
+    match f {
+        Field::Identification => {
+            set_view(t, row, Field::Identification, from as u32, v.len as u32);
         }
-        Entry::Identification => {
-            set_view(t, st.series, 0, from, v.len);
+        Field::Object => {
+            set_view(t, row, Field::Object, from as u32, v.len as u32);
         }
-        Entry::Object => {
-            set_view(t, st.series, 2, from, v.len);
+        Field::BusinessType => {
+            set_trimmed(t, row, Field::BusinessType, from, quoted_of(v, s));
         }
-        Entry::BusinessType => {
-            set_trimmed(t, st.series, from, quoted_of(v, s));
+        Field::FirstRow => {
+            set_field(t, row, Field::FirstRow, st.first);
         }
-        Entry::Interval => {
-            set_number(t, cell_of(st.series, 7), count_of(st.intervals, st.first));
+        Field::Count => {
+            set_field(t, row, Field::Count, count_of(st.intervals, st.first));
         }
-        Entry::Position(_) => {}
-        Entry::Amount => {}
-    }
-}
-
-// The position table; st is the state after the item.
-pub(crate) fn enter_position(t: &mut [u32], st: State, entry: Entry)
-    ensures { λ _. ⌜ now (t .exit) ≡ positionsAfter st entry (now (t .entry)) ⌝ }
-{
-    match entry {
-        Entry::Nothing => {}
-        Entry::Series => {}
-        Entry::Identification => {}
-        Entry::Object => {}
-        Entry::BusinessType => {}
-        Entry::Interval => {}
-        Entry::Position(p) => {
-            set_number(t, last_of(st.intervals) as usize, p);
-        }
-        Entry::Amount => {}
     }
 }
 
@@ -136,32 +129,36 @@ fn thousandths_of(v: &[u8]) -> i64
     }
 }
 
-// The amount table; st is the state after the item, and v the value in it.
-pub(crate) fn enter_amount(t: &mut [i64], v: Span, s: &[u8], st: State, entry: Entry)
-    ensures { λ _. ⌜ now (t .exit) ≡ amountsAfter v (now (s .entry)) st entry (now (t .entry)) ⌝ }
+// What the item at the place `at` brings into the tables; st is the state after it.
+pub(crate) fn enter(
+    series: &mut [u32],
+    positions: &mut [u32],
+    amounts: &mut [i64],
+    at: usize,
+    item: Item,
+    s: &[u8],
+    st: State,
+    entry: Entry,
+)
+    requires { ⌜ at + itemValue item ≤ 4294967295 ⌝ }
+    ensures { λ _. ⌜ tab (now (series .exit)) (now (positions .exit)) (now (amounts .exit))
+        ≡ tablesAfter (record { at = at; item = item; rest = now (s .entry) }) st entry
+        (tab (now (series .entry)) (now (positions .entry)) (now (amounts .entry))) ⌝ }
 {
-    match entry {
-        Entry::Nothing => {}
-        Entry::Series => {}
-        Entry::Identification => {}
-        Entry::Object => {}
-        Entry::BusinessType => {}
-        Entry::Interval => {}
-        Entry::Position(_) => {}
-        Entry::Amount => {
-            set_amount(
-                t,
-                last_of(st.intervals) as usize,
-                thousandths_of(trimmed(quoted_of(v, s))),
-            );
+    let v = span_of(item);
+    let row = last_of(st.intervals) as usize;
+    match brought_by(entry) {
+        Brought::NoCell => {}
+        Brought::InRow(f) => {
+            enter_field(series, at, v, s, st, f);
+        }
+        Brought::AtPosition(p) => {
+            set_number(positions, row, p);
+        }
+        Brought::AtAmount => {
+            set_amount(amounts, row, thousandths_of(trimmed(quoted_of(v, s))));
         }
     }
-}
-
-fn number_at(t: &[u32], i: usize) -> u32
-    ensures { λ r. ⌜ r ≡ getD (now (t .entry)) i 0 ⌝ }
-{
-    if i < t.len() { t[i] } else { 0 }
 }
 
 fn last_byte(s: &[u8]) -> u8
@@ -175,16 +172,10 @@ fn last_byte(s: &[u8]) -> u8
 
 // Whether row i shows this identification. Those of one document mostly differ at the end, so that is looked at first.
 fn is_shown(doc: &[u8], t: &[u32], i: u32, id: &[u8]) -> bool
-    ensures { λ r. ⌜ r ≡ same (identificationAt (now (doc .entry)) (now (t .entry)) i) (now (id .entry)) ⌝ }
+    ensures { λ r. ⌜ r ≡ same (view (now (doc .entry)) (now (t .entry)) i Identification) (now (id .entry)) ⌝ }
 {
-    let k = 8 * (i as usize);
-    let start = number_at(t, k) as usize;
-    let len = number_at(t, k + 1) as usize;
-    let shown = part(doc, start, len);
-    if last_byte(shown) == last_byte(id) {
-        return is_same(shown, id);
-    }
-    false
+    let shown = view_of(doc, t, i, Field::Identification);
+    last_byte(shown) == last_byte(id) && is_same(shown, id)
 }
 
 // Whether one of the first n rows shows this identification.
@@ -201,6 +192,19 @@ fn is_used(doc: &[u8], t: &[u32], n: u32, id: &[u8]) -> bool
     false
 }
 
+// Whether a field of the row of this many series, with v in the item, brings an identification that a series before has.
+fn is_used_in(doc: &[u8], t: &[u32], v: Span, s: &[u8], series: u32, f: Field) -> bool
+    ensures { λ r. ⌜ r ≡ usedIn (now (doc .entry)) (now (t .entry)) v (now (s .entry)) series f ⌝ }
+{
+    match f {
+        Field::Identification => is_used(doc, t, last_of(series), quoted_of(v, s)),
+        Field::Object => false,
+        Field::BusinessType => false,
+        Field::FirstRow => false,
+        Field::Count => false,
+    }
+}
+
 // Whether the item, with v in it, brings an identification that a series before this one has.
 pub(crate) fn is_used_before(
     doc: &[u8],
@@ -212,14 +216,10 @@ pub(crate) fn is_used_before(
 ) -> bool
     ensures { λ r. ⌜ r ≡ usedBefore (now (doc .entry)) (now (t .entry)) v (now (s .entry)) series entry ⌝ }
 {
-    match entry {
-        Entry::Nothing => false,
-        Entry::Series => false,
-        Entry::Identification => is_used(doc, t, last_of(series), quoted_of(v, s)),
-        Entry::Object => false,
-        Entry::BusinessType => false,
-        Entry::Interval => false,
-        Entry::Position(_) => false,
-        Entry::Amount => false,
+    match brought_by(entry) {
+        Brought::NoCell => false,
+        Brought::InRow(f) => is_used_in(doc, t, v, s, series, f),
+        Brought::AtPosition(_) => false,
+        Brought::AtAmount => false,
     }
 }

@@ -7,10 +7,10 @@
 use mathlib.Core.Path.{_≡_, refl, ap, sym, _∙_}
 use mathlib.Core.List.{List, [], _∷_}
 use mathlib.Core.Logic.{⊎-elim}
-use Prim.Native.Nat.{ℕ, _+_, _≤_, _<_, min}
+use Prim.Native.Nat.{ℕ, _+_, _≤_, _<_}
 use native.Mathlib.Omega.{arith}
 use lib.ListN.{length, take, drop, length-append, length-take, length-replicate}
-use lib.Seq.{sets, sets-eq, take-at}
+use lib.Seq.{sets-eq, take-at}
 use Rattle.lists.proofs.Cases.{leb-cases, ltb-cases}
 use Rattle.lists.proofs.Zeros.{length-padded}
 use Rattle.slices.specs.Same.{same, begins}
@@ -21,12 +21,13 @@ use Rattle.guideline.specs.Rows.{kostenblatt, rowsOf}
 use Rattle.prolog.specs.Prolog.{markLen, beginAfter, begin}
 use Rattle.states.specs.Moves.{begun}
 use Rattle.notes.specs.Note.{groupsIn, flat, noteOf, wrote, left}
+use Rattle.series.specs.Row.{cellsOf}
 use Rattle.reader.specs.Items.{itemsAfter, itemsFrom}
 use Rattle.reader.specs.Reading.{blank, refusedAt, acceptedAt, endedAt, readItems, itemsRead, readAfter, readInto, orBlank, readSheet}
 use Rattle.reader.specs.Answer.{noteFor, answerOf, told, noted, readOf}
 use Rattle.lines.specs.Text.{glyphOf, hexText}
 use Rattle.lines.proofs.Hex.{hex-size}
-use Rattle.replies.specs.Reply.{lineFor, noteIn, replyTo}
+use Rattle.replies.specs.Reply.{lineFor, noteIn, replyTo, PermittedReply}
 use Rattle.replies.proofs.Replies.{reply-long, reply-note}
 
 -- "Empty input prints exactly `03 00 00 00 00`."
@@ -59,16 +60,15 @@ reply-fits input =
     ⊎-elim
     (λ y. rw (reply-long input (y .0)) (line-size _ (omega arith)))
     (λ y.
-    let w = noteIn (readOf input 512 2048 2048 16) in
-    rw (reply-note input (y .0)) (line-size (hexText w) (omega (arith, hex-size w, note-size input 512 2048 2048))))
+    let w = noteIn (readOf input (cellsOf 64) 2048 2048 16) in
+    rw (reply-note input (y .0)) (line-size (hexText w) (omega (arith, hex-size w, note-size input (cellsOf 64) 2048 2048))))
     (ltb-cases 65536 (length input))
 
 -- n and out′ are what `put_reply` answers and leaves
-pub reply-whole : (input out out′ : List ℕ) (n : ℕ) → 48 ≤ length out → n ≡ min (length (replyTo input)) (length out) → out′ ≡ sets out 0 (replyTo input)
-    → take n out′ ≡ replyTo input
-reply-whole input out out′ n h en eo =
+pub reply-whole : (input out out′ : List ℕ) (n : ℕ) → 48 ≤ length out → PermittedReply (replyTo input) out n out′ → take n out′ ≡ replyTo input
+reply-whole input out out′ n h p =
     let w = replyTo input in
     let f = reply-fits input in
-    let k : n ≡ length w = omega (arith, f) in
+    let k : n ≡ length w = omega (arith, f, p .counted) in
     let g : 0 + length w ≤ length out = omega (arith, f) in
-    ap (take n) (eo ∙ sets-eq w out 0 g) ∙ take-at w (drop (0 + length w) out) n (sym k)
+    ap (take n) (p .text ∙ sets-eq w out 0 g) ∙ take-at w (drop (0 + length w) out) n (sym k)

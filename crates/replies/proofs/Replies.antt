@@ -10,15 +10,11 @@ use lib.Seq.{sets, length-sets, set-out, length-take-le}
 use borrow.Author.Tests.{lt-ltb, le-ltb}
 use Rattle.lists.proofs.Stores.{sets-more}
 use Rattle.lists.proofs.Cases.{leb-cases}
-use Rattle.io.specs.Counts.{Counts}
 use Rattle.slices.specs.Text.{text}
 use Rattle.lines.specs.Text.{hexText}
+use Rattle.series.specs.Row.{cellsOf}
 use Rattle.reader.specs.Answer.{Outcome, readOf}
-use Rattle.replies.specs.Reply.{lineFor, noteIn, replyTo}
-
--- what the contract says of w: the count, the buffer, and that the count lies within it
-abbrev pub Shows : List ℕ → List ℕ → ℕ → List ℕ → Type 0
-Shows w out₀ m out = (m ≡ min (length w) (length out₀)) × ((out ≡ sets out₀ 0 w) × Counts m out)
+use Rattle.replies.specs.Reply.{lineFor, noteIn, replyTo, PermittedReply}
 
 -- a byte after w, dropped where w fills the buffer
 byte-more : (w out : List ℕ) (n b : ℕ) → n ≡ min (length w) (length out) → set (sets out 0 w) n b ≡ sets out 0 (w ++ (b ∷ []))
@@ -33,15 +29,17 @@ byte-more w out n b e =
 
 -- w is put, and then "one newline"
 pub put-line : (w out₀ out l : List ℕ) (n m : ℕ) → n ≡ min (length w) (length out₀) → out ≡ sets out₀ 0 w → m ≡ min (n + 1) (length out) → l ≡ set out n 10
-    → Shows (lineFor w) out₀ m l
+    → PermittedReply (lineFor w) out₀ m l
 unfolding lineFor
 put-line w out₀ out l n m en eo em el =
     let o : length out ≡ length out₀ = ap length eo ∙ length-sets out₀ 0 w in
     let q : length l ≡ length out = ap length el ∙ length-set out n 10 in
-    let h : m ≤ length l = omega (arith, em, q) in (
-      omega (arith, en, em, o, length-append w (10 ∷ [])),
-      (el ∙ ap (λ (t : List ℕ). set t n 10) eo ∙ byte-more w out₀ n 10 en, (h, sym (length-take-le m l h))),
-    )
+    let h : m ≤ length l = omega (arith, em, q) in
+    record {
+      counted = omega (arith, en, em, o, length-append w (10 ∷ []));
+      text = el ∙ ap (λ (t : List ℕ). set t n 10) eo ∙ byte-more w out₀ n 10 en;
+      room = (h, sym (length-take-le m l h));
+    }
 
 -- the part of the buffer that is the note
 pub note-part : (o : Outcome) (n : ℕ) (note part : List ℕ) → n ≡ o .answer .note → note ≡ o .note → part ≡ take n note → part ≡ noteIn o
@@ -52,6 +50,6 @@ pub reply-long : (input : List ℕ) → 65536 < length input → replyTo input �
 unfolding replyTo
 reply-long input h = simp (lt-ltb _ _ h)
 
-pub reply-note : (input : List ℕ) → length input ≤ 65536 → replyTo input ≡ lineFor (hexText (noteIn (readOf input 512 2048 2048 16)))
+pub reply-note : (input : List ℕ) → length input ≤ 65536 → replyTo input ≡ lineFor (hexText (noteIn (readOf input (cellsOf 64) 2048 2048 16)))
 unfolding replyTo
 reply-note input h = simp (le-ltb _ _ h)

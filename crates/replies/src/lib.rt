@@ -1,22 +1,21 @@
 // What the program prints for its input: the note of a document as a line, or that the input is too long.
 ghost use mathlib.Core.Path.{_≡_};
-ghost use Prim.Native.Nat.{min};
 ghost use lib.ListN.{length};
-ghost use lib.Seq.{sets};
-ghost use Rattle.io.specs.Counts.{Counts};
+ghost use Rattle.series.specs.Row.{cellsOf};
 ghost use Rattle.reader.specs.Answer.{readOf};
-ghost use Rattle.replies.specs.Reply.{replyTo};
+ghost use Rattle.replies.specs.Reply.{replyTo, PermittedReply};
 use lines::put_byte;
 use lines::put_hex;
 use lines::put_text;
+use series::WIDTH;
 use slices::front;
 
 // Writes the note of a document, read into tables of "64 series and 2,048 intervals", and answers the note's length.
 fn put_note(doc: &[u8], note: &mut [u8]) -> usize
-    ensures count { λ r. ⌜ r ≡ readOf (now (doc .entry)) 512 2048 2048 (length (now (note .entry))) .answer .note ⌝ }
-    ensures note { λ _. ⌜ now (note .exit) ≡ readOf (now (doc .entry)) 512 2048 2048 (length (now (note .entry))) .note ⌝ }
+    ensures count { λ r. ⌜ r ≡ readOf (now (doc .entry)) (cellsOf 64) 2048 2048 (length (now (note .entry))) .answer .note ⌝ }
+    ensures note { λ _. ⌜ now (note .exit) ≡ readOf (now (doc .entry)) (cellsOf 64) 2048 2048 (length (now (note .entry))) .note ⌝ }
 {
-    let mut series = [0u32; 512];
+    let mut series = [0u32; 64 * WIDTH];
     let mut positions = [0u32; 2048];
     let mut amounts = [0i64; 2048];
     let answer = reader::read(doc, &mut series, &mut positions, &mut amounts, note);
@@ -26,9 +25,7 @@ fn put_note(doc: &[u8], note: &mut [u8]) -> usize
 // Puts what the program prints for an input at the start of out, as much as it has room for, and answers how many characters.
 // Ruled out: the zeros past the note printed as a part of it, and 65,536 bytes taken as too long.
 pub fn put_reply(input: &[u8], out: &mut [u8]) -> usize
-    ensures count { λ r. ⌜ r ≡ min (length (replyTo (now (input .entry)))) (length (now (out .entry))) ⌝ }
-    ensures text { λ _. ⌜ now (out .exit) ≡ sets (now (out .entry)) 0 (replyTo (now (input .entry))) ⌝ }
-    ensures room { λ r. ⌜ Counts r (now (out .exit)) ⌝ }
+    ensures { λ r. ⌜ PermittedReply (replyTo (now (input .entry))) (now (out .entry)) r (now (out .exit)) ⌝ }
 {
     if 65536 < input.len() {
         return put_text(b"too long\n", out);

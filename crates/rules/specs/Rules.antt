@@ -1,9 +1,25 @@
--- What a value has to be, by the number of its form in the guideline, and the refusal where it is not. Every rule takes what the value
+-- What a value has to be, by its form in the guideline, and the refusal where it is not. Every rule takes what the value
 -- says and the values before it, and no document.
 use Prim.Native.Nat.{ℕ, _+_, _-_}
 use mathlib.Core.List.{List}
 use mathlib.Core.Bool.{Bool, true, false, cond}
 use lib.Dec.{leb, ltb, eqb}
+use Rattle.columns.specs.Columns.{
+  identificationForm,
+  seriesIdForm,
+  partnerForm,
+  versionForm,
+  dateTimeForm,
+  periodForm,
+  intervalForm,
+  resolutionForm,
+  posForm,
+  amountForm,
+  objectForm,
+  partyForm,
+  inList,
+}
+use Rattle.guideline.specs.Kinds.{kindAt}
 use Rattle.codes.specs.Lists.{listed, codesOf}
 use Rattle.forms.specs.Forms.{identification, marketPartner, resourceObject, party, quarterHour}
 use Rattle.numbers.specs.Number.{numberOf}
@@ -37,27 +53,26 @@ amountBy NotAmount = false
 unfoldable pub amount : List ℕ → Bool
 amount cs = amountBy (amountOf cs)
 
--- "6: value against its form or fixed value; 7: value outside its code list": "A value with a code list is judged by that list alone".
--- The forms have the numbers of the guideline's rows.
+-- "6: value against its form or fixed value; 7: value outside its code list": "A value with a code list is judged by that list alone"
 unfoldable pub formRefusal : ℕ → List ℕ → ℕ
 formRefusal form cs =
-    cond (eqb form 1) (unless 6 (identification cs))
-    (cond (eqb form 2) (unless 6 (identification cs))
-    (cond (eqb form 3) (unless 6 (marketPartner cs))
-    (cond (eqb form 4) (unless 6 (version cs))
-    (cond (eqb form 5) (unless 6 (dateTime cs))
-    (cond (eqb form 10) (unless 6 (amount cs))
-    (cond (eqb form 11) (unless 6 (resourceObject cs))
-    (cond (eqb form 12) (unless 6 (party cs))
-    (cond (leb 32 form) (unless 7 (listed (codesOf (form - 32)) cs)) 0))))))))
+    cond (eqb form identificationForm) (unless 6 (identification cs))
+    (cond (eqb form seriesIdForm) (unless 6 (identification cs))
+    (cond (eqb form partnerForm) (unless 6 (marketPartner cs))
+    (cond (eqb form versionForm) (unless 6 (version cs))
+    (cond (eqb form dateTimeForm) (unless 6 (dateTime cs))
+    (cond (eqb form amountForm) (unless 6 (amount cs))
+    (cond (eqb form objectForm) (unless 6 (resourceObject cs))
+    (cond (eqb form partyForm) (unless 6 (party cs))
+    (cond (leb inList form) (unless 7 (listed (codesOf (form - inList)) cs)) 0))))))))
 
 -- the number alone, 0 for a value that is taken
 abbrev pub refused : ℕ → Judged
 refused number = record { number = number; first = 0; second = 0 }
 
--- TimePeriodCovered, by kind
+-- TimePeriodCovered: a delivery day, or whole quarter hours
 unfoldable pub periodFits : ℕ → ℕ → ℕ → Bool
-periodFits kind from to = cond (eqb kind 1) (dayPeriod from to) (costPeriod from to)
+periodFits kind from to = cond (kindAt kind .daily) (dayPeriod from to) (costPeriod from to)
 
 unfoldable pub judgePeriodBy : ℕ → Interval → Judged
 judgePeriodBy kind (Minutes from to) =
@@ -81,7 +96,7 @@ judgeInterval from to cs = judgeIntervalBy from to (interval cs)
 unfoldable pub positionFits : ℕ → ℕ → ℕ → ℕ → Bool
 positionFits kind quarters last p =
     cond (ltb quarters p) false
-    (cond (eqb kind 1) (eqb p (last + 1))
+    (cond (kindAt kind .counted) (eqb p (last + 1))
     (cond (eqb last 0) (eqb p 1) (ltb last p)))
 
 unfoldable pub judgePositionBy : ℕ → ℕ → ℕ → Number → Judged
@@ -92,11 +107,11 @@ judgePositionBy kind quarters last NotNumber = refused 6
 unfoldable pub judgePosition : ℕ → ℕ → ℕ → List ℕ → Judged
 judgePosition kind quarters last cs = judgePositionBy kind quarters last (numberOf cs 5)
 
--- a value by its form: 6 TimePeriodCovered, 7 TimeInterval, 8 Resolution ("any other is refusal 8"), 9 Pos, and those with a form alone
+-- a value by its form: TimePeriodCovered, TimeInterval, Resolution ("any other is refusal 8"), Pos, and those with a form alone
 unfoldable pub judge : ℕ → Held → List ℕ → Judged
 judge form h cs =
-    cond (eqb form 6) (judgePeriod (h .kind) cs)
-    (cond (eqb form 7) (judgeInterval (h .from) (h .to) cs)
-    (cond (eqb form 8) (refused (unless 8 (quarterHour cs)))
-    (cond (eqb form 9) (judgePosition (h .kind) (h .quarters) (h .last) cs)
+    cond (eqb form periodForm) (judgePeriod (h .kind) cs)
+    (cond (eqb form intervalForm) (judgeInterval (h .from) (h .to) cs)
+    (cond (eqb form resolutionForm) (refused (unless 8 (quarterHour cs)))
+    (cond (eqb form posForm) (judgePosition (h .kind) (h .quarters) (h .last) cs)
     (refused (formRefusal form cs)))))

@@ -1,10 +1,24 @@
 // What a row of the guideline asks of a value: its form or code list, and the values that it is held against.
 use codes::is_listed;
+use columns::AMOUNT_FORM;
+use columns::DATE_TIME_FORM;
+use columns::IDENTIFICATION_FORM;
+use columns::IN_LIST;
+use columns::INTERVAL_FORM;
+use columns::OBJECT_FORM;
+use columns::PARTNER_FORM;
+use columns::PARTY_FORM;
+use columns::PERIOD_FORM;
+use columns::POS_FORM;
+use columns::RESOLUTION_FORM;
+use columns::SERIES_ID_FORM;
+use columns::VERSION_FORM;
 use forms::is_identification;
 use forms::is_market_partner;
 use forms::is_party;
 use forms::is_quarter_hour;
 use forms::is_resource_object;
+use guideline::kind_at;
 use numbers::Amount;
 use numbers::Number;
 use numbers::amount_of;
@@ -64,32 +78,32 @@ fn is_amount(v: &[u8]) -> bool
 fn form_refusal(form: usize, v: &[u8]) -> u32
     ensures { λ r. ⌜ r ≡ formRefusal form (says (now (v .entry))) ⌝ }
 {
-    if form == 1 {
+    if form == IDENTIFICATION_FORM {
         return refused_unless(6, is_identification(v));
     }
-    if form == 2 {
+    if form == SERIES_ID_FORM {
         return refused_unless(6, is_identification(v));
     }
-    if form == 3 {
+    if form == PARTNER_FORM {
         return refused_unless(6, is_market_partner(v));
     }
-    if form == 4 {
+    if form == VERSION_FORM {
         return refused_unless(6, is_version(v));
     }
-    if form == 5 {
+    if form == DATE_TIME_FORM {
         return refused_unless(6, is_date_time(v));
     }
-    if form == 10 {
+    if form == AMOUNT_FORM {
         return refused_unless(6, is_amount(v));
     }
-    if form == 11 {
+    if form == OBJECT_FORM {
         return refused_unless(6, is_resource_object(v));
     }
-    if form == 12 {
+    if form == PARTY_FORM {
         return refused_unless(6, is_party(v));
     }
-    if 32 <= form {
-        return refused_unless(7, is_listed(form - 32, v));
+    if IN_LIST <= form {
+        return refused_unless(7, is_listed(form - IN_LIST, v));
     }
     0
 }
@@ -97,7 +111,7 @@ fn form_refusal(form: usize, v: &[u8]) -> u32
 fn is_period(kind: u32, from: u32, to: u32) -> bool
     ensures { λ r. ⌜ r ≡ periodFits kind from to ⌝ }
 {
-    if kind == 1 {
+    if kind_at(kind).daily {
         return is_day_period(from, to);
     }
     is_cost_period(from, to)
@@ -169,7 +183,7 @@ fn is_position(kind: u32, quarters: u32, last: u32, p: u32) -> bool
     if quarters < p {
         return false;
     }
-    if kind == 1 {
+    if kind_at(kind).counted {
         return is_next(last, p);
     }
     if last == 0 {
@@ -209,20 +223,20 @@ fn judge_position(v: &[u8], h: Held) -> Judged
 pub fn judge_value(form: usize, v: &[u8], h: Held) -> Judged
     ensures { λ r. ⌜ r ≡ judge form h (says (now (v .entry))) ⌝ }
 {
-    if form == 6 {
+    if form == PERIOD_FORM {
         return judge_period(v, h.kind);
     }
-    if form == 7 {
+    if form == INTERVAL_FORM {
         return judge_interval(v, h.from, h.to);
     }
-    if form == 8 {
+    if form == RESOLUTION_FORM {
         return Judged {
             number: refused_unless(8, is_quarter_hour(v)),
             first: 0,
             second: 0,
         };
     }
-    if form == 9 {
+    if form == POS_FORM {
         return judge_position(v, h);
     }
     Judged {

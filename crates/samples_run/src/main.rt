@@ -2,7 +2,10 @@
 //   NAME refusal place kind series intervals N notelen NOTEHEX S P A
 // notelen is the note's length and NOTEHEX its bytes; S, P and A are the check numbers of the whole series, position and amount tables.
 // The lent buffers are full of old values, so that a cell that the reader leaves as it was shows. A file has at most 262,144 bytes.
+mod sums;
+
 use reader::Answer;
+use series::WIDTH;
 use slices::first_at;
 use slices::front;
 use sums::sum_of_amounts;
@@ -35,7 +38,7 @@ fn print_digits(s: &[u8]) {
 }
 
 fn run_document(doc: &[u8]) {
-    let mut series = [7u32; 512];
+    let mut series = [7u32; 64 * WIDTH];
     let mut positions = [7u32; 2048];
     let mut amounts = [7i64; 2048];
     let mut note = [7u8; 16];

@@ -1,7 +1,7 @@
 -- Two lists that are the same are equal; and a loop that compares two slices of one length: its invariant, `Sames`, and how it starts, goes on
 -- and ends. Assumes nothing.
 use Prim.Native.Nat.{ℕ, suc, _+_, _≤_, _<_}
-use mathlib.Core.Path.{_≡_, refl, ap}
+use mathlib.Core.Path.{_≡_, refl, sym, ap}
 use mathlib.Core.List.{List, [], _∷_}
 use mathlib.Core.Bool.{Bool, true, false, cond}
 use mathlib.Core.Logic.{⊎-elim}
@@ -28,6 +28,18 @@ same-equal (a ∷ x) (b ∷ y) p =
     ⊎-elim
     (λ e. let q = same-equal x y (rw (e .1) at p) in let f = e .0 in cc)
     (λ e. never (rw (e .1) at p))
+    (eqb-cases a b)
+
+pub same-comm : (x y : List ℕ) → same x y ≡ same y x
+unfolding same
+same-comm [] [] = refl
+same-comm [] (b ∷ y) = refl
+same-comm (a ∷ x) [] = refl
+same-comm (a ∷ x) (b ∷ y) =
+    let ih = same-comm x y in
+    ⊎-elim
+    (λ e. simp (e .1, eq-eqb b a (sym (e .0)), ih))
+    (λ e. simp (e .1, ne-eqb b a (λ q. e .0 (sym q))))
     (eqb-cases a b)
 
 pub record Sames (a b : List ℕ) (i : ℕ) : Type 0 where

@@ -1,14 +1,16 @@
--- What an item moves, by its act; and which rows its kind has. Assumes nothing.
+-- What an item moves, by its act; and that it goes by the rows of its kind. Assumes nothing.
 use Prim.Native.Nat.{ℕ}
 use mathlib.Core.Path.{_≡_, refl}
 use mathlib.Core.List.{List}
-use mathlib.Core.Bool.{Bool, true, false, cond}
+use mathlib.Core.Bool.{true, false}
 use Rattle.elements.specs.Names.{elementNo}
+use Rattle.guideline.specs.Rows.{everyRow}
+use Rattle.guideline.proofs.Each.{rows-in}
 use Rattle.items.specs.declared.Item.{Item}
 use Rattle.items.specs.declared.Item.the-variants.{Start, Empty, End, Text, Comment}
 use Rattle.items.specs.declared.Item.the-variants.{Refused as Unreadable}
 use Rattle.states.specs.Act.{actOf, nameIn}
-use Rattle.states.specs.Moves.{started, ended, moved}
+use Rattle.states.specs.Moves.{started, ended, moved, kindTold, stepBy, step}
 use Rattle.states.specs.declared.State.{State}
 use Rattle.states.specs.declared.Room.{Room}
 use Rattle.states.specs.declared.Entry.the-variants.{Nothing}
@@ -34,7 +36,6 @@ moved-acted (Text false k) x kind rows s room = refl
 moved-acted (Comment k) x kind rows s room = refl
 moved-acted (Unreadable p) x kind rows s room = refl
 
-pub moved-rows : (b : Bool) (one two : List ℕ) (x : State) (kind : ℕ) (item : Item) (s : List ℕ) (room : Room)
-    → moved x kind (cond b one two) item s room ≡ cond b (moved x kind one item s room) (moved x kind two item s room)
-moved-rows true one two x kind item s room = refl
-moved-rows false one two x kind item s room = refl
+pub step-rows : (x : State) (item : Item) (s : List ℕ) (room : Room) → stepBy x everyRow item s room ≡ step x item s room
+unfolding stepBy step
+step-rows x item s room = rw (rows-in (kindTold x item s)) refl

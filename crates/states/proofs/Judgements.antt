@@ -1,17 +1,17 @@
 -- What a start tag that is not refused has passed. Assumes nothing.
-use Prim.Native.Nat.{ℕ, _<_}
+use Prim.Native.Nat.{ℕ, _+_, _<_}
 use mathlib.Core.Path.{_≡_, refl}
 use mathlib.Core.List.{List}
 use mathlib.Core.Bool.{Bool, true, false, cond}
 use native.Mathlib.Omega.{arith}
 use lib.ListN.{getD}
-use borrow.Author.Tests.{leb-false}
+use borrow.Author.Tests.{leb-false, lt-ltb}
 use Rattle.items.specs.declared.Tag.{Tag}
-use Rattle.guideline.specs.Columns.{roleOf}
+use Rattle.columns.specs.Columns.{roleOf}
 use Rattle.rules.specs.Rules.{refused}
 use Rattle.rules.specs.declared.Judged.{Judged}
 use Rattle.states.specs.Attributes.{attributesFit, judgeTag}
-use Rattle.states.specs.Moves.{cutShort, tooMany, noRoom, halfOriginals, heldOf, valuesJudged, judgedAt, startJudged}
+use Rattle.states.specs.Moves.{oneMore, cutShort, tooMany, noRoom, halfOriginals, heldOf, valuesJudged, judgedAt, startJudged}
 use Rattle.states.specs.declared.State.{State}
 use Rattle.states.specs.declared.Room.{Room}
 
@@ -58,3 +58,8 @@ module _ (x : State) (role : ℕ) (room : Room) (h : noRoom x role room ≡ fals
   pub interval-room : role ≡ 4 → x .intervals < room .intervals
   unfolding noRoom
   interval-room e = leb-false (room .intervals) (x .intervals) (rw e at h)
+
+-- a count that has not come to its end
+pub one-more : (n : ℕ) → n < 4294967295 → oneMore n ≡ n + 1
+unfolding oneMore
+one-more n h = rw (lt-ltb n 4294967295 h)

@@ -1,4 +1,3 @@
 pub mod Acts
-pub mod Lists
 pub mod Judgements
 pub mod Unique

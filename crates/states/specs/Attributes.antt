@@ -13,7 +13,7 @@ use Rattle.forms.specs.Forms.{fixedVersion}
 use Rattle.rules.specs.Rules.{judge, refused}
 use Rattle.rules.specs.declared.Held.{Held}
 use Rattle.rules.specs.declared.Judged.{Judged}
-use Rattle.guideline.specs.Columns.{formOf, collapsed, schemeOf, roleOf}
+use Rattle.columns.specs.Columns.{formOf, collapsed, schemeOf, roleOf, noForm, noScheme, byList, rootRole}
 
 -- an attribute is there, which is known by where its value starts
 unfoldable pub there : Span → Bool
@@ -23,21 +23,21 @@ unfoldable pub agree : Bool → Bool → Bool
 agree asked given = cond asked given (cond given false true)
 
 unfoldable pub asksV : ℕ → Bool
-asksV w = cond (eqb (formOf w) 0) false true
+asksV w = cond (eqb (formOf w) noForm) false true
 
 unfoldable pub asksScheme : ℕ → Bool
-asksScheme w = cond (eqb (schemeOf w) 0) false true
+asksScheme w = cond (eqb (schemeOf w) noScheme) false true
 
 -- no other attribute but, on the root, those that are passed over
 unfoldable pub noOthers : ℕ → Bool → Bool → Bool
-noOthers w others passable = cond others (cond (eqb (roleOf w) 1) passable false) true
+noOthers w others passable = cond others (cond (eqb (roleOf w) rootRole) passable false) true
 
 -- "5: attribute missing or unknown": those of the row are there, and no others
 unfoldable pub attributesFit : ℕ → Tag → Bool
 attributesFit w t =
     cond (agree (asksV w) (there (t .v)))
     (cond (agree (asksScheme w) (there (t .coding)))
-    (cond (agree (eqb (roleOf w) 1) (there (t .version)))
+    (cond (agree (eqb (roleOf w) rootRole) (there (t .version)))
     (noOthers w (t .others) (t .passable)) false) false) false
 
 -- "Where the guideline says collapse, leading and trailing spaces are dropped; where it says preserve, or says nothing, none are."
@@ -47,7 +47,7 @@ valueOf w x s = cond (collapsed w) (dropped (partOf s (x .start) (x .len))) (par
 -- codingScheme, which is collapsed in every row that has it: 7 outside its code list
 unfoldable pub schemeRefusal : ℕ → Span → List ℕ → ℕ
 schemeRefusal w x s =
-    cond (eqb (schemeOf w) 0) 0 (cond (listed (codesOf (schemeOf w - 1)) (says (dropped (partOf s (x .start) (x .len))))) 0 7)
+    cond (eqb (schemeOf w) noScheme) 0 (cond (listed (codesOf (schemeOf w - byList)) (says (dropped (partOf s (x .start) (x .len))))) 0 7)
 
 -- "where it has several, the smallest number"; 0 is none
 unfoldable pub least : ℕ → ℕ → ℕ
@@ -59,6 +59,6 @@ alsoScheme n j = record { number = least (j .number) n; first = j .first; second
 -- the values of a tag: the fixed version on the root; `v` and codingScheme elsewhere
 unfoldable pub judgeTag : ℕ → Tag → Held → List ℕ → Judged
 judgeTag w t h s =
-    cond (eqb (roleOf w) 1) (cond (fixedVersion (says (partOf s (t .version .start) (t .version .len)))) (refused 0) (refused 6))
-    (cond (eqb (formOf w) 0) (refused 0)
+    cond (eqb (roleOf w) rootRole) (cond (fixedVersion (says (partOf s (t .version .start) (t .version .len)))) (refused 0) (refused 6))
+    (cond (eqb (formOf w) noForm) (refused 0)
     (alsoScheme (schemeRefusal w (t .coding) s) (judge (formOf w) h (says (valueOf w (t .v) s)))))

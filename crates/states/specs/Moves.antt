@@ -6,8 +6,9 @@ use lib.ListN.{getD}
 use lib.Dec.{leb, ltb, eqb}
 use Rattle.attributes.specs.Attribute.{partOf}
 use Rattle.elements.specs.Names.{elementNo}
-use Rattle.guideline.specs.Columns.{formOf, roleOf}
-use Rattle.guideline.specs.Kinds.{kindOf, takesAnother, hasEnough}
+use Rattle.columns.specs.Columns.{formOf, roleOf, periodForm, seriesRole, periodRole, intervalRole, originalRole, objectRole, businessRole, seriesIdRole, posRole, qtyRole}
+use Rattle.guideline.specs.Kinds.{kindAt, kindOf, takesAnother, hasEnough}
+use Rattle.guideline.specs.Rows.{rowsOf, rowsIn}
 use Rattle.items.specs.declared.Tag.{Tag}
 use Rattle.items.specs.declared.Item.{Item}
 use Rattle.items.specs.declared.Item.the-variants.{Start, Empty, End, Text, Comment}
@@ -47,16 +48,16 @@ cutShort empty rows r = cond empty (cond (endsAtOnce rows r) false true) false
 
 -- 3: an Interval too many for its Period
 unfoldable pub tooMany : State → ℕ → ℕ → Bool
-tooMany x role kind = cond (eqb role 4) (cond (takesAnother kind (x .intervals - x .first)) false true) false
+tooMany x role kind = cond (eqb role intervalRole) (cond (takesAnother kind (x .intervals - x .first)) false true) false
 
 -- "4: a due series or Interval start finds its table full"
 unfoldable pub noRoom : State → ℕ → Room → Bool
 noRoom x role room =
-    cond (eqb role 2) (leb (room .series) (x .series)) (cond (eqb role 4) (leb (room .intervals) (x .intervals)) false)
+    cond (eqb role seriesRole) (leb (room .series) (x .series)) (cond (eqb role intervalRole) (leb (room .intervals) (x .intervals)) false)
 
 -- "The five Original elements are all there or all absent, seen at the Period start."
 unfoldable pub halfOriginals : State → ℕ → Bool
-halfOriginals x role = cond (eqb role 3) (cond (eqb (x .originals) 0) false (cond (eqb (x .originals) 5) false true)) false
+halfOriginals x role = cond (eqb role periodRole) (cond (eqb (x .originals) 0) false (cond (eqb (x .originals) 5) false true)) false
 
 unfoldable pub valuesJudged : State → ℕ → ℕ → Tag → List ℕ → Judged
 valuesJudged x kind w t s = cond (halfOriginals x (roleOf w)) (refused 8) (judgeTag w t (heldOf x kind) s)
@@ -172,12 +173,12 @@ covering x from to =
 -- and what later items are held against: a series, a Period, an Interval, an Original, a Pos, TimePeriodCovered
 unfoldable pub kept : State → ℕ → Judged → State
 kept x w j =
-    cond (eqb (roleOf w) 2) (oneSeries x)
-    (cond (eqb (roleOf w) 3) (lastPos x 0)
-    (cond (eqb (roleOf w) 4) (oneInterval x)
-    (cond (eqb (roleOf w) 5) (oneOriginal x)
-    (cond (eqb (roleOf w) 9) (lastPos x (j .first))
-    (cond (eqb (formOf w) 6) (covering x (j .first) (j .second)) x)))))
+    cond (eqb (roleOf w) seriesRole) (oneSeries x)
+    (cond (eqb (roleOf w) periodRole) (lastPos x 0)
+    (cond (eqb (roleOf w) intervalRole) (oneInterval x)
+    (cond (eqb (roleOf w) originalRole) (oneOriginal x)
+    (cond (eqb (roleOf w) posRole) (lastPos x (j .first))
+    (cond (eqb (formOf w) periodForm) (covering x (j .first) (j .second)) x)))))
 
 unfoldable pub entered : State → ℕ → ℕ → ℕ → Judged → Bool → State
 entered x kind r w j within = kept (placed x kind r within) w j
@@ -185,13 +186,13 @@ entered x kind r w j within = kept (placed x kind r within) w j
 -- what it brings into the tables
 unfoldable pub entryOf : ℕ → ℕ → Entry
 entryOf role p =
-    cond (eqb role 2) Series
-    (cond (eqb role 4) Interval
-    (cond (eqb role 6) Object
-    (cond (eqb role 7) BusinessType
-    (cond (eqb role 8) Identification
-    (cond (eqb role 9) (Position p)
-    (cond (eqb role 10) Amount Nothing))))))
+    cond (eqb role seriesRole) Series
+    (cond (eqb role intervalRole) Interval
+    (cond (eqb role objectRole) Object
+    (cond (eqb role businessRole) BusinessType
+    (cond (eqb role seriesIdRole) Identification
+    (cond (eqb role posRole) (Position p)
+    (cond (eqb role qtyRole) Amount Nothing))))))
 
 unfoldable pub startedBy : State → ℕ → ℕ → ℕ → Bool → Judged → Step
 startedBy x kind r w empty j =
@@ -224,10 +225,10 @@ closedAt x r =
 
 -- "at the end tag of Period there are N intervals": 3 for too few, 8 for another number than N
 unfoldable pub countRefusal : ℕ → ℕ → ℕ → ℕ
-countRefusal kind quarters n = cond (hasEnough kind n) (cond (eqb kind 1) (cond (eqb n quarters) 0 8) 0) 3
+countRefusal kind quarters n = cond (hasEnough kind n) (cond (kindAt kind .full) (cond (eqb n quarters) 0 8) 0) 3
 
 unfoldable pub endRefusal : State → List ℕ → ℕ → ℕ
-endRefusal x rows r = cond (eqb (roleOf (getD rows r 0)) 3) (countRefusal (x .kind) (x .quarters) (x .intervals - x .first)) 0
+endRefusal x rows r = cond (eqb (roleOf (getD rows r 0)) periodRole) (countRefusal (x .kind) (x .quarters) (x .intervals - x .first)) 0
 
 unfoldable pub endedAt : State → List ℕ → Due → Step
 endedAt x rows (Row r) = cond (eqb (endRefusal x rows r) 0) (Next (closedAt x r) Nothing) (Refused (endRefusal x rows r))
@@ -258,8 +259,10 @@ rootKind (Unreadable p) s = 0
 unfoldable pub kindTold : State → Item → List ℕ → ℕ
 kindTold x item s = cond (eqb (x .kind) 0) (rootKind item s) (x .kind)
 
-unfoldable pub stepOn : State → ℕ → List ℕ → List ℕ → Item → List ℕ → Room → Step
-stepOn x kind one two item s room = cond (eqb kind 1) (moved x kind one item s room) (moved x kind two item s room)
+-- by the rows of all kinds, as they are lent
+unfoldable pub stepBy : State → List ℕ → Item → List ℕ → Room → Step
+stepBy x rows item s room = moved x (kindTold x item s) (rowsIn rows (kindTold x item s)) item s room
 
-unfoldable pub step : State → List ℕ → List ℕ → Item → List ℕ → Room → Step
-step x one two item s room = stepOn x (kindTold x item s) one two item s room
+-- by the guideline's
+unfoldable pub step : State → Item → List ℕ → Room → Step
+step x item s room = moved x (kindTold x item s) (rowsOf (kindTold x item s)) item s room

@@ -1,14 +1,30 @@
 // The reading state, and how each item moves it. It holds no amount.
 use attributes::part;
 use codes::is_listed;
+use columns::BUSINESS_ROLE;
+use columns::BY_LIST;
+use columns::INTERVAL_ROLE;
+use columns::NO_FORM;
+use columns::NO_SCHEME;
+use columns::OBJECT_ROLE;
+use columns::ORIGINAL_ROLE;
+use columns::PERIOD_FORM;
+use columns::PERIOD_ROLE;
+use columns::POS_ROLE;
+use columns::QTY_ROLE;
+use columns::ROOT_ROLE;
+use columns::SERIES_ID_ROLE;
+use columns::SERIES_ROLE;
+use columns::form_of;
+use columns::is_collapsed;
+use columns::role_of;
+use columns::scheme_of;
 use elements::element_no;
 use forms::is_version_fixed;
-use guideline::form_of;
 use guideline::has_enough;
-use guideline::is_collapsed;
+use guideline::kind_at;
 use guideline::kind_of_root;
-use guideline::role_of;
-use guideline::scheme_of;
+use guideline::rows_of;
 use guideline::takes_another;
 use items::Item;
 use items::Tag;
@@ -23,14 +39,13 @@ use tags::Span;
 use times::quarter_hours;
 use trims::trimmed;
 ghost use mathlib.Core.Path.{_≡_};
-ghost use mathlib.Core.Bool.{cond};
 ghost use Prim.Native.Nat.{_-_};
 ghost use lib.Dec.{eqb};
 ghost use lib.ListN.{getD};
-ghost use Rattle.guideline.specs.Columns.{roleOf};
+ghost use Rattle.columns.specs.Columns.{roleOf, rootRole};
 ghost use Rattle.states.specs.Attributes.{there, agree, asksV, asksScheme, noOthers, attributesFit, valueOf, schemeRefusal, least, judgeTag};
 ghost use Rattle.states.specs.Act.{actOf, nameIn};
-ghost use Rattle.states.specs.Moves.{oneMore, cutShort, begun, heldOf, tooMany, noRoom, halfOriginals, valuesJudged, startJudged, entered, entryOf, started, closedAt, endRefusal, ended, moved, kindTold, step};
+ghost use Rattle.states.specs.Moves.{oneMore, cutShort, begun, heldOf, tooMany, noRoom, halfOriginals, valuesJudged, startJudged, entered, entryOf, started, closedAt, countRefusal, endRefusal, ended, moved, kindTold, stepBy};
 
 pub struct State {
     // 0 before the root
@@ -95,19 +110,23 @@ fn agrees(asked: bool, given: bool) -> bool
 fn asks_v(w: usize) -> bool
     ensures { λ r. ⌜ r ≡ asksV w ⌝ }
 {
-    if form_of(w) == 0 { false } else { true }
+    if form_of(w) == NO_FORM { false } else { true }
 }
 
 fn asks_scheme(w: usize) -> bool
     ensures { λ r. ⌜ r ≡ asksScheme w ⌝ }
 {
-    if scheme_of(w) == 0 { false } else { true }
+    if scheme_of(w) == NO_SCHEME {
+        false
+    } else {
+        true
+    }
 }
 
 fn is_root(w: usize) -> bool
-    ensures { λ r. ⌜ r ≡ eqb (roleOf w) 1 ⌝ }
+    ensures { λ r. ⌜ r ≡ eqb (roleOf w) rootRole ⌝ }
 {
-    role_of(w) == 1
+    role_of(w) == ROOT_ROLE
 }
 
 fn has_no_others(w: usize, others: bool, passable: bool) -> bool
@@ -155,12 +174,12 @@ fn scheme_refusal(w: usize, x: Span, s: &[u8]) -> u32
     ensures { λ r. ⌜ r ≡ schemeRefusal w x (now (s .entry)) ⌝ }
 {
     let k = scheme_of(w);
-    if k == 0 {
+    if k == NO_SCHEME {
         return 0;
     }
     let start = x.start;
     let len = x.len;
-    if is_listed(k - 1, trimmed(part(s, start, len))) {
+    if is_listed(k - BY_LIST, trimmed(part(s, start, len))) {
         return 0;
     }
     7
@@ -182,7 +201,7 @@ fn least_of(a: u32, b: u32) -> u32
 fn judge_tag(w: usize, t: Tag, s: &[u8], h: Held) -> Judged
     ensures { λ r. ⌜ r ≡ judgeTag w t h (now (s .entry)) ⌝ }
 {
-    if role_of(w) == 1 {
+    if is_root(w) {
         let version = t.version;
         let start = version.start;
         let len = version.len;
@@ -200,7 +219,7 @@ fn judge_tag(w: usize, t: Tag, s: &[u8], h: Held) -> Judged
         };
     }
     let form = form_of(w);
-    if form == 0 {
+    if form == NO_FORM {
         return Judged {
             number: 0,
             first: 0,
@@ -229,25 +248,25 @@ fn row_at(rows: &[usize], row: usize) -> usize
 fn entry_of(role: usize, p: u32) -> Entry
     ensures { λ r. ⌜ r ≡ entryOf role p ⌝ }
 {
-    if role == 2 {
+    if role == SERIES_ROLE {
         return Entry::Series;
     }
-    if role == 4 {
+    if role == INTERVAL_ROLE {
         return Entry::Interval;
     }
-    if role == 6 {
+    if role == OBJECT_ROLE {
         return Entry::Object;
     }
-    if role == 7 {
+    if role == BUSINESS_ROLE {
         return Entry::BusinessType;
     }
-    if role == 8 {
+    if role == SERIES_ID_ROLE {
         return Entry::Identification;
     }
-    if role == 9 {
+    if role == POS_ROLE {
         return Entry::Position(p);
     }
-    if role == 10 {
+    if role == QTY_ROLE {
         return Entry::Amount;
     }
     Entry::Nothing
@@ -263,6 +282,22 @@ pub fn count_of(intervals: u32, first: u32) -> u32
     } else {
         0
     }
+}
+
+// The refusal of a Period's end by the number of its Intervals.
+fn count_refusal(kind: u32, quarters: u32, n: u32) -> u32
+    ensures { λ r. ⌜ r ≡ countRefusal kind quarters n ⌝ }
+{
+    if has_enough(kind, n as usize) {
+        if kind_at(kind).full {
+            if n == quarters {
+                return 0;
+            }
+            return 8;
+        }
+        return 0;
+    }
+    3
 }
 
 fn one_more(n: u32) -> u32
@@ -282,13 +317,6 @@ fn is_cut_short(empty: bool, rows: &[usize], row: usize) -> bool
         return true;
     }
     false
-}
-
-// The rows of the kind.
-fn rows_of<'a>(kind: u32, one: &'a [usize], two: &'a [usize]) -> &'a [usize]
-    ensures { λ r. ⌜ now r ≡ cond (eqb kind 1) (now (one .entry)) (now (two .entry)) ⌝ }
-{
-    if kind == 1 { one } else { two }
 }
 
 // What an item does to the state.
@@ -369,7 +397,7 @@ impl State {
     fn has_too_many(self, role: usize, kind: u32) -> bool
         ensures { λ r. ⌜ r ≡ tooMany self role kind ⌝ }
     {
-        if role == 4 {
+        if role == INTERVAL_ROLE {
             if takes_another(kind, count_of(self.intervals, self.first) as usize) {
                 return false;
             }
@@ -382,10 +410,10 @@ impl State {
     fn lacks_room(self, role: usize, room: Room) -> bool
         ensures { λ r. ⌜ r ≡ noRoom self role room ⌝ }
     {
-        if role == 2 {
+        if role == SERIES_ROLE {
             return room.series <= self.series as usize;
         }
-        if role == 4 {
+        if role == INTERVAL_ROLE {
             return room.intervals <= self.intervals as usize;
         }
         false
@@ -395,7 +423,7 @@ impl State {
     fn has_half(self, role: usize) -> bool
         ensures { λ r. ⌜ r ≡ halfOriginals self role ⌝ }
     {
-        if role == 3 {
+        if role == PERIOD_ROLE {
             if self.originals == 0 {
                 return false;
             }
@@ -474,29 +502,29 @@ impl State {
         self.row = row;
         self.inside = within;
         let role = role_of(w);
-        if role == 2 {
+        if role == SERIES_ROLE {
             self.series = one_more(self.series);
             self.first = self.intervals;
             self.originals = 0;
             return self;
         }
-        if role == 3 {
+        if role == PERIOD_ROLE {
             self.last = 0;
             return self;
         }
-        if role == 4 {
+        if role == INTERVAL_ROLE {
             self.intervals = one_more(self.intervals);
             return self;
         }
-        if role == 5 {
+        if role == ORIGINAL_ROLE {
             self.originals = one_more(self.originals);
             return self;
         }
-        if role == 9 {
+        if role == POS_ROLE {
             self.last = j.first;
             return self;
         }
-        if form_of(w) == 6 {
+        if form_of(w) == PERIOD_FORM {
             self.from = j.first;
             self.to = j.second;
             self.quarters = quarter_hours(j.first, j.second);
@@ -547,18 +575,9 @@ impl State {
     fn end_refusal(self, rows: &[usize], row: usize) -> u32
         ensures { λ r. ⌜ r ≡ endRefusal self (now (rows .entry)) row ⌝ }
     {
-        if role_of(row_at(rows, row)) == 3 {
+        if role_of(row_at(rows, row)) == PERIOD_ROLE {
             let n = count_of(self.intervals, self.first);
-            if has_enough(self.kind, n as usize) {
-                if self.kind == 1 {
-                    if n == self.quarters {
-                        return 0;
-                    }
-                    return 8;
-                }
-                return 0;
-            }
-            return 3;
+            return count_refusal(self.kind, self.quarters, n);
         }
         0
     }
@@ -609,19 +628,12 @@ impl State {
         self.kind
     }
 
-    // One item moves the state, or is refused. `one` and `two` are the rows of the kinds.
+    // One item moves the state, or is refused. `rows` are the rows of all kinds.
     // Ruled out: an element that is not due taken; a refusal of a larger number where the item has a smaller; a count that a refused item moved.
-    pub fn step<'a>(
-        self,
-        one: &'a [usize],
-        two: &'a [usize],
-        item: Item,
-        s: &[u8],
-        room: Room,
-    ) -> Step
-        ensures { λ r. ⌜ r ≡ step self (now (one .entry)) (now (two .entry)) item (now (s .entry)) room ⌝ }
+    pub fn step(self, rows: &[usize], item: Item, s: &[u8], room: Room) -> Step
+        ensures { λ r. ⌜ r ≡ stepBy self (now (rows .entry)) item (now (s .entry)) room ⌝ }
     {
         let kind = self.kind_told(item, s);
-        self.moved(kind, rows_of(kind, one, two), item, s, room)
+        self.moved(kind, rows_of(rows, kind), item, s, room)
     }
 }

@@ -8,7 +8,7 @@ use lib.Dec.{leb, ltb, eqb}
 use borrow.Author.Tests.{leb-true, le-leb, ltb-true, ltb-false, eqb-true, eqb-false}
 use Rattle.lists.proofs.Cases.{by-cond}
 use Rattle.times.specs.Calendar.{leap, monthDays, realDate, daysBefore, leapDay, dayNumber}
-use Rattle.times.proofs.Below.{every, below}
+use Rattle.lists.proofs.Below.{every, below}
 use Rattle.times.specs.After.{Date, after, isReal, dateNumber}
 
 pub first-day : dayNumber 2000 1 1 ≡ 0

@@ -1,5 +1,4 @@
 pub mod Unique
-pub mod Below
 pub mod Consecutive
 pub mod Sundays
 pub mod Packed

@@ -11,7 +11,7 @@ use Rattle.times.specs.Calendar.{realDate, dayNumber}
 use Rattle.times.specs.Sundays.{changes, marchSunday, octoberSunday}
 use Rattle.times.specs.Midnight.{yearOf, inSummer, startOfDay}
 use Rattle.times.specs.Periods.{quarterHours, deliveryDay, dayPeriod}
-use Rattle.times.proofs.Below.{every, below}
+use Rattle.lists.proofs.Below.{every, below}
 use Rattle.times.proofs.Consecutive.{real, leaps, within-year}
 
 -- ---- a day's year

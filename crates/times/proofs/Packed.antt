@@ -9,7 +9,7 @@ use borrow.Author.Tests.{leb-true, eqb-true}
 use Rattle.times.specs.Calendar.{leap, daysBefore, leapDay, dayNumber}
 use Rattle.times.specs.Sundays.{changes, marchSunday, octoberSunday}
 use Rattle.times.specs.Packed.{packed}
-use Rattle.times.proofs.Below.{every, below}
+use Rattle.lists.proofs.Below.{every, below}
 
 march-told : ℕ → Bool
 march-told i = leb (getD packed i 0 / 8) 6 && eqb (dayNumber (2000 + i) 3 (25 + getD packed i 0 / 8)) (marchSunday i)

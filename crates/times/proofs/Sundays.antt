@@ -10,7 +10,7 @@ use borrow.Author.Tests.{leb-true, eqb-true}
 use Rattle.lists.proofs.Cases.{by-cond}
 use Rattle.times.specs.Calendar.{leap, monthDays, realDate, daysBefore, leapDay, dayNumber}
 use Rattle.times.specs.Sundays.{changes, changeYear, changeMonth, sunday, ruled}
-use Rattle.times.proofs.Below.{every, below}
+use Rattle.lists.proofs.Below.{every, below}
 use Rattle.times.proofs.Consecutive.{real}
 
 entry-ruled : ℕ → Bool

@@ -8,10 +8,11 @@ use Rattle.lists.proofs.Cases.{zero-not-one}
 use Rattle.slices.specs.Same.{same}
 use Rattle.elements.specs.Names.{names, numberIn, elementNo}
 use Rattle.structure.specs.Rows.{nameOf, parentOf, required, repeated, nextIn, endsIn, startOf, endAt, endOf, closesDocument, overOf}
+use Rattle.guideline.specs.Kinds.{isKind}
 use Rattle.guideline.specs.Rows.{beschaffungsanforderung, kostenblatt, rowsOf}
 use Rattle.trees.specs.Trees.{Trees, none, element, spell, Conforms}
 use Rattle.trees.specs.Cursor.{onRow, follows}
-use Rattle.trees.proofs.Made.{one-well-made, two-well-made}
+use Rattle.trees.proofs.Made.{well-made}
 use Rattle.trees.proofs.Theorems.{complete, sound}
 
 -- elements with nothing in them, and then these
@@ -78,16 +79,16 @@ unfolding
 judged = record { one = refl; two = refl; missing = refl; twice = refl }
 
 pub one-conforms : (kids : (Trees (Unit {0}))) × Conforms (rowsOf 1) 0 kids × (spell (rowsOf 1) smallestOne ≡ spell (rowsOf 1) kids)
-unfolding followed
-one-conforms = sound (Unit {0}) (rowsOf 1) one-well-made (spell (rowsOf 1) smallestOne) (judged .one)
+unfolding followed isKind
+one-conforms = sound (Unit {0}) (rowsOf 1) (well-made 1 refl) (spell (rowsOf 1) smallestOne) (judged .one)
 
 pub two-conforms : (kids : (Trees (Unit {0}))) × Conforms (rowsOf 2) 0 kids × (spell (rowsOf 2) smallestTwo ≡ spell (rowsOf 2) kids)
-unfolding followed
-two-conforms = sound (Unit {0}) (rowsOf 2) two-well-made (spell (rowsOf 2) smallestTwo) (judged .two)
+unfolding followed isKind
+two-conforms = sound (Unit {0}) (rowsOf 2) (well-made 2 refl) (spell (rowsOf 2) smallestTwo) (judged .two)
 
 refuted : (kids : (Trees (Unit {0}))) → followed 2 kids ≡ false → Conforms (rowsOf 2) 0 kids → ⊥
-unfolding followed
-refuted kids e c = let z : true ≡ false = sym (complete (Unit {0}) (rowsOf 2) two-well-made kids c) ∙ e in zero-not-one (cc)
+unfolding followed isKind
+refuted kids e c = let z : true ≡ false = sym (complete (Unit {0}) (rowsOf 2) (well-made 2 refl) kids c) ∙ e in zero-not-one (cc)
 
 pub incomplete-refused : Conforms (rowsOf 2) 0 incomplete → ⊥
 incomplete-refused = refuted incomplete (judged .missing)

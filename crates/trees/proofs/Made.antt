@@ -12,17 +12,15 @@ use Rattle.lists.proofs.Cases.{zero-not-one}
 use Rattle.slices.specs.Same.{same}
 use Rattle.elements.specs.Names.{names, numberIn, elementNo}
 use Rattle.structure.specs.Rows.{nameOf, parentOf, repeated}
+use Rattle.guideline.specs.Kinds.{isKind}
 use Rattle.guideline.specs.Rows.{beschaffungsanforderung, kostenblatt, rowsOf}
+use Rattle.guideline.proofs.Each.{of-kind}
 use Rattle.trees.specs.Trees.{unlike, laterWellMade, wellMade}
 
--- "rows of the two kinds": both tables pass
-pub one-well-made : wellMade (rowsOf 1) ≡ true
+-- the rows of each kind pass
+pub well-made : (kind : ℕ) → isKind kind ≡ true → wellMade (rowsOf kind) ≡ true
 unfolding wellMade laterWellMade unlike rowsOf beschaffungsanforderung kostenblatt elementNo numberIn names same nameOf parentOf repeated
-one-well-made = refl
-
-pub two-well-made : wellMade (rowsOf 2) ≡ true
-unfolding wellMade laterWellMade unlike rowsOf beschaffungsanforderung kostenblatt elementNo numberIn names same nameOf parentOf repeated
-two-well-made = refl
+well-made = of-kind (λ k. wellMade (rowsOf k)) refl
 
 -- two rows of one row bear different names
 abbrev pub Apart : List ℕ → ℕ → ℕ → Type 0

@@ -1,5 +1,5 @@
 -- The order of tags that the cursor accepts is the spelling of elements that conform to the table: for every table that passes the test
--- `wellMade`, and both structure tables do (`one-well-made`, `two-well-made`).
+-- `wellMade`, and the rows of each kind do (`well-made`).
 -- Assumes nothing.
 use mathlib.Core.Path.{_≡_, refl, sym, ap, _∙_}
 use mathlib.Core.Bool.{Bool, true, false, cond}

@@ -10,7 +10,8 @@ use borrow.Author.Tests.{eqb-true, eqb-false, ne-eqb}
 use Rattle.characters.specs.Says.{saidAt, saysAfter, says}
 use Rattle.characters.specs.declared.Said.the-variants.{Says}
 use Rattle.trims.specs.Trim.{space, dropLead, keep, dropTrail, dropped}
-use Rattle.trims.proofs.Spaces.{Alike, said-alike, some-said, space-said, space-says}
+use Rattle.trims.proofs.Low.{Level}
+use Rattle.trims.proofs.Spaces.{said-level, some-said, space-said, space-says}
 
 is-space : (b : ℕ) → space b ≡ true → b ≡ 0x20
 unfolding space
@@ -50,20 +51,20 @@ lead-says [] = refl
 lead-says (b ∷ t) = lead-by b t (space b) refl (lead-says t)
 
 -- trailing spaces: what is dropped is told apart by no test
-keep-first : (b : ℕ) (t : List ℕ) (f : Bool) → space b ≡ f → Alike (getD (keep b []) 0 0) b
+keep-first : (b : ℕ) (t : List ℕ) (f : Bool) → space b ≡ f → Level (getD (keep b []) 0 0) b
 unfolding keep
 keep-first b t true e = rw e (inr (lit< tt, rw (is-space b e) (lit< tt)))
 keep-first b t false e = rw e (inl refl)
 
-keep-alike : (b : ℕ) (t r : List ℕ) → ((k : ℕ) → Alike (getD r k 0) (getD t k 0)) → (k : ℕ) → Alike (getD (keep b r) k 0) (getD (b ∷ t) k 0)
+keep-alike : (b : ℕ) (t r : List ℕ) → ((k : ℕ) → Level (getD r k 0) (getD t k 0)) → (k : ℕ) → Level (getD (keep b r) k 0) (getD (b ∷ t) k 0)
 unfolding keep
 keep-alike b t [] h zero = keep-first b t (space b) refl
 keep-alike b t [] h (suc k) =
-    elim (space b) as (λ (f : Bool). Alike (getD (cond f [] (b ∷ [])) (suc k) 0) (getD t k 0)) [ true ↦ h k | false ↦ h k ]
+    elim (space b) as (λ (f : Bool). Level (getD (cond f [] (b ∷ [])) (suc k) 0) (getD t k 0)) [ true ↦ h k | false ↦ h k ]
 keep-alike b t (d ∷ r) h zero = inl refl
 keep-alike b t (d ∷ r) h (suc k) = h k
 
-trail-alike : (t : List ℕ) (k : ℕ) → Alike (getD (dropTrail t) k 0) (getD t k 0)
+trail-alike : (t : List ℕ) (k : ℕ) → Level (getD (dropTrail t) k 0) (getD t k 0)
 unfolding dropTrail
 trail-alike [] k = inl refl
 trail-alike (b ∷ t) k = keep-alike b t (dropTrail t) (trail-alike t) k
@@ -82,7 +83,7 @@ after-keep b (d ∷ r) k = refl
 -- r is what is left of t, and what is said of it is known
 module _ (b : ℕ) (t r : List ℕ) (q : dropTrail t ≡ r) (ih : (k : ℕ) → saysAfter k r ≡ dropTrail (saysAfter k t)) where
   same-said : saidAt (b ∷ r) ≡ saidAt (b ∷ t)
-  same-said = said-alike b r t (λ k. rw q at (trail-alike t k))
+  same-said = said-level b r t (λ k. rw q at (trail-alike t k))
 
   trail-other : space b ≡ false → saysAfter 0 (keep b r) ≡ dropTrail (saysAfter 0 (b ∷ t))
   unfolding dropTrail

@@ -1,4 +1,5 @@
 pub mod Trails
+pub mod Low
 pub mod Spaces
 pub mod Dropping
 pub mod Unique

@@ -1,3 +1,4 @@
+use native.Mathlib.Omega.{arith}
 use borrow.Author.Tests.{le-leb, lt-leb}
 use Rattle.characters.specs.Utf8.{seqLen}
 use Rattle.characters.proofs.seq_len.Statement.{statement}
@@ -7,27 +8,37 @@ use Rattle.characters.proofs.seq_len.Lts as lts
 
 returns : tie.Need-returns
 unfolding seqLen
-returns c = simp (le-leb _ _ (c .if1 .taken))
+returns c = let a = c .before .args .a in simp (le-leb a 0x7F (omega arith))
 
 returns-2 : tie.Need-returns-2
 unfolding seqLen
-returns-2 c = simp (le-leb _ _ (c .if2 .taken), lt-leb _ _ (c .before .if1 .left))
+returns-2 c =
+    let a = c .before .before .before .args .a in
+    simp (lt-leb a 0x7F (omega arith), lt-leb a 0xC1 (omega arith), le-leb a 0xDF (omega arith))
 
 returns-3 : tie.Need-returns-3
 unfolding seqLen
-returns-3 c = simp (le-leb _ _ (c .if3 .taken), lt-leb _ _ (c .before .if2 .left), lt-leb _ _ (c .before .before .if1 .left))
+returns-3 c =
+    let a = c .before .before .before .before .args .a in
+    simp (lt-leb a 0x7F (omega arith), lt-leb a 0xC1 (omega arith), lt-leb a 0xDF (omega arith), le-leb a 0xEF (omega arith))
 
 returns-4 : tie.Need-returns-4
 unfolding seqLen
-returns-4 c = simp (le-leb _ _ (c .if4 .taken), lt-leb _ _ (c .before .if3 .left), lt-leb _ _ (c .before .before .if2 .left), lt-leb _ _ (c .before .before .before .if1 .left))
+returns-4 c =
+    let a = c .before .before .before .before .before .args .a in
+    simp (lt-leb a 0x7F (omega arith), lt-leb a 0xC1 (omega arith), lt-leb a 0xDF (omega arith), lt-leb a 0xEF (omega arith), le-leb a 0xF4 (omega arith))
 
 returns-5 : tie.Need-returns-5
 unfolding seqLen
-returns-5 c = simp (le-leb _ _ (c .if5 .taken), lt-leb _ _ (c .before .if4 .left), lt-leb _ _ (c .before .before .if3 .left), lt-leb _ _ (c .before .before .before .if2 .left), lt-leb _ _ (c .before .before .before .before .if1 .left))
+returns-5 c =
+    let a = c .before .before .args .a in
+    simp (lt-leb a 0x7F (omega arith), le-leb a 0xC1 (omega arith))
 
 returns-6 : tie.Need-returns-6
 unfolding seqLen
-returns-6 c = simp (lt-leb _ _ (c .if5 .left), lt-leb _ _ (c .before .if4 .left), lt-leb _ _ (c .before .before .if3 .left), lt-leb _ _ (c .before .before .before .if2 .left), lt-leb _ _ (c .before .before .before .before .if1 .left))
+returns-6 c =
+    let a = c .before .before .before .before .before .args .a in
+    simp (lt-leb a 0x7F (omega arith), lt-leb a 0xC1 (omega arith), lt-leb a 0xDF (omega arith), lt-leb a 0xEF (omega arith), lt-leb a 0xF4 (omega arith))
 
 pub seq-len-spec : {M : Type 1} → statement M
 seq-len-spec = tie.close (tie.spec returns returns-2 returns-3 returns-4 returns-5 returns-6)

@@ -13,7 +13,7 @@ read-requires : tie.Need-read-requires
 read-requires c κs = search needs
 
 put-answer-requires : tie.Need-put-answer-requires
-put-answer-requires c κs = rw (c .before .before .before .before .before .before .before .before .read .ensures .0) (note-short _ _ _ _ _)
+put-answer-requires c κs = rw (c .before .before .before .before .before .before .before .before .read .ensures .answers) (note-short _ _ _ _ _)
 
 same-length : tie.Need-same-length
 same-length c = search needs
@@ -33,7 +33,11 @@ same-length-5 c = search needs
 returns : tie.Need-returns
 returns c =
     let q = c .before .before .before .before .before .before .before .before .before .before .before .read .ensures in
-    (ap (λ (a : Answer). a .refusal) (q .0), (q .1 .0, (q .1 .1 .0, (q .1 .1 .1 .0, (q .1 .1 .1 .1, rw (← q .0) (c .before .before .put-answer .ensures))))))
+    record {
+      refuses = ap (λ (a : Answer). a .refusal) (q .answers);
+      leaves = rw (q .answers) at q;
+      puts = rw (← q .answers) (c .before .before .put-answer .ensures);
+    }
 
 pub lumintayag-read-spec : {M : Type 1} → statement M
 lumintayag-read-spec =

@@ -34,7 +34,7 @@ same-length c = search needs
 returns : tie.Need-returns
 returns c =
     let e = sym (c .before .before .before .before .before .before .before .before .read-note .ensures) ∙ c .before .before .before .before .before .before .n .given .1 in
-    rw e (refl, c .before .before .put-numbers .ensures)
+    rw e (record { refuses = refl; puts = c .before .before .put-numbers .ensures })
 
 same-length-2 : tie.Need-same-length-2
 same-length-2 c = search needs
@@ -42,7 +42,7 @@ same-length-2 c = search needs
 returns-2 : tie.Need-returns-2
 returns-2 c =
     let e = sym (c .before .before .before .before .before .before .before .read-note .ensures) ∙ c .before .before .before .before .before .enum-told .given .1 in
-    rw e (refl, c .before .before .put-numbers2 .ensures)
+    rw e (record { refuses = refl; puts = c .before .before .put-numbers2 .ensures })
 
 pub lumintayag-read-note-spec : {M : Type 1} → statement M
 lumintayag-read-note-spec =

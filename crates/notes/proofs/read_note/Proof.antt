@@ -5,7 +5,7 @@ use Prim.Native.Nat.{_-_}
 use native.Mathlib.Omega.{arith}
 use borrow.Author.Needs.{needs}
 use Rattle.lists.proofs.Loans.{rest-part}
-use Rattle.notes.specs.Reader.{numberIn, answer, noteIn}
+use Rattle.notes.specs.Reader.{firstNumber, noteAnswer, noteIn}
 use Rattle.notes.proofs.Reading.{Rd, rd-start, rd-next, rd-bad, rd-end, rd-more}
 use Rattle.notes.proofs.read_note.Statement.{statement}
 use Rattle.notes.proofs.read_note.Tie as tie
@@ -42,8 +42,8 @@ unfolding noteIn
 returns c =
     let g = c .before .before in
     let l = g .before .before in
-    let e = g .get-number .ensures ∙ ap (numberIn 3) (rest-part (l .before .loop .at) (l .before .before .before .args .s .now)) in
-    ap answer (rd-bad _ _ _ _ (l .before .loop .inv) (l .loop-test .taken) (sym e ∙ c .enum-told .given .1))
+    let e = g .get-number .ensures ∙ ap (firstNumber 3) (rest-part (l .before .loop .at) (l .before .before .before .args .s .now)) in
+    ap noteAnswer (rd-bad _ _ _ _ (l .before .loop .inv) (l .loop-test .taken) (sym e ∙ c .enum-told .given .1))
 
 mul-ns : tie.Need-mul-ns Inv-loop μ-loop
 mul-ns c = omega arith
@@ -55,7 +55,7 @@ add-at : tie.Need-add-at Inv-loop μ-loop
 add-at c =
     let g = c .before .before .before in
     let l = g .before .before in
-    let e = g .get-number .ensures ∙ ap (numberIn 3) (rest-part (l .before .loop .at) (l .before .before .before .args .s .now)) in
+    let e = g .get-number .ensures ∙ ap (firstNumber 3) (rest-part (l .before .loop .at) (l .before .before .before .args .s .now)) in
     omega (arith, (rd-next _ _ _ _ (l .before .loop .inv) _ _ (l .loop-test .taken) (sym e ∙ c .before .v .given .1)) .most, l .before .before .before .good)
 
 add-i : tie.Need-add-i Inv-loop μ-loop
@@ -68,7 +68,7 @@ loop-again : tie.Need-loop-again Inv-loop μ-loop
 loop-again c =
     let g = c .before .before .before in
     let l = g .before .before in
-    let e = g .get-number .ensures ∙ ap (numberIn 3) (rest-part (l .before .loop .at) (l .before .before .before .args .s .now)) in
+    let e = g .get-number .ensures ∙ ap (firstNumber 3) (rest-part (l .before .loop .at) (l .before .before .before .args .s .now)) in
     rd-next _ _ _ _ (l .before .loop .inv) _ _ (l .loop-test .taken) (sym e ∙ c .before .v .given .1)
 
 array-read-refusal : tie.Need-array-read-refusal Inv-loop μ-loop
@@ -88,11 +88,11 @@ array-read-intervals c = omega (arith, c .before .before .loop .inv .long)
 
 returns-2 : tie.Need-returns-2 Inv-loop μ-loop
 unfolding noteIn
-returns-2 c = ap answer (rd-end _ _ _ _ (c .before .before .loop .inv) (c .before .loop-test .left) (c .if1 .taken))
+returns-2 c = ap noteAnswer (rd-end _ _ _ _ (c .before .before .loop .inv) (c .before .loop-test .left) (c .if1 .taken))
 
 returns-3 : tie.Need-returns-3 Inv-loop μ-loop
 unfolding noteIn
-returns-3 c = ap answer (rd-more _ _ _ _ (c .before .before .loop .inv) (c .before .loop-test .left) (c .if1 .left))
+returns-3 c = ap noteAnswer (rd-more _ _ _ _ (c .before .before .loop .inv) (c .before .loop-test .left) (c .if1 .left))
 
 pub read-note-spec : {M : Type 1} → statement M
 read-note-spec =

@@ -1,4 +1,3 @@
-use borrow.Author.Tests.{eq-eqb, ne-eqb}
 use Rattle.reader.specs.Reading.{endedAt}
 use borrow.Author.Needs.{needs}
 use Rattle.reader.proofs.ended_at.Statement.{statement}
@@ -17,43 +16,16 @@ accepted-at-requires c κs = search needs
 
 returns : tie.Need-returns
 unfolding endedAt
-returns c = simp (← c .accepted-at .ensures, c .before .if2 .taken, ← c .before .before .is-over .ensures, eq-eqb _ _ (c .before .before .before .if1 .taken))
+returns c = simp (← c .accepted-at .ensures, c .before .if1 .taken, ← c .before .before .is-over .ensures)
 
 refused-at-requires : tie.Need-refused-at-requires
 refused-at-requires c κs = search needs
 
 returns-2 : tie.Need-returns-2
 unfolding endedAt
-returns-2 c = simp (← c .refused-at .ensures, c .before .if2 .left, ← c .before .before .is-over .ensures, eq-eqb _ _ (c .before .before .before .if1 .taken))
-
-is-over-requires-2 : tie.Need-is-over-requires-2
-is-over-requires-2 c κs = search needs
-
-accepted-at-requires-2 : tie.Need-accepted-at-requires-2
-accepted-at-requires-2 c κs = search needs
-
-returns-3 : tie.Need-returns-3
-unfolding endedAt
-returns-3 c = simp (← c .accepted-at2 .ensures, c .before .if3 .taken, ← c .before .before .is-over2 .ensures, ne-eqb _ _ (c .before .before .before .if1 .left))
-
-refused-at-requires-2 : tie.Need-refused-at-requires-2
-refused-at-requires-2 c κs = search needs
-
-returns-4 : tie.Need-returns-4
-unfolding endedAt
-returns-4 c = simp (← c .refused-at2 .ensures, c .before .if3 .left, ← c .before .before .is-over2 .ensures, ne-eqb _ _ (c .before .before .before .if1 .left))
+returns-2 c = simp (← c .refused-at .ensures, c .before .if1 .left, ← c .before .before .is-over .ensures)
 
 pub ended-at-spec : {M : Type 1} → statement M
 ended-at-spec =
     tie.close
-    (tie.spec
-    is-over-requires
-    accepted-at-requires
-    returns
-    refused-at-requires
-    returns-2
-    is-over-requires-2
-    accepted-at-requires-2
-    returns-3
-    refused-at-requires-2
-    returns-4)
+    (tie.spec is-over-requires accepted-at-requires returns refused-at-requires returns-2)

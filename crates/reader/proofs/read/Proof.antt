@@ -1,11 +1,9 @@
-use mathlib.Core.Path.{ap, _∙_}
-use lib.ListN.{length}
-use Rattle.notes.specs.Note.{noteOf, left}
+use mathlib.Core.Path.{refl}
 use Rattle.states.specs.Moves.{begun}
-use Rattle.reader.specs.declared.Found.{Found}
-use Rattle.reader.specs.Reading.{blank, refusedAt}
-use Rattle.reader.specs.Answer.{Outcome, answerOf, noteFor, told, noted, unnoted}
-use Rattle.reader.proofs.Sheets.{read-unnoted, read-noted}
+use lib.ListN.{length}
+use Rattle.reader.specs.Reading.{refusedAt}
+use Rattle.reader.specs.Answer.{answerOf}
+use Rattle.reader.proofs.Sheets.{read-ten, read-told, permitted}
 use borrow.Author.Needs.{needs}
 use Rattle.reader.proofs.read.Statement.{statement}
 use Rattle.reader.proofs.read.Tie as tie
@@ -35,8 +33,8 @@ same-length-4 : tie.Need-same-length-4
 same-length-4 c = search needs
 
 returns : tie.Need-returns
-unfolding unnoted answerOf refusedAt begun blank
-returns c = let a = c .before .before .before .before .before .before .before .before .before .before .before .before .before .before .before .before .before .before .args in let q = c .before .before .before .before .before .before .before .before .before .clear-tables .ensures in let e = read-unnoted (a .doc .now) (length (c .before .before .before .before .before .before .before .before .before .before .before .before .before .before .before .before .before .before .args .series .now)) (length (c .before .before .before .before .before .before .before .before .before .before .before .before .before .before .before .before .before .before .args .positions .now)) (length (c .before .before .before .before .before .before .before .before .before .before .before .before .before .before .before .before .before .before .args .amounts .now)) (length (a .note .now)) (c .before .before .before .before .before .before .before .before .before .before .before .before .before .if1 .taken) in (ap (λ (o : Outcome). o .answer) e, (q .0 ∙ ap (λ (o : Outcome). o .tables .series) e, (q .1 .0 ∙ ap (λ (o : Outcome). o .tables .positions) e, (q .1 .1 ∙ ap (λ (o : Outcome). o .tables .amounts) e, c .before .before .clear-bytes .ensures ∙ ap (λ (o : Outcome). o .note) e))))
+unfolding answerOf refusedAt begun
+returns c = let a = c .before .before .before .before .before .before .before .before .before .before .before .before .before .before .before .before .before .before .args in permitted (read-ten (a .doc .now) (length (a .series .now)) (length (a .positions .now)) (length (a .amounts .now)) (length (a .note .now)) (c .before .before .before .before .before .before .before .before .before .before .before .before .before .if1 .taken) refl (c .before .before .before .before .before .before .before .before .before .clear-tables .ensures) (c .before .before .clear-bytes .ensures))
 
 read-sheet-requires : tie.Need-read-sheet-requires
 read-sheet-requires c κs = search needs
@@ -57,8 +55,7 @@ same-length-8 : tie.Need-same-length-8
 same-length-8 c = search needs
 
 returns-2 : tie.Need-returns-2
-unfolding noted
-returns-2 c = let a = c .before .before .before .before .before .before .before .before .before .before .before .before .before .before .before .before .before .before .args in let q = c .before .before .before .before .before .before .before .before .before .read-sheet .ensures in let w = c .before .before .tell .ensures in let nb = length (a .note .now) in let e = read-noted (a .doc .now) (length (c .before .before .before .before .before .before .before .before .before .before .before .before .before .before .before .before .before .before .args .series .now)) (length (c .before .before .before .before .before .before .before .before .before .before .before .before .before .before .before .before .before .before .args .positions .now)) (length (c .before .before .before .before .before .before .before .before .before .before .before .before .before .before .before .before .before .before .args .amounts .now)) nb (c .before .before .before .before .before .before .before .before .before .before .before .before .before .if1 .left) in (w .0 ∙ ap (λ (f : Found). told nb f) (q .0) ∙ ap (λ (o : Outcome). o .answer) e, (q .1 .0 ∙ ap (λ (o : Outcome). o .tables .series) e, (q .1 .1 .0 ∙ ap (λ (o : Outcome). o .tables .positions) e, (q .1 .1 .1 ∙ ap (λ (o : Outcome). o .tables .amounts) e, w .1 ∙ ap (λ (f : Found). left (noteOf (noteFor f)) nb) (q .0) ∙ ap (λ (o : Outcome). o .note) e))))
+returns-2 c = let a = c .before .before .before .before .before .before .before .before .before .before .before .before .before .before .before .before .before .before .args in permitted (read-told (a .doc .now) (length (a .series .now)) (length (a .positions .now)) (length (a .amounts .now)) (length (a .note .now)) (c .before .before .before .before .before .before .before .before .before .before .before .before .before .if1 .left) (c .before .before .before .before .before .before .before .before .before .read-sheet .ensures) (c .before .before .tell .ensures .0) (c .before .before .tell .ensures .1))
 
 pub read-spec : {M : Type 1} → statement M
 read-spec =

@@ -2,8 +2,7 @@ use mathlib.Core.Logic.{⊎-elim}
 use native.Mathlib.Omega.{arith}
 use Rattle.prolog.proofs.Promises.{refused-place}
 use mathlib.Core.Path.{refl, sym, ap, _∙_}
-use Rattle.reader.specs.Reading.{Out}
-use Rattle.reader.proofs.Ran.{tab}
+use Rattle.reader.specs.Reading.{tab}
 use Rattle.reader.proofs.Sheets.{into-items, into-unread}
 use borrow.Author.Needs.{needs}
 use Rattle.reader.proofs.read_all.Statement.{statement}
@@ -46,10 +45,10 @@ same-length-3 : tie.Need-same-length-3
 same-length-3 c = search needs
 
 returns : tie.Need-returns
-returns c = let e = into-items _ _ _ (sym (c .before .before .before .before .before .before .before .before .before .before .before .before .first-item .ensures .0) ∙ c .before .before .before .before .before .before .before .before .before .before .n .given .1) in let q = c .before .before .before .before .before .read-items .ensures in (q .0 ∙ ap (λ (o : Out). o .found) e, (q .1 .0 ∙ ap (λ (o : Out). o .tables .series) e, (q .1 .1 .0 ∙ ap (λ (o : Out). o .tables .positions) e, q .1 .1 .1 ∙ ap (λ (o : Out). o .tables .amounts) e)))
+returns c = let e = into-items _ _ _ (sym (c .before .before .before .before .before .before .before .before .before .before .before .before .first-item .ensures .0) ∙ c .before .before .before .before .before .before .before .before .before .before .n .given .1) in c .before .before .before .before .before .read-items .ensures ∙ e
 
 returns-2 : tie.Need-returns-2
-returns-2 c = let a = c .before .before .before .before .before .before .before .before .before .args in let e = into-unread _ (tab (a .series .now) (a .positions .now) (a .amounts .now)) _ (sym (c .before .before .before .before .before .first-item .ensures .0) ∙ c .before .before .before .p .given .1) in ((rw (← c .before .begin .ensures) (c .refused-at .ensures)) ∙ ap (λ (o : Out). o .found) e, (refl ∙ ap (λ (o : Out). o .tables .series) e, (refl ∙ ap (λ (o : Out). o .tables .positions) e, refl ∙ ap (λ (o : Out). o .tables .amounts) e)))
+returns-2 c = let a = c .before .before .before .before .before .before .before .before .before .args in let e = into-unread _ (tab (a .series .now) (a .positions .now) (a .amounts .now)) _ (sym (c .before .before .before .before .before .first-item .ensures .0) ∙ c .before .before .before .p .given .1) in rw (c .refused-at .ensures, c .before .begin .ensures) e
 
 pub read-all-spec : {M : Type 1} → statement M
 read-all-spec =

@@ -20,7 +20,7 @@ same-length : tie.Need-same-length
 same-length c = search needs
 
 returns : tie.Need-returns
-returns c = (simp (← c .before .before .before .before .before .read .ensures .0), search needs)
+returns c = (simp (← c .before .before .before .before .before .read .ensures .answers), search needs)
 
 pub put-note-spec : {M : Type 1} → statement M
 put-note-spec =

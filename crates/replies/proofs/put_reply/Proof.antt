@@ -1,6 +1,7 @@
 -- `replies::put_reply` meets its contract: an input that is too long, and any other.
 -- Assumes nothing.
 use Rattle.lines.specs.Text.{hexText}
+use Rattle.series.specs.Row.{cellsOf}
 use Rattle.reader.specs.Answer.{readOf}
 use Rattle.replies.specs.Reply.{lineFor}
 use Rattle.replies.proofs.Replies.{put-line, note-part, reply-long, reply-note}
@@ -21,7 +22,8 @@ returns : tie.Need-returns
 unfolding lineFor
 returns c =
     let at = c .before .before .before .before .before in
-    rw (reply-long (at .before .before .before .args .input .now) (at .if1 .taken)) (c .before .before .put-text .ensures)
+    rw (reply-long (at .before .before .before .args .input .now) (at .if1 .taken))
+    (let p = c .before .before .put-text .ensures in record { counted = p .0; text = p .1 .0; room = p .1 .1 })
 
 slice-aggregate-put-note : tie.Need-slice-aggregate-put-note
 slice-aggregate-put-note c = search needs
@@ -51,7 +53,7 @@ returns-2 c =
     let note = part .before .before .before in
     let at = note .before .before in
     let a = at .before .before .before .args in
-    let e = note-part (readOf (a .input .now) 512 2048 2048 16) _ _ _ (note .put-note .ensures .0) (note .put-note .ensures .1) (part .front .ensures .0) in
+    let e = note-part (readOf (a .input .now) (cellsOf 64) 2048 2048 16) _ _ _ (note .put-note .ensures .0) (note .put-note .ensures .1) (part .front .ensures .0) in
     let h = hex .put-hex .ensures in
     let b = c .before .before .put-byte .ensures in
     rw (reply-note (a .input .now) (at .if1 .left), ← e) (put-line (hexText (part .front .result .now)) (a .out .now) _ _ _ _ (h .0) (h .1 .0) (b .0) (b .1))

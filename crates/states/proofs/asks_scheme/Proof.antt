@@ -5,7 +5,7 @@ use Rattle.states.proofs.asks_scheme.Statement.{statement}
 use Rattle.states.proofs.asks_scheme.Tie as tie
 use Rattle.states.proofs.asks_scheme.Reads as reads
 use Rattle.states.proofs.asks_scheme.Lts as lts
-use Rattle.guideline.proofs.scheme_of.Reads as scheme-of-reads
+use Rattle.columns.proofs.scheme_of.Reads as scheme-of-reads
 
 scheme-of-requires : tie.Need-scheme-of-requires
 scheme-of-requires c κs = search needs

@@ -5,7 +5,7 @@ use Rattle.states.proofs.asks_v.Statement.{statement}
 use Rattle.states.proofs.asks_v.Tie as tie
 use Rattle.states.proofs.asks_v.Reads as reads
 use Rattle.states.proofs.asks_v.Lts as lts
-use Rattle.guideline.proofs.form_of.Reads as form-of-reads
+use Rattle.columns.proofs.form_of.Reads as form-of-reads
 
 form-of-requires : tie.Need-form-of-requires
 form-of-requires c κs = search needs

@@ -3,7 +3,7 @@ use Rattle.states.proofs.is_root.Statement.{statement}
 use Rattle.states.proofs.is_root.Tie as tie
 use Rattle.states.proofs.is_root.Reads as reads
 use Rattle.states.proofs.is_root.Lts as lts
-use Rattle.guideline.proofs.role_of.Reads as role-of-reads
+use Rattle.columns.proofs.role_of.Reads as role-of-reads
 
 role-of-requires : tie.Need-role-of-requires
 role-of-requires c κs = search needs

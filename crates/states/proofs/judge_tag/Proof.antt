@@ -7,15 +7,15 @@ use Rattle.states.proofs.judge_tag.Reads as reads
 use Rattle.states.proofs.judge_tag.Lts as lts
 use Rattle.attributes.proofs.part.Reads as part-reads
 use Rattle.forms.proofs.is_version_fixed.Reads as is-version-fixed-reads
-use Rattle.guideline.proofs.form_of.Reads as form-of-reads
-use Rattle.guideline.proofs.role_of.Reads as role-of-reads
+use Rattle.columns.proofs.form_of.Reads as form-of-reads
 use Rattle.rules.proofs.judge_value.Reads as judge-value-reads
+use Rattle.states.proofs.is_root.Reads as is-root-reads
 use Rattle.states.proofs.least_of.Reads as least-of-reads
 use Rattle.states.proofs.scheme_refusal.Reads as scheme-refusal-reads
 use Rattle.states.proofs.value_of.Reads as value-of-reads
 
-role-of-requires : tie.Need-role-of-requires
-role-of-requires c κs = search needs
+is-root-requires : tie.Need-is-root-requires
+is-root-requires c κs = search needs
 
 part-requires : tie.Need-part-requires
 part-requires c κs = search needs
@@ -25,18 +25,18 @@ is-version-fixed-requires c κs = search needs
 
 returns : tie.Need-returns
 unfolding judgeTag alsoScheme
-returns c = simp (c .if2 .taken, ← c .before .is-version-fixed .ensures, ← c .before .before .part .ensures, eq-eqb _ _ (c .before .before .before .before .if1 .taken), ← c .before .before .before .before .before .role-of .ensures)
+returns c = simp (c .if2 .taken, ← c .before .is-version-fixed .ensures, ← c .before .before .part .ensures, c .before .before .before .before .if1 .taken, ← c .before .before .before .before .before .is-root .ensures)
 
 returns-2 : tie.Need-returns-2
 unfolding judgeTag alsoScheme
-returns-2 c = simp (c .if2 .left, ← c .before .is-version-fixed .ensures, ← c .before .before .part .ensures, eq-eqb _ _ (c .before .before .before .before .if1 .taken), ← c .before .before .before .before .before .role-of .ensures)
+returns-2 c = simp (c .if2 .left, ← c .before .is-version-fixed .ensures, ← c .before .before .part .ensures, c .before .before .before .before .if1 .taken, ← c .before .before .before .before .before .is-root .ensures)
 
 form-of-requires : tie.Need-form-of-requires
 form-of-requires c κs = search needs
 
 returns-3 : tie.Need-returns-3
 unfolding judgeTag alsoScheme
-returns-3 c = simp (eq-eqb _ _ (c .if3 .taken), ← c .before .form-of .ensures, ne-eqb _ _ (c .before .before .if1 .left), ← c .before .before .before .role-of .ensures)
+returns-3 c = simp (eq-eqb _ _ (c .if3 .taken), ← c .before .form-of .ensures, c .before .before .if1 .left, ← c .before .before .before .is-root .ensures)
 
 value-of-requires : tie.Need-value-of-requires
 value-of-requires c κs = search needs
@@ -52,13 +52,13 @@ least-of-requires c κs = search needs
 
 returns-4 : tie.Need-returns-4
 unfolding judgeTag alsoScheme
-returns-4 c = simp (← c .least-of .ensures, ← c .before .scheme-refusal .ensures, ← c .before .before .judge-value .ensures, ← c .before .before .before .value-of .ensures, ne-eqb _ _ (c .before .before .before .before .before .before .if3 .left), ← c .before .before .before .before .before .before .before .form-of .ensures, ne-eqb _ _ (c .before .before .before .before .before .before .before .before .if1 .left), ← c .before .before .before .before .before .before .before .before .before .role-of .ensures)
+returns-4 c = simp (← c .least-of .ensures, ← c .before .scheme-refusal .ensures, ← c .before .before .judge-value .ensures, ← c .before .before .before .value-of .ensures, ne-eqb _ _ (c .before .before .before .before .before .before .if3 .left), ← c .before .before .before .before .before .before .before .form-of .ensures, c .before .before .before .before .before .before .before .before .if1 .left, ← c .before .before .before .before .before .before .before .before .before .is-root .ensures)
 
 pub judge-tag-spec : {M : Type 1} → statement M
 judge-tag-spec =
     tie.close
     (tie.spec
-    role-of-requires
+    is-root-requires
     part-requires
     is-version-fixed-requires
     returns

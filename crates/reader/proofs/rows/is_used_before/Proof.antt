@@ -1,15 +1,23 @@
-use Rattle.reader.specs.Rows.{usedBefore}
 use borrow.Author.Needs.{needs}
+use Rattle.reader.specs.Rows.{usedWith, usedBefore}
 use Rattle.reader.proofs.rows.is_used_before.Statement.{statement}
 use Rattle.reader.proofs.rows.is_used_before.Tie as tie
 use Rattle.reader.proofs.rows.is_used_before.Reads as reads
 use Rattle.reader.proofs.rows.is_used_before.Lts as lts
-use Rattle.reader.proofs.rows.is_used.Reads as is-used-reads
-use Rattle.reader.proofs.rows.last_of.Reads as last-of-reads
-use Rattle.reader.proofs.rows.quoted_of.Reads as quoted-of-reads
+use Rattle.reader.proofs.rows.brought_by.Reads as brought-by-reads
+use Rattle.reader.proofs.rows.is_used_in.Reads as is-used-in-reads
+
+brought-by-requires : tie.Need-brought-by-requires
+brought-by-requires c κs = search needs
 
 enum-told : tie.Need-enum-told
 enum-told c = search needs
+
+enum-known-f : tie.Need-enum-known-f
+enum-known-f c = search needs
+
+is-used-in-requires : tie.Need-is-used-in-requires
+is-used-in-requires c κs = search needs
 
 enum-told-2 : tie.Need-enum-told-2
 enum-told-2 c = search needs
@@ -17,82 +25,33 @@ enum-told-2 c = search needs
 enum-told-3 : tie.Need-enum-told-3
 enum-told-3 c = search needs
 
-last-of-requires : tie.Need-last-of-requires
-last-of-requires c κs = search needs
-
-quoted-of-requires : tie.Need-quoted-of-requires
-quoted-of-requires c κs = search needs
-
-is-used-requires : tie.Need-is-used-requires
-is-used-requires c κs = search needs
-
-enum-told-4 : tie.Need-enum-told-4
-enum-told-4 c = search needs
-
-enum-told-5 : tie.Need-enum-told-5
-enum-told-5 c = search needs
-
-enum-told-6 : tie.Need-enum-told-6
-enum-told-6 c = search needs
-
-enum-told-7 : tie.Need-enum-told-7
-enum-told-7 c = search needs
-
-enum-told-8 : tie.Need-enum-told-8
-enum-told-8 c = search needs
-
 returns : tie.Need-returns
-unfolding usedBefore
-returns c = simp (c .enum-told .given .1)
+unfolding usedBefore usedWith
+returns c = simp (← c .before .before .brought-by .ensures, c .enum-told .given .1)
 
 returns-2 : tie.Need-returns-2
-unfolding usedBefore
-returns-2 c = simp (c .enum-told2 .given .1)
+unfolding usedBefore usedWith
+returns-2 c = simp (← c .is-used-in .ensures, ← c .before .before .before .before .brought-by .ensures, c .before .before .f .given .1)
 
 returns-3 : tie.Need-returns-3
-unfolding usedBefore
-returns-3 c = simp (← c .is-used .ensures, ← c .before .quoted-of .ensures, ← c .before .before .last-of .ensures, c .before .before .before .enum-told3 .given .1)
+unfolding usedBefore usedWith
+returns-3 c = simp (← c .before .before .brought-by .ensures, c .enum-told2 .given .1)
 
 returns-4 : tie.Need-returns-4
-unfolding usedBefore
-returns-4 c = simp (c .enum-told4 .given .1)
-
-returns-5 : tie.Need-returns-5
-unfolding usedBefore
-returns-5 c = simp (c .enum-told5 .given .1)
-
-returns-6 : tie.Need-returns-6
-unfolding usedBefore
-returns-6 c = simp (c .enum-told6 .given .1)
-
-returns-7 : tie.Need-returns-7
-unfolding usedBefore
-returns-7 c = simp (c .enum-told7 .given .1)
-
-returns-8 : tie.Need-returns-8
-unfolding usedBefore
-returns-8 c = simp (c .enum-told8 .given .1)
+unfolding usedBefore usedWith
+returns-4 c = simp (← c .before .before .brought-by .ensures, c .enum-told3 .given .1)
 
 pub is-used-before-spec : {M : Type 1} → statement M
 is-used-before-spec =
     tie.close
     (tie.spec
+    brought-by-requires
     enum-told
+    enum-known-f
+    is-used-in-requires
     enum-told-2
     enum-told-3
-    last-of-requires
-    quoted-of-requires
-    is-used-requires
-    enum-told-4
-    enum-told-5
-    enum-told-6
-    enum-told-7
-    enum-told-8
     returns
     returns-2
     returns-3
-    returns-4
-    returns-5
-    returns-6
-    returns-7
-    returns-8)
+    returns-4)

@@ -2,13 +2,12 @@ use mathlib.Core.Path.{ap}
 use native.Mathlib.Omega.{arith}
 use lib.ListN.{length}
 use Rattle.reader.proofs.Spans.{dropped-in}
-use Rattle.reader.specs.Rows.{withView}
 use borrow.Author.Needs.{needs}
 use Rattle.reader.proofs.rows.set_trimmed.Statement.{statement}
 use Rattle.reader.proofs.rows.set_trimmed.Tie as tie
 use Rattle.reader.proofs.rows.set_trimmed.Reads as reads
 use Rattle.reader.proofs.rows.set_trimmed.Lts as lts
-use Rattle.reader.proofs.rows.set_view.Reads as set-view-reads
+use Rattle.series.proofs.set_view.Reads as set-view-reads
 use Rattle.trims.proofs.leading_spaces.Reads as leading-spaces-reads
 use Rattle.trims.proofs.trimmed.Reads as trimmed-reads
 
@@ -21,17 +20,22 @@ add-from c = search needs
 trimmed-requires : tie.Need-trimmed-requires
 trimmed-requires c κs = search needs
 
-set-view-requires : tie.Need-set-view-requires
-set-view-requires c κs = let r = c .before .before .leading-spaces .ensures in let b = c .before .before .before .before .before .args .b .now in omega (arith, ap length (c .before .trimmed .ensures), r .0, dropped-in b (rw (r .0) at (r .1)))
+cast-set-view : tie.Need-cast-set-view
+cast-set-view c = search needs
+
+cast-set-view-2 : tie.Need-cast-set-view-2
+cast-set-view-2 c = let r = c .before .before .leading-spaces .ensures in let b = c .before .before .before .before .before .args .b .now in omega (arith, ap length (c .before .trimmed .ensures), r .0, dropped-in b (rw (r .0) at (r .1)))
 
 -- call c .before .trimmed .ensures
 -- call c .before .before .leading-spaces .ensures .0
+
+set-view-requires : tie.Need-set-view-requires
+set-view-requires c κs = search needs
 
 same-length : tie.Need-same-length
 same-length c = search needs
 
 returns : tie.Need-returns
-unfolding withView
 returns c = simp (← c .before .before .set-view .ensures, ← c .before .before .before .before .trimmed .ensures, ← c .before .before .before .before .before .leading-spaces .ensures .0)
 
 pub set-trimmed-spec : {M : Type 1} → statement M
@@ -41,6 +45,8 @@ set-trimmed-spec =
     leading-spaces-requires
     add-from
     trimmed-requires
+    cast-set-view
+    cast-set-view-2
     set-view-requires
     same-length
     returns)

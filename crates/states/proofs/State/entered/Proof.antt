@@ -5,8 +5,8 @@ use Rattle.states.proofs.State.entered.Statement.{statement}
 use Rattle.states.proofs.State.entered.Tie as tie
 use Rattle.states.proofs.State.entered.Reads as reads
 use Rattle.states.proofs.State.entered.Lts as lts
-use Rattle.guideline.proofs.form_of.Reads as form-of-reads
-use Rattle.guideline.proofs.role_of.Reads as role-of-reads
+use Rattle.columns.proofs.form_of.Reads as form-of-reads
+use Rattle.columns.proofs.role_of.Reads as role-of-reads
 use Rattle.states.proofs.one_more.Reads as one-more-reads
 use Rattle.times.proofs.quarter_hours.Reads as quarter-hours-reads
 

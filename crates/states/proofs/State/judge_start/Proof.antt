@@ -4,7 +4,7 @@ use Rattle.states.proofs.State.judge_start.Statement.{statement}
 use Rattle.states.proofs.State.judge_start.Tie as tie
 use Rattle.states.proofs.State.judge_start.Reads as reads
 use Rattle.states.proofs.State.judge_start.Lts as lts
-use Rattle.guideline.proofs.role_of.Reads as role-of-reads
+use Rattle.columns.proofs.role_of.Reads as role-of-reads
 use Rattle.states.proofs.State.has_too_many.Reads as has-too-many-reads
 use Rattle.states.proofs.State.judge_values.Reads as judge-values-reads
 use Rattle.states.proofs.State.lacks_room.Reads as lacks-room-reads

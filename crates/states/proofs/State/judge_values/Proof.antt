@@ -4,7 +4,7 @@ use Rattle.states.proofs.State.judge_values.Statement.{statement}
 use Rattle.states.proofs.State.judge_values.Tie as tie
 use Rattle.states.proofs.State.judge_values.Reads as reads
 use Rattle.states.proofs.State.judge_values.Lts as lts
-use Rattle.guideline.proofs.role_of.Reads as role-of-reads
+use Rattle.columns.proofs.role_of.Reads as role-of-reads
 use Rattle.states.proofs.State.has_half.Reads as has-half-reads
 use Rattle.states.proofs.State.held.Reads as held-reads
 use Rattle.states.proofs.judge_tag.Reads as judge-tag-reads

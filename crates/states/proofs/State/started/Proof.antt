@@ -5,7 +5,7 @@ use Rattle.states.proofs.State.started.Statement.{statement}
 use Rattle.states.proofs.State.started.Tie as tie
 use Rattle.states.proofs.State.started.Reads as reads
 use Rattle.states.proofs.State.started.Lts as lts
-use Rattle.guideline.proofs.role_of.Reads as role-of-reads
+use Rattle.columns.proofs.role_of.Reads as role-of-reads
 use Rattle.states.proofs.State.entered.Reads as entered-reads
 use Rattle.states.proofs.State.judge_start.Reads as judge-start-reads
 use Rattle.states.proofs.entry_of.Reads as entry-of-reads

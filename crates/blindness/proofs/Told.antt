@@ -1,0 +1,119 @@
+-- A document, and one that is the same but for values of readable tags of one name, get the same answer, note, series and positions. Assumes nothing.
+use Prim.Native.Nat.{ℕ}
+use mathlib.Core.Path.{_≡_, refl, sym, ap, _∙_}
+use mathlib.Core.List.{List}
+use mathlib.Core.Bool.{Bool, true, false, cond}
+use mathlib.Core.Logic.{⊎-elim}
+use lib.IntN.{ℤ, pos}
+use lib.Dec.{eqb, ltb}
+use lib.ListN.{length, length-replicate}
+use Rattle.lists.specs.Zeros.{zeros}
+use Rattle.lists.proofs.Cases.{bool-cases}
+use Rattle.prolog.specs.Prolog.{begin}
+use Rattle.prolog.specs.declared.Begin.the-variants.{From}
+use Rattle.tables.specs.Cells.{noAmounts}
+use Rattle.states.specs.Moves.{begun}
+use Rattle.states.specs.declared.Room.{Room}
+use Rattle.states.specs.declared.Entry.{Entry}
+use Rattle.reader.specs.Items.{itemsFrom}
+use Rattle.reader.specs.Reading.{tab, Tables, Out, blank, roomOf, roomIn, readItems, itemsRead, readAfter, readInto, orBlank, readSheet}
+use Rattle.reader.specs.Answer.{Outcome, noted, unnoted, readOf}
+use Rattle.digits.specs.Unseen.{Unseen}
+use Rattle.blindness.specs.Replaced.{Replaced}
+use Rattle.blindness.proofs.Sources.{unsourced, sourcesFrom, sourceTable}
+use Rattle.blindness.proofs.Aligned.{SameItems, aligned}
+use Rattle.blindness.proofs.Steps.{BlindKinds}
+use Rattle.blindness.proofs.Shown.{Tabled}
+use Rattle.blindness.proofs.Runs.{SameOut, run-same}
+
+room-blank : (ns np na : ℕ) → roomIn (blank ns np na) ≡ roomOf ns np na
+unfolding roomIn blank
+room-blank ns np na = rw (length-replicate {A = ℕ} ns 0, length-replicate {A = ℕ} np 0, length-replicate {A = ℤ} na (pos 0))
+
+module _ (doc : List ℕ) (ns np na : ℕ) where
+  -- the items from the place n on, into blank tables
+  abbrev pub itemsOut : ℕ → List ℤ → Out
+  itemsOut n ams = readItems doc (roomOf ns np na) (itemsFrom doc n) begun (tab (zeros ns) (zeros np) ams)
+
+  pub items-read : (n : ℕ) → itemsRead doc n (blank ns np na) ≡ itemsOut n (noAmounts na)
+  unfolding itemsRead blank
+  items-read n = ap (λ (r : Room). readItems doc r (itemsFrom doc n) begun (blank ns np na)) (room-blank ns np na)
+
+out-same : {o o′ : Out} → o ≡ o′ → SameOut o o′
+out-same e = record { found = ap (λ (o : Out). o .found) e; series = ap (λ (o : Out). o .tables .series) e; positions = ap (λ (o : Out). o .tables .positions) e }
+
+out-trans : {a b c d : Out} → a ≡ b → SameOut b c → d ≡ c → SameOut a d
+out-trans p q r = rw (p, r) q
+
+module _ (ns np na : ℕ) where
+  chosen-same : (t : Bool) (a b : Tables) → a .series ≡ b .series → a .positions ≡ b .positions
+      → (cond t a (blank ns np na) .series ≡ cond t b (blank ns np na) .series) × (cond t a (blank ns np na) .positions ≡ cond t b (blank ns np na) .positions)
+  chosen-same true a b p q = (p, q)
+  chosen-same false a b p q = (refl, refl)
+
+  blank-same : {o o′ : Out} → SameOut o o′ → SameOut (orBlank ns np na o) (orBlank ns np na o′)
+  unfolding orBlank
+  blank-same {o} {o′} h =
+      let c = chosen-same (eqb (o′ .found .refusal) 0) (o .tables) (o′ .tables) (h .series) (h .positions) in
+      record { found = h .found; series = rw (h .found) (c .0); positions = rw (h .found) (c .1) }
+
+-- all but the amounts
+pub record SameTold (o o′ : Outcome) : Type 0 where
+  pub answer : o .answer ≡ o′ .answer
+  pub note : o .note ≡ o′ .note
+  pub series : o .tables .series ≡ o′ .tables .series
+  pub positions : o .tables .positions ≡ o′ .tables .positions
+
+told-itself : (o : Outcome) → SameTold o o
+told-itself o = record { answer = refl; note = refl; series = refl; positions = refl }
+
+-- two that are told like a third
+pub told-join : {o o′ p : Outcome} → SameTold o p → SameTold o′ p → SameTold o o′
+told-join a b =
+    record { answer = a .answer ∙ sym (b .answer); note = a .note ∙ sym (b .note); series = a .series ∙ sym (b .series); positions = a .positions ∙ sym (b .positions) }
+
+noted-same : (nb : ℕ) {o o′ : Out} → SameOut o o′ → SameTold (noted nb o) (noted nb o′)
+unfolding noted
+noted-same nb h = record { answer = rw (h .found); note = rw (h .found); series = h .series; positions = h .positions }
+
+module _ (name : List ℕ) (R : List ℕ → List ℕ → Type 0) (brought : Entry) (unseen : Unseen R) (rows : BlindKinds name R brought) (x y : List ℕ) (shown : Tabled R brought x y)
+    (d : Replaced name R x y) (ns np na nb : ℕ) where
+  module _ (h : SameItems name R x y) where
+    runs : SameOut (itemsOut x ns np na (h .from) (noAmounts na)) (itemsOut y ns np na (h .from) (noAmounts na))
+        × (sourcesFrom x ns np na (From (h .from)) ≡ sourcesFrom y ns np na (From (h .from)))
+    unfolding sourcesFrom
+    runs =
+        run-same name R brought rows x y shown (roomOf ns np na) (d .long) (h .items) begun (zeros ns) (zeros np) (noAmounts na) (noAmounts na) (unsourced na) (shown .none ns)
+
+    into-same : SameOut (readInto x (blank ns np na)) (readInto y (blank ns np na))
+    unfolding readInto readAfter
+    into-same = rw (h .first, h .second) (out-trans (items-read x ns np na (h .from)) (runs .0) (items-read y ns np na (h .from)))
+
+    sheet-same : SameOut (readSheet x ns np na) (readSheet y ns np na)
+    unfolding readSheet
+    sheet-same =
+        rw (d .long)
+        (⊎-elim
+        (λ l. rw l (out-same refl))
+        (λ l. rw l (blank-same ns np na into-same))
+        (bool-cases (ltb 1048576 (length y))))
+
+    items-told : SameTold (readOf x ns np na nb) (readOf y ns np na nb)
+    unfolding readOf
+    items-told =
+        ⊎-elim
+        (λ l. rw l (told-itself (unnoted ns np na nb)))
+        (λ l. rw l (noted-same nb sheet-same))
+        (bool-cases (ltb nb 16))
+
+    sources-same : sourcesFrom x ns np na (begin x) ≡ sourcesFrom y ns np na (begin y)
+    sources-same = rw (h .first, h .second) (runs .1)
+
+  -- and each amount comes from the same place
+  pub replaced-same : SameTold (readOf x ns np na nb) (readOf y ns np na nb) × (sourceTable x ns np na nb ≡ sourceTable y ns np na nb)
+  unfolding sourceTable
+  replaced-same =
+      ⊎-elim
+      (λ e. rw e (told-itself (readOf y ns np na nb), refl))
+      (λ h. let t = items-told h in (t, rw (t .answer, sources-same h)))
+      (aligned name unseen x y d)

@@ -1,0 +1,19 @@
+-- The contracts of this crate leave one possible answer and one possible content of the lent table. Assumes nothing.
+use Prim.Native.Nat.{ℕ}
+use mathlib.Core.Path.{_≡_}
+use mathlib.Core.List.{List}
+use Rattle.lists.proofs.Unique.{one}
+use Rattle.series.specs.declared.Field.{Field}
+use Rattle.series.specs.Row.{rowsIn, withField, withView, view}
+
+pub rows-in-one : (n : ℕ) {r r′ : ℕ} → r ≡ rowsIn n → r′ ≡ rowsIn n → r ≡ r′
+rows-in-one n = one
+
+pub set-field-one : (t : List ℕ) (row : ℕ) (f : Field) (n : ℕ) {r r′ : List ℕ} → r ≡ withField t row f n → r′ ≡ withField t row f n → r ≡ r′
+set-field-one t row f n = one
+
+pub set-view-one : (t : List ℕ) (row : ℕ) (f : Field) (start len : ℕ) {r r′ : List ℕ} → r ≡ withView t row f start len → r′ ≡ withView t row f start len → r ≡ r′
+set-view-one t row f start len = one
+
+pub view-of-one : (doc t : List ℕ) (row : ℕ) (f : Field) {r r′ : List ℕ} → r ≡ view doc t row f → r′ ≡ view doc t row f → r ≡ r′
+view-of-one doc t row f = one

@@ -1,0 +1,58 @@
+-- "A series takes eight u32 numbers, a length here being in bytes between the quotes: start and length of its TimeSeriesIdentification; of its
+-- object (InParty in kind 1, ResourceObject in kind 2); of its BusinessType, spaces dropped; its first interval row; its interval count."
+use Prim.Native.Nat.{ℕ, _+_, _*_, _/_}
+use mathlib.Core.Path.{_≡_}
+use mathlib.Core.List.{List}
+use mathlib.Core.Bool.{Bool, true, false}
+use lib.ListN.{getD, set}
+use Rattle.attributes.specs.Attribute.{partOf}
+use Rattle.series.specs.declared.Field.{Field}
+use Rattle.series.specs.declared.Field.the-variants.{Identification, Object, BusinessType, FirstRow, Count}
+
+-- the first cell of each field of a row; a view is start and length, in two cells
+abbrev pub cellOf : Field → ℕ
+cellOf Identification = 0
+cellOf Object = 2
+cellOf BusinessType = 4
+cellOf FirstRow = 6
+cellOf Count = 7
+
+abbrev pub isView : Field → Bool
+isView Identification = true
+isView Object = true
+isView BusinessType = true
+isView FirstRow = false
+isView Count = false
+
+-- how many numbers a series takes, and n series
+abbrev pub rowWidth : ℕ
+rowWidth = 8
+
+abbrev pub cellsOf : ℕ → ℕ
+cellsOf n = rowWidth * n
+
+-- "Room for series is the table length divided by 8, rounded down."
+abbrev pub rowsIn : ℕ → ℕ
+rowsIn n = n / rowWidth
+
+-- the cell where a field of row i begins, rows being counted from 0
+abbrev pub cellAt : ℕ → Field → ℕ
+cellAt i f = cellsOf i + cellOf f
+
+abbrev pub fieldAt : List ℕ → ℕ → Field → ℕ
+fieldAt t i f = getD t (cellAt i f) 0
+
+abbrev pub withField : List ℕ → ℕ → Field → ℕ → List ℕ
+withField t i f n = set t (cellAt i f) n
+
+-- start and length of a view
+unfoldable pub withView : List ℕ → ℕ → Field → ℕ → ℕ → List ℕ
+withView t i f start len = set (set t (cellAt i f) start) (cellAt i f + 1) len
+
+-- a view that shows nothing, and stands nowhere
+abbrev pub NoView : List ℕ → ℕ → Field → Type 0
+NoView t i f = (getD t (cellAt i f) 0 ≡ 0) × (getD t (cellAt i f + 1) 0 ≡ 0)
+
+-- the part of the document that a view shows
+unfoldable pub view : List ℕ → List ℕ → ℕ → Field → List ℕ
+view doc t i f = partOf doc (getD t (cellAt i f) 0) (getD t (cellAt i f + 1) 0)
