@@ -1,8 +1,10 @@
 // The reading state, and how each item moves it. It holds no amount.
 use attributes::part;
 use codes::is_listed;
+use columns::AREA_ROLE;
 use columns::BUSINESS_ROLE;
 use columns::BY_LIST;
+use columns::DIRECTION_ROLE;
 use columns::INTERVAL_ROLE;
 use columns::NO_FORM;
 use columns::NO_SCHEME;
@@ -79,6 +81,8 @@ pub enum Entry {
     Identification,
     Object,
     BusinessType,
+    Direction,
+    Area,
     Interval,
     Position(u32),
     Amount,
@@ -259,6 +263,12 @@ fn entry_of(role: usize, p: u32) -> Entry
     }
     if role == BUSINESS_ROLE {
         return Entry::BusinessType;
+    }
+    if role == DIRECTION_ROLE {
+        return Entry::Direction;
+    }
+    if role == AREA_ROLE {
+        return Entry::Area;
     }
     if role == SERIES_ID_ROLE {
         return Entry::Identification;
