@@ -179,7 +179,7 @@ static void judge_digits(const uint8_t *doc, struct outcome first, const uint32_
     uint8_t *other = filled(length, 0);
     memcpy(other, doc, length);
     turn_digits(other);
-    struct outcome o = read_by(lumintayag_read, other, 7, 0x11);
+    struct outcome o = read_by(lumintayag_read_v2, other, 7, 0x11);
     hold(same_but_amounts(first, o) && memcmp(o.answer, n, 28) == 0, "nothing but the amounts depends on the digits of a price");
     let_go(o);
     free(other);
@@ -194,7 +194,7 @@ int LLVMFuzzerTestOneInput(const uint8_t *data, size_t size) {
     length = size < SIZES ? 0 : size - SIZES;
     lent = sizes_of(first);
 
-    struct outcome a = read_by(lumintayag_read, doc, lent.answer, 0xA5);
+    struct outcome a = read_by(lumintayag_read_v2, doc, lent.answer, 0xA5);
     struct outcome b = read_by(checked_lumintayag_read, doc, 7, 0x5A);
     const uint32_t *n = b.answer;
     hold(same(a, b), "the same document gives the same, whatever stood in what is lent");

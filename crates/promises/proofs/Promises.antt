@@ -58,7 +58,7 @@ module _ (doc : List ℕ) (ns np na nb : ℕ) where
       → (a ≡ a′) × (s ≡ s′) × (p ≡ p′) × (m ≡ m′) × (n ≡ n′)
   one-outcome = read-one doc ns np na nb
 
-  -- the same of `lumintayag_read`, with k cells for the answer's numbers
+  -- the same of `lumintayag_read_v2`, with k cells for the answer's numbers
   pub one-call : (k : ℕ) {r r′ : ℕ} {s s′ p p′ : List ℕ} {m m′ : List ℤ} {n n′ a a′ : List ℕ} → PermittedCall outcome k r s p m n a → PermittedCall outcome k r′ s′ p′ m′ n′ a′
       → (r ≡ r′) × (s ≡ s′) × (p ≡ p′) × (m ≡ m′) × (n ≡ n′) × (a ≡ a′)
   one-call k = lumintayag-read-one doc ns np na nb k
@@ -144,7 +144,7 @@ pub amounts-alone : (x y : List ℕ) (ns np na nb : ℕ) → DifferInQty x y →
     → (a ≡ a′) × (n ≡ n′) × (s ≡ s′) × (p ≡ p′) × ((k : ℕ) → (getD m k (pos 0) ≡ getD m′ k (pos 0)) ⊎ OwnDigitsDiffer ns np na nb x y k)
 amounts-alone = two-runs
 
--- the same of `lumintayag_read`
+-- the same of `lumintayag_read_v2`
 pub amounts-alone-called : (x y : List ℕ) → DifferInQty x y → (ns np na nb k : ℕ) {r r′ : ℕ} {s s′ p p′ : List ℕ} {m m′ : List ℤ} {n n′ a a′ : List ℕ}
     → PermittedCall (readOf x ns np na nb) k r s p m n a → PermittedCall (readOf y ns np na nb) k r′ s′ p′ m′ n′ a′
     → (r ≡ r′) × (a ≡ a′) × (n ≡ n′) × (s ≡ s′) × (p ≡ p′) × ((j : ℕ) → (getD m j (pos 0) ≡ getD m′ j (pos 0)) ⊎ OwnDigitsDiffer ns np na nb x y j)
