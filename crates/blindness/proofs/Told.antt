@@ -16,8 +16,7 @@ use Rattle.states.specs.Moves.{begun}
 use Rattle.states.specs.declared.Room.{Room}
 use Rattle.states.specs.declared.Entry.{Entry}
 use Rattle.reader.specs.Items.{itemsFrom}
-use Rattle.reader.specs.Reading.{Tables, Out, blank, roomOf, roomIn, readItems, itemsRead, readAfter, readInto, orBlank, readSheet}
-use Rattle.reader.proofs.Ran.{tab}
+use Rattle.reader.specs.Reading.{tab, Tables, Out, blank, roomOf, roomIn, readItems, itemsRead, readAfter, readInto, orBlank, readSheet}
 use Rattle.reader.specs.Answer.{Outcome, noted, unnoted, readOf}
 use Rattle.digits.specs.Unseen.{Unseen}
 use Rattle.blindness.specs.Replaced.{Replaced}

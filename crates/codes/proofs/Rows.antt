@@ -43,6 +43,6 @@ unfolding listed wordsAfter
 among-end n s l i h = rw (drop-of-length-le s h)
 
 -- a number that no list has
-pub none-listed : (k : ℕ) (l : List ℕ) → 32 ≤ k → false ≡ listed (codesOf k) l
-unfolding codesOf lists listed
-none-listed k l h = let g : length lists ≤ k = omega arith in rw (List·getD-eq-default lists [] g)
+pub none-listed : (k : ℕ) (l : List ℕ) → length lists ≤ k → false ≡ listed (codesOf k) l
+unfolding codesOf listed
+none-listed k l h = rw (List·getD-eq-default lists [] h)

@@ -39,8 +39,6 @@ pub record Layout (rows : List ℕ) (p : ℕ) : Type 0 where
   pub series : roleOf (getD rows 12 0) ≡ 2
   pub period : roleOf (getD rows p 0) ≡ 3
   pub interval : roleOf (getD rows (p + 3) 0) ≡ 4
-  pub object : roleOf (getD rows 18 0) ≡ 6
-  pub business : roleOf (getD rows 14 0) ≡ 7
   pub id : roleOf (getD rows 13 0) ≡ 8
   pub pos : roleOf (getD rows (p + 4) 0) ≡ 9
   pub qty : roleOf (getD rows (p + 5) 0) ≡ 10
@@ -49,11 +47,11 @@ pub record Layout (rows : List ℕ) (p : ℕ) : Type 0 where
   pub only-period : (q : ℕ) → q < length rows → roleOf (getD rows q 0) ≡ 3 → q ≡ p
   pub only-interval : (q : ℕ) → q < length rows → roleOf (getD rows q 0) ≡ 4 → q ≡ p + 3
   pub only-originals : (q : ℕ) → q < length rows → roleOf (getD rows q 0) ≡ 5 → (18 < q) × (q < p)
-  pub only-object : (q : ℕ) → q < length rows → roleOf (getD rows q 0) ≡ 6 → q ≡ 18
-  pub only-business : (q : ℕ) → q < length rows → roleOf (getD rows q 0) ≡ 7 → q ≡ 14
   pub only-id : (q : ℕ) → q < length rows → roleOf (getD rows q 0) ≡ 8 → q ≡ 13
   pub only-pos : (q : ℕ) → q < length rows → roleOf (getD rows q 0) ≡ 9 → q ≡ p + 4
   pub only-qty : (q : ℕ) → q < length rows → roleOf (getD rows q 0) ≡ 10 → q ≡ p + 5
+  -- what the tables show stands in a series
+  pub shown-in : (q : ℕ) → q < length rows → 6 ≤ roleOf (getD rows q 0) → 12 < q
   -- the values that are held against others
   pub covered-form : (q : ℕ) → q < length rows → formOf (getD rows q 0) ≡ 6 → q ≡ 11
   pub time-form : (q : ℕ) → q < length rows → formOf (getD rows q 0) ≡ 7 → q ≡ p + 1
@@ -64,8 +62,6 @@ pub record Layout (rows : List ℕ) (p : ℕ) : Type 0 where
   -- what has to come, and what comes once
   pub must-root : required (getD rows 1 0) ≡ true
   pub must-period : required (getD rows p 0) ≡ true
-  pub must-object : required (getD rows 18 0) ≡ true
-  pub must-business : required (getD rows 14 0) ≡ true
   pub must-id : required (getD rows 13 0) ≡ true
   pub must-pos : required (getD rows (p + 4) 0) ≡ true
   pub must-qty : required (getD rows (p + 5) 0) ≡ true
@@ -138,10 +134,11 @@ tests kind p =
     eqb (length rows) (p + 6) ∷ ltb 20 p ∷ wherever rows (λ q. ltb 0 q) (λ q. eqb (parentOf (getD rows q 0)) (home p q))
     ∷ soleTest rows roleOf 1 1 ∷ soleTest rows roleOf 2 12 ∷ soleTest rows roleOf 3 p ∷ soleTest rows roleOf 4 (p + 3)
     ∷ wherever rows (λ q. eqb (roleOf (getD rows q 0)) 5) (λ q. cond (ltb 18 q) (ltb q p) false)
-    ∷ soleTest rows roleOf 6 18 ∷ soleTest rows roleOf 7 14 ∷ soleTest rows roleOf 8 13 ∷ soleTest rows roleOf 9 (p + 4) ∷ soleTest rows roleOf 10 (p + 5)
+    ∷ wherever rows (λ q. leb 6 (roleOf (getD rows q 0))) (λ q. ltb 12 q)
+    ∷ soleTest rows roleOf 8 13 ∷ soleTest rows roleOf 9 (p + 4) ∷ soleTest rows roleOf 10 (p + 5)
     ∷ soleTest rows formOf 6 11 ∷ soleTest rows formOf 7 (p + 1) ∷ soleTest rows formOf 9 (p + 4)
     ∷ not (collapsed (getD rows 11 0)) ∷ collapsed (getD rows (p + 4) 0)
-    ∷ required (getD rows 1 0) ∷ required (getD rows p 0) ∷ required (getD rows 18 0) ∷ required (getD rows 14 0) ∷ required (getD rows 13 0)
+    ∷ required (getD rows 1 0) ∷ required (getD rows p 0) ∷ required (getD rows 13 0)
     ∷ required (getD rows (p + 4) 0) ∷ required (getD rows (p + 5) 0)
     ∷ wherever rows (λ q. repeated (getD rows q 0)) (λ q. cond (eqb q 12) true (eqb q (p + 3)))
     ∷ wherever rows (λ q. leb 6 (roleOf (getD rows q 0))) (λ q. asksV (getD rows q 0))
@@ -156,12 +153,12 @@ tested kind p well h =
     let series = sole rows roleOf 2 12 (t 4) in
     let period = sole rows roleOf 3 p (t 5) in
     let interval = sole rows roleOf 4 (p + 3) (t 6) in
-    let object = sole rows roleOf 6 18 (t 8) in
-    let business = sole rows roleOf 7 14 (t 9) in
-    let id = sole rows roleOf 8 13 (t 10) in
-    let pos = sole rows roleOf 9 (p + 4) (t 11) in
-    let qty = sole rows roleOf 10 (p + 5) (t 12) in
-    let pos-form = sole rows formOf 9 (p + 4) (t 15) in
+    let id = sole rows roleOf 8 13 (t 9) in
+    let pos = sole rows roleOf 9 (p + 4) (t 10) in
+    let qty = sole rows roleOf 10 (p + 5) (t 11) in
+    let pos-form = sole rows formOf 9 (p + 4) (t 14) in
+    let of-shown : (test : ℕ → Bool) → wherever rows (λ q. leb 6 (roleOf (getD rows q 0))) test ≡ true → (q : ℕ) → q < length rows → 6 ≤ roleOf (getD rows q 0) → test q ≡ true
+    = λ test h q l e. at-row rows (λ q. leb 6 (roleOf (getD rows q 0))) test h q l (le-leb 6 (roleOf (getD rows q 0)) e) in
     record {
       period = p;
       layout =
@@ -175,8 +172,6 @@ tested kind p well h =
             series = series .0;
             period = period .0;
             interval = interval .0;
-            object = object .0;
-            business = business .0;
             id = id .0;
             pos = pos .0;
             qty = qty .0;
@@ -185,29 +180,26 @@ tested kind p well h =
             only-period = period .1;
             only-interval = interval .1;
             only-originals = between rows 5 18 p (t 7);
-            only-object = object .1;
-            only-business = business .1;
             only-id = id .1;
             only-pos = pos .1;
             only-qty = qty .1;
-            covered-form = sole rows formOf 6 11 (t 13) .1;
-            time-form = sole rows formOf 7 (p + 1) (t 14) .1;
+            shown-in = λ q l e. ltb-true 12 q (of-shown (λ q. ltb 12 q) (t 8) q l e);
+            covered-form = sole rows formOf 6 11 (t 12) .1;
+            time-form = sole rows formOf 7 (p + 1) (t 13) .1;
             only-pos-form = pos-form .1;
             pos-form = pos-form .0;
-            covered-kept = not-true (collapsed (getD rows 11 0)) (t 16);
-            pos-collapsed = t 17;
-            must-root = t 18;
-            must-period = t 19;
-            must-object = t 20;
-            must-business = t 21;
-            must-id = t 22;
-            must-pos = t 23;
-            must-qty = t 24;
-            once = single rows 12 (p + 3) (t 25);
+            covered-kept = not-true (collapsed (getD rows 11 0)) (t 15);
+            pos-collapsed = t 16;
+            must-root = t 17;
+            must-period = t 18;
+            must-id = t 19;
+            must-pos = t 20;
+            must-qty = t 21;
+            once = single rows 12 (p + 3) (t 22);
           };
-      valued = λ q l e. at-row rows (λ q. leb 6 (roleOf (getD rows q 0))) (λ q. asksV (getD rows q 0)) (t 26) q l (le-leb 6 (roleOf (getD rows q 0)) e);
-      filled = not-true (endsAtOnce rows p) (t 27);
-      told = eqb-true (kindOf (nameOf (getD rows 1 0))) kind (t 28);
+      valued = λ q l e. of-shown (λ q. asksV (getD rows q 0)) (t 23) q l e;
+      filled = not-true (endsAtOnce rows p) (t 24);
+      told = eqb-true (kindOf (nameOf (getD rows 1 0))) kind (t 25);
     }
 
 -- the Period of each kind stands in the row that has its role

@@ -8,17 +8,18 @@ use lib.ListN.{length, getD, drop, replicate, length-replicate, getD-replicate, 
 use lib.Seq.{sets, sets-eq, getD-append-add, getD-drop}
 use Rattle.lists.proofs.Cases.{ltb-cases, zero-not-one}
 use Rattle.contents.specs.Legal.{All}
+use Rattle.contents.specs.Shown.{lastOf}
 
 -- ---- the last
-
--- the last of a list, or d where there is none
-abbrev pub lastOf : {A : Type 0} → A → List A → A
-lastOf d [] = d
-lastOf d (x ∷ l) = lastOf x l
 
 pub last-append : {A : Type 0} (d : A) (a b : List A) → lastOf d (a ++ b) ≡ lastOf (lastOf d a) b
 last-append d [] b = refl
 last-append d (x ∷ a) b = last-append x a b
+
+-- two lists that come to nothing
+pub none-both : {A : Type 0} (a b : List A) → a ++ b ≡ [] → (a ≡ []) × (b ≡ [])
+none-both [] b e = (refl, e)
+none-both (x ∷ a) b e = absurd (zero-not-one (cc))
 
 -- ---- cells
 

@@ -1,13 +1,19 @@
 -- What a row is to the tables, case by case. Assumes nothing.
 use Prim.Native.Nat.{ℕ}
-use mathlib.Core.Path.{_≡_}
-use mathlib.Core.Bool.{false}
+use mathlib.Core.Path.{_≡_, refl, sym, ap, _∙_}
+use mathlib.Core.Bool.{Bool, true, false, cond}
 use mathlib.Core.Logic.{⊎-elim}
 use lib.Dec.{eqb}
-use Rattle.lists.proofs.Cases.{eqb-cases}
+use borrow.Author.Tests.{ne-eqb}
+use Rattle.lists.proofs.Cases.{eqb-cases, never}
 use Rattle.states.specs.Moves.{entryOf}
 use Rattle.states.specs.declared.Entry.{Entry}
-use Rattle.states.specs.declared.Entry.the-variants.{Nothing, Series, Identification, Object, BusinessType, Interval, Position, Amount}
+use Rattle.states.specs.declared.Entry.the-variants.{Nothing, Series, Interval, Position, Amount}
+use Rattle.states.specs.declared.Entry.the-variants.{Identification as BringsIdentification, Object as BringsObject, BusinessType as BringsBusinessType}
+use Rattle.series.specs.Row.{isView}
+use Rattle.series.specs.declared.Field.{Field}
+use Rattle.series.specs.declared.Field.the-variants.{Identification, Object, BusinessType, FirstRow, Count}
+use Rattle.contents.specs.Shown.{roleShown}
 
 -- the roles that bring something into the tables
 pub data Role (r : ℕ) : Type 0 where
@@ -32,8 +38,8 @@ role-cases r =
     (eqb-cases r 10)) (eqb-cases r 9)) (eqb-cases r 8)) (eqb-cases r 7)) (eqb-cases r 6)) (eqb-cases r 4)) (eqb-cases r 2)
 
 -- what holds of the entry that each role brings
-pub by-entry : (P : Entry → Type 0) (r n : ℕ) → P Nothing → (r ≡ 2 → P Series) → (r ≡ 4 → P Interval) → (r ≡ 6 → P Object) → (r ≡ 7 → P BusinessType)
-    → (r ≡ 8 → P Identification) → (r ≡ 9 → P (Position n)) → (r ≡ 10 → P Amount) → P (entryOf r n)
+pub by-entry : (P : Entry → Type 0) (r n : ℕ) → P Nothing → (r ≡ 2 → P Series) → (r ≡ 4 → P Interval) → (r ≡ 6 → P BringsObject) → (r ≡ 7 → P BringsBusinessType)
+    → (r ≡ 8 → P BringsIdentification) → (r ≡ 9 → P (Position n)) → (r ≡ 10 → P Amount) → P (entryOf r n)
 unfolding entryOf
 by-entry P r n nothing series interval object business id position amount = by (role-cases r)
   where
@@ -46,3 +52,32 @@ by-entry P r n nothing series interval object business id position amount = by (
     by (is-pos e) = rw e (position e)
     by (is-qty e) = rw e (amount e)
     by (is-other a b c d e f g) = simp (a, b, c, d, e, f, g) nothing
+
+-- ---- the role of an element tells the view that shows it
+
+abbrev fieldWith : ℕ → Field
+fieldWith r = cond (eqb r 6) Object (cond (eqb r 7) BusinessType Identification)
+
+field-with : (f : Field) → isView f ≡ true → fieldWith (roleShown f) ≡ f
+field-with Identification e = refl
+field-with Object e = refl
+field-with BusinessType e = refl
+field-with FirstRow e = never e
+field-with Count e = never e
+
+pub role-tells : (f g : Field) → isView f ≡ true → isView g ≡ true → roleShown f ≡ roleShown g → f ≡ g
+role-tells f g a b e = sym (field-with f a) ∙ ap fieldWith e ∙ field-with g b
+
+-- whether a view shows the elements of a role
+abbrev pub shownRole : ℕ → Bool
+shownRole r = cond (eqb r 6) true (cond (eqb r 7) true (eqb r 8))
+
+role-shown : (f : Field) → isView f ≡ true → shownRole (roleShown f) ≡ true
+role-shown Identification e = refl
+role-shown Object e = refl
+role-shown BusinessType e = refl
+role-shown FirstRow e = never e
+role-shown Count e = never e
+
+pub not-shown : (r : ℕ) → shownRole r ≡ false → (f : Field) → isView f ≡ true → eqb r (roleShown f) ≡ false
+not-shown r z f e = ne-eqb r (roleShown f) (λ q. never (sym z ∙ ap shownRole q ∙ role-shown f e))

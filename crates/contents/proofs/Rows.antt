@@ -2,7 +2,7 @@
 -- Assumes nothing.
 use Prim.Native.Nat.{ℕ, zero, suc, _+_, _-_, _≤_, _<_}
 use mathlib.Core.Path.{_≡_, refl, sym, ap, _∙_}
-use mathlib.Core.List.{List, [], _∷_, map, _++_}
+use mathlib.Core.List.{List, [], _∷_, _++_}
 use mathlib.Core.Bool.{true, false, Bool}
 use mathlib.Core.Logic.{inl, inr, ⊎-elim}
 use native.Mathlib.Omega.{arith}
@@ -17,16 +17,15 @@ use Rattle.columns.specs.Columns.{roleOf}
 use Rattle.states.specs.Moves.{entryOf}
 use Rattle.states.specs.declared.State.{State}
 use Rattle.reader.specs.Items.{Placed}
-use Rattle.series.specs.Row.{cellsOf, cellAt, fieldAt, withField, view}
-use Rattle.series.specs.declared.Field.the-variants.{Identification, Object, BusinessType, FirstRow, Count}
-use Rattle.series.proofs.Rows.{view-as}
+use Rattle.series.specs.Row.{cellsOf, cellAt, withField}
+use Rattle.series.specs.declared.Field.the-variants.{FirstRow, Count}
+use Rattle.series.proofs.Rows.{view-as, view-low, view-none}
 use Rattle.reader.specs.Rows.{broughtBy, spanOf, fieldAfter, seriesWith, seriesAfter}
 use Rattle.reader.specs.Reading.{Tables, tablesAfter}
 use Rattle.trees.specs.Trees.{Trees, none, element, rowsTaken, Stand, Fits, EachConforms}
 use Rattle.contents.specs.Said.{Said}
-use Rattle.contents.specs.Legal.{hasRole, those, inEach, positionOf, identifications}
-use Rattle.contents.specs.Shown.{sum, objects, businessTypes, intervalCounts}
-use Rattle.contents.proofs.Lists.{lastOf}
+use Rattle.contents.specs.Legal.{hasRole, those, inEach, positionOf}
+use Rattle.contents.specs.Shown.{sum, lastOf, saidFor, eachSeries, intervalCounts, RowShows}
 use Rattle.contents.proofs.Laid.{Layout, Valued}
 use Rattle.contents.proofs.Elements.{in-of, own, those-of, Within, none-in, none-there, within-more}
 use Rattle.contents.proofs.Shape.{in-series-row, series-in, under-root, leaf, elsewhere, comes-once}
@@ -36,54 +35,44 @@ use Rattle.contents.proofs.Lifted.{each-said, taken-said}
 use Rattle.contents.proofs.Values.{HasValues}
 use Rattle.contents.proofs.Roles.{by-entry}
 use Rattle.contents.proofs.Intervals.{puts}
-use Rattle.contents.proofs.Series.{valueBytes, trimmedBytes, Effect, inside}
+use Rattle.contents.proofs.Series.{Effect, inside}
 
--- row n of the series table shows a series
-pub record RowOf (doc cells : List ℕ) (n : ℕ) (id object business : List ℕ) (first count : ℕ) : Type 0 where
-  pub id-shown : view doc cells n Identification ≡ id
-  pub object-shown : view doc cells n Object ≡ object
-  pub business-shown : view doc cells n BusinessType ≡ business
-  pub first-shown : fieldAt cells n FirstRow ≡ first
-  pub count-shown : fieldAt cells n Count ≡ count
-
-row-kept : {doc t u : List ℕ} {n : ℕ} {id object business : List ℕ} {first count : ℕ} → ((j : ℕ) → j < cellsOf (n + 1) → getD u j 0 ≡ getD t j 0)
-    → RowOf doc t n id object business first count → RowOf doc u n id object business first count
-row-kept {doc} {t} {u} {n} k r =
+row-kept : {doc t u rows : List ℕ} {n : ℕ} {s : Trees Said} {first : ℕ} → ((j : ℕ) → j < cellsOf (n + 1) → getD u j 0 ≡ getD t j 0)
+    → RowShows doc t rows n s first → RowShows doc u rows n s first
+row-kept {doc} {t} {u} {rows} {n} k r =
     record {
-      id-shown = view-as doc t u n Identification (k (cellAt n Identification) (omega arith)) (k (cellAt n Identification + 1) (omega arith)) ∙ r .id-shown;
-      object-shown = view-as doc t u n Object (k (cellAt n Object) (omega arith)) (k (cellAt n Object + 1) (omega arith)) ∙ r .object-shown;
-      business-shown = view-as doc t u n BusinessType (k (cellAt n BusinessType) (omega arith)) (k (cellAt n BusinessType + 1) (omega arith)) ∙ r .business-shown;
-      first-shown = k (cellAt n FirstRow) (omega arith) ∙ r .first-shown;
-      count-shown = k (cellAt n Count) (omega arith) ∙ r .count-shown;
+      views = λ f e. let low = view-low f e in view-as doc t u n f (k (cellAt n f) (omega (arith, low))) (k (cellAt n f + 1) (omega (arith, low))) ∙ r .views f e;
+      absent = λ f e h.
+          let low = view-low f e in
+          let z = r .absent f e h in
+          (k (cellAt n f) (omega (arith, low)) ∙ z .0, k (cellAt n f + 1) (omega (arith, low)) ∙ z .1);
+      begins = k (cellAt n FirstRow) (omega arith) ∙ r .begins;
+      count = k (cellAt n Count) (omega arith) ∙ r .count;
     }
 
-pub row-moved : {doc cells : List ℕ} {n m : ℕ} {id object business : List ℕ} {f g count : ℕ} → n ≡ m → f ≡ g
-    → RowOf doc cells n id object business f count → RowOf doc cells m id object business g count
+pub row-moved : {doc cells rows : List ℕ} {n m : ℕ} {s : Trees Said} {f g : ℕ} → n ≡ m → f ≡ g → RowShows doc cells rows n s f → RowShows doc cells rows m s g
 row-moved e d r = rw (e, d) at r
 
 -- m rows from n on show these series, of which the first has its first interval at f
-abbrev RowsFrom : List ℕ → List ℕ → ℕ → ℕ → ℕ → List (List ℕ) → List (List ℕ) → List (List ℕ) → List ℕ → Type 0
-RowsFrom doc cells n f m ids objs kinds counts =
-    (i : ℕ) → i < m → RowOf doc cells (n + i) (getD ids i []) (getD objs i []) (getD kinds i []) (f + sum (take i counts)) (getD counts i 0)
+abbrev RowsFrom : List ℕ → List ℕ → List ℕ → ℕ → ℕ → ℕ → List (Trees Said) → Type 0
+RowsFrom doc cells rows n f m ss = (i : ℕ) → i < m → RowShows doc cells rows (n + i) (getD ss i none) (f + sum (take i (intervalCounts rows ss)))
 
 -- one row and those after it
-rows-on : (doc cells : List ℕ) (n f m : ℕ) (id object business : List ℕ) (c : ℕ) (ids objs kinds : List (List ℕ)) (counts : List ℕ)
-    → RowOf doc cells n id object business f c → RowsFrom doc cells (n + 1) (f + c) m ids objs kinds counts
-    → RowsFrom doc cells n f (suc m) (id ∷ ids) (object ∷ objs) (business ∷ kinds) (c ∷ counts)
-unfolding sum
-rows-on doc cells n f m id object business c ids objs kinds counts r rs zero l = row-moved (omega arith) (omega arith) r
-rows-on doc cells n f m id object business c ids objs kinds counts r rs (suc i) l = row-moved (omega arith) (omega arith) (rs i (omega (arith, l)))
+rows-on : (doc cells rows : List ℕ) (n f m : ℕ) (s : Trees Said) (ss : List (Trees Said)) → RowShows doc cells rows n s f
+    → RowsFrom doc cells rows (n + 1) (f + length (those (hasRole 4) rows s)) m ss → RowsFrom doc cells rows n f (suc m) (s ∷ ss)
+unfolding sum intervalCounts
+rows-on doc cells rows n f m s ss r rs zero l = row-moved (omega arith) (omega arith) r
+rows-on doc cells rows n f m s ss r rs (suc i) l = row-moved (omega arith) (omega arith) (rs i (omega (arith, l)))
 
 -- between two places of the walk beside the series: m rows from n on are filled
-pub record Filled (doc : List ℕ) (n f : ℕ) (t u : List ℕ) (m : ℕ) (ids objs kinds : List (List ℕ)) (counts : List ℕ) : Type 0 where
+pub record Filled (doc rows : List ℕ) (n f : ℕ) (t u : List ℕ) (m : ℕ) (ss : List (Trees Said)) : Type 0 where
   pub size : length u ≡ length t
   pub before : (j : ℕ) → j < cellsOf n → getD u j 0 ≡ getD t j 0
-  pub rows : RowsFrom doc u n f m ids objs kinds counts
+  pub shown : RowsFrom doc u rows n f m ss
 
-pub filled-as : {doc : List ℕ} {n n₁ f f₁ : ℕ} {t t₁ u : List ℕ} {m m₁ : ℕ} {ids objs kinds ids₁ objs₁ kinds₁ : List (List ℕ)} {counts counts₁ : List ℕ}
-    → n ≡ n₁ → f ≡ f₁ → t ≡ t₁ → m ≡ m₁ → ids ≡ ids₁ → objs ≡ objs₁ → kinds ≡ kinds₁ → counts ≡ counts₁
-    → Filled doc n f t u m ids objs kinds counts → Filled doc n₁ f₁ t₁ u m₁ ids₁ objs₁ kinds₁ counts₁
-filled-as a b c d e g h i k = rw (a, b, c, d, e, g, h, i) at k
+pub filled-as : {doc rows : List ℕ} {n n₁ f f₁ : ℕ} {t t₁ u : List ℕ} {m m₁ : ℕ} {ss ss₁ : List (Trees Said)} → n ≡ n₁ → f ≡ f₁ → t ≡ t₁ → m ≡ m₁ → ss ≡ ss₁
+    → Filled doc rows n f t u m ss → Filled doc rows n₁ f₁ t₁ u m₁ ss₁
+filled-as a b c d e k = rw (a, b, c, d, e) at k
 
 -- ---- the lists of a content with one element more
 
@@ -110,12 +99,11 @@ module _ (rows : List ℕ) (role q : ℕ) (x : Placed) (inner after : Trees Plac
 
 -- ---- what stands beside the series changes nothing
 
-pub series-kept : (r n at : ℕ) (v : Span) (s : List ℕ) (st : State) (l : List ℕ) → (r ≡ 2 → ⊥) → (r ≡ 4 → ⊥) → (r ≡ 6 → ⊥) → (r ≡ 7 → ⊥) → (r ≡ 8 → ⊥)
-    → seriesAfter at v s st (entryOf r n) l ≡ l
+pub series-kept : (r n at : ℕ) (v : Span) (s : List ℕ) (st : State) (l : List ℕ) → (r ≡ 2 → ⊥) → (r ≡ 4 → ⊥) → (6 ≤ r → ⊥) → seriesAfter at v s st (entryOf r n) l ≡ l
 unfolding seriesAfter seriesWith broughtBy
-series-kept r n at v s st l a b c d f =
-    by-entry (λ e. seriesAfter at v s st e l ≡ l) r n refl (λ e. absurd (a e)) (λ e. absurd (b e)) (λ e. absurd (c e)) (λ e. absurd (d e)) (λ e. absurd (f e))
-    (λ e. refl) (λ e. refl)
+series-kept r n at v s st l a b c =
+    by-entry (λ e. seriesAfter at v s st e l ≡ l) r n refl (λ e. absurd (a e)) (λ e. absurd (b e)) (λ e. absurd (c (omega (arith, e)))) (λ e. absurd (c (omega (arith, e))))
+    (λ e. absurd (c (omega (arith, e)))) (λ e. refl) (λ e. refl)
 
 module _ (kind : ℕ) (rows : List ℕ) (p : ℕ) (L : Layout rows p) (W : Valued rows) (doc : List ℕ) where
   -- the tally and the tables after the start tag of an element, and after what stands in it
@@ -146,13 +134,13 @@ module _ (kind : ℕ) (rows : List ℕ) (p : ℕ) (L : Layout rows p) (W : Value
       (g .complete k (omega (arith, s, b)) e m)
 
   -- a series' element brings its row
-  pub record Rowed (y y′ : Tally) (t t′ : List ℕ) (id object business : List ℕ) (count : ℕ) : Type 0 where
+  pub record Rowed (y y′ : Tally) (t t′ : List ℕ) (s : Trees Said) : Type 0 where
     pub series : y′ .series ≡ y .series + 1
-    pub intervals : y′ .intervals ≡ y .intervals + count
+    pub intervals : y′ .intervals ≡ y .intervals + length (those (hasRole 4) rows s)
     pub size : length t′ ≡ length t
     pub before : (j : ℕ) → j < cellsOf (y .series) → getD t′ j 0 ≡ getD t j 0
     pub beyond : (j : ℕ) → cellsOf (y .series + 1) ≤ j → getD t′ j 0 ≡ getD t j 0
-    pub row : RowOf doc t′ (y .series) id object business (y .intervals) count
+    pub row : RowShows doc t′ rows (y .series) s (y .intervals)
 
   module _ (q : ℕ) (x : Placed) (inner : Trees Placed) (y : Tally) (t : Tables) (e : q ≡ 12) where
     is-two : roleOf (getD rows q 0) ≡ 2
@@ -180,7 +168,7 @@ module _ (kind : ℕ) (rows : List ℕ) (p : ℕ) (L : Layout rows p) (W : Value
       within = let s = L .size in omega (arith, s, e)
 
       series-effect : Effect doc (y .series) (tallyIn q x y) (tablesIn q x y t .series) (tallyOut q x inner y) (tablesOut q x inner y t .series)
-          (identifications rows (saying inner)) (objects rows (saying inner)) (businessTypes rows (saying inner))
+          (saidFor rows (saying inner))
       series-effect =
           let o = opened-series .0 in
           let z = opened-size in
@@ -193,42 +181,40 @@ module _ (kind : ℕ) (rows : List ℕ) (p : ℕ) (L : Layout rows p) (W : Value
           puts kind rows p L W inner q (tallyIn q x y) (tablesIn q x y t) within (λ h. omega (arith, h, e, w)) (f .stand) c g .intervals
           ∙ ap (λ (n : ℕ). n + length (those (hasRole 4) rows (saying inner))) (opened-series .1)
 
-      -- s has the identification, o the object, b the BusinessType
-      pub rowed : (blank : (j : ℕ) → cellsOf (y .series) ≤ j → getD (t .series) j 0 ≡ 0) (s o b : Said) → those (hasRole 8) rows (saying inner) ≡ s ∷ []
-          → those (hasRole 6) rows (saying inner) ≡ o ∷ [] → those (hasRole 7) rows (saying inner) ≡ b ∷ []
-          → Rowed y (tallyOut q x inner y) (t .series) (tablesOut q x inner y t .series) (valueBytes s) (valueBytes o) (trimmedBytes b)
-          (length (those (hasRole 4) rows (saying inner)))
-      unfolding identifications objects businessTypes
-      rowed blank s o b es eo eb =
+      pub rowed : ((j : ℕ) → cellsOf (y .series) ≤ j → getD (t .series) j 0 ≡ 0)
+          → Rowed y (tallyOut q x inner y) (t .series) (tablesOut q x inner y t .series) (saying inner)
+      rowed blank =
           let n = y .series in
           let k = series-effect in
-          let w = L .wide in
           let m = series-puts in
           let a₀ = opened-series .0 in
           let a₁ = opened-series .1 in
           let a₂ = opened-series .2 in
-          let u = k .series in
           let first = k .first in
-          let ids : identifications rows (saying inner) ≡ valueBytes s ∷ [] = ap (map valueBytes) es in
-          let objs : objects rows (saying inner) ≡ valueBytes o ∷ [] = ap (map valueBytes) eo in
-          let kinds : businessTypes rows (saying inner) ≡ trimmedBytes b ∷ [] = ap (map trimmedBytes) eb in
-          let start : fieldAt (tablesIn q x y t .series) n Count ≡ 0
-          = rw opened-cells (getD-set-other (t .series) (cellAt n FirstRow) (cellAt n Count) (y .intervals) 0 (λ h. omega (arith, h)) ∙ blank (cellAt n Count) (omega arith)) in
-          let counted = k .count (start ∙ (let z : 0 ≡ tallyIn q x y .intervals - tallyIn q x y .first = omega (arith, a₁, a₂) in z)) in
+          let clear : (c : ℕ) → cellsOf n ≤ c → (c ≡ cellAt n FirstRow → ⊥) → getD (tablesIn q x y t .series) c 0 ≡ 0
+          = λ c l d. rw opened-cells (getD-set-other (t .series) (cellAt n FirstRow) c (y .intervals) 0 d ∙ blank c l) in
+          let counted = k .count (clear (cellAt n Count) (omega arith) (λ h. omega (arith, h)) ∙ (let z : 0 ≡ tallyIn q x y .intervals - tallyIn q x y .first = omega (arith, a₁, a₂) in z)) in
           record {
-            series = u ∙ a₀;
+            series = k .series ∙ a₀;
             intervals = m;
             size = k .size ∙ opened-size;
             before = λ j h. k .others j (inl h) ∙ opened-before j h;
             beyond = λ j h. k .others j (inr (omega (arith, h))) ∙ opened-beyond j h;
             row =
                 record {
-                  id-shown = k .identification ∙ ap (lastOf (view doc (tablesIn q x y t .series) n Identification)) ids;
-                  object-shown = k .object ∙ ap (lastOf (view doc (tablesIn q x y t .series) n Object)) objs;
-                  business-shown = k .business ∙ ap (lastOf (view doc (tablesIn q x y t .series) n BusinessType)) kinds;
-                  first-shown =
-                      k .start ∙ rw opened-cells (getD-set-same (t .series) (cellAt n FirstRow) (y .intervals) 0 (omega (arith, room)));
-                  count-shown = counted ∙ omega (arith, m, first, a₂);
+                  views = λ f e.
+                      let low = view-low f e in
+                      k .views f e .shown
+                      ∙ ap (λ (d : List ℕ). lastOf d (saidFor rows (saying inner) f))
+                      (view-none doc (tablesIn q x y t .series) n f (clear (cellAt n f + 1) (omega arith) (λ h. omega (arith, h, low))));
+                  absent = λ f e h.
+                      let low = view-low f e in
+                      let z = k .views f e .kept h in (
+                        z .0 ∙ clear (cellAt n f) (omega arith) (λ d. omega (arith, d, low)),
+                        z .1 ∙ clear (cellAt n f + 1) (omega arith) (λ d. omega (arith, d, low)),
+                      );
+                  begins = k .start ∙ rw opened-cells (getD-set-same (t .series) (cellAt n FirstRow) (y .intervals) 0 (omega (arith, room)));
+                  count = counted ∙ omega (arith, m, first, a₂);
                 };
           }
 
@@ -241,8 +227,6 @@ module _ (kind : ℕ) (rows : List ℕ) (p : ℕ) (L : Layout rows p) (W : Value
     pub intervals : tallyIn q x y .intervals ≡ y .intervals
     pub cells : tablesIn q x y t .series ≡ t .series
     pub not-two : eqb (roleOf (getD rows q 0)) 2 ≡ false
-    pub not-six : eqb (roleOf (getD rows q 0)) 6 ≡ false
-    pub not-seven : eqb (roleOf (getD rows q 0)) 7 ≡ false
     pub not-eight : eqb (roleOf (getD rows q 0)) 8 ≡ false
 
   pub untouched : (q : ℕ) (x : Placed) (inner : Trees Placed) (y : Tally) (t : Tables) → (q ≡ 12 → ⊥) → q < length rows → parentOf (getD rows q 0) ≡ 1
@@ -256,30 +240,22 @@ module _ (kind : ℕ) (rows : List ℕ) (p : ℕ) (L : Layout rows p) (W : Value
       let r = roleOf (getD rows q 0) in
       let n₂ : r ≡ 2 → ⊥ = λ d. n (L .only-series q l d) in
       let n₄ : r ≡ 4 → ⊥ = λ d. let z = L .only-interval q l d in omega (arith, z, b₁, w) in
-      let n₆ : r ≡ 6 → ⊥ = λ d. let z = L .only-object q l d in omega (arith, z, b₁) in
-      let n₇ : r ≡ 7 → ⊥ = λ d. let z = L .only-business q l d in omega (arith, z, b₁) in
-      let n₈ : r ≡ 8 → ⊥ = λ d. let z = L .only-id q l d in omega (arith, z, b₁) in
+      let n₆ : 6 ≤ r → ⊥ = λ d. let z = L .shown-in q l d in omega (arith, z, b₁) in
       let st = stateOf kind q true (tallyIn q x y) in
       record {
         bare =
             leaf rows p L q inner l (λ d. omega (arith, d, b₀)) (λ d. omega (arith, d, b₀)) n (λ d. omega (arith, d, b₁, w)) (λ d. omega (arith, d, b₁, w)) s;
         series = rw (ne-eqb r 2 n₂);
         intervals = rw (ne-eqb r 4 n₄);
-        cells = series-kept r (positionOf (saidOf x)) (x .at) (spanOf (x .item)) (x .rest) st (t .series) n₂ n₄ n₆ n₇ n₈;
+        cells = series-kept r (positionOf (saidOf x)) (x .at) (spanOf (x .item)) (x .rest) st (t .series) n₂ n₄ n₆;
         not-two = ne-eqb r 2 n₂;
-        not-six = ne-eqb r 6 n₆;
-        not-seven = ne-eqb r 7 n₇;
-        not-eight = ne-eqb r 8 n₈;
+        not-eight = ne-eqb r 8 (λ d. n₆ (omega (arith, d)));
       }
 
   -- what is said once in a series
   pub record Once (inner : Trees Placed) : Type 0 where
     pub id : Said
-    pub object : Said
-    pub business : Said
     pub id-once : those (hasRole 8) rows (saying inner) ≡ id ∷ []
-    pub object-once : those (hasRole 6) rows (saying inner) ≡ object ∷ []
-    pub business-once : those (hasRole 7) rows (saying inner) ≡ business ∷ []
     pub no-series : those (hasRole 2) rows (saying inner) ≡ []
     pub no-series-each : inEach (hasRole 2) rows (saying inner) ≡ []
 
@@ -288,8 +264,6 @@ module _ (kind : ℕ) (rows : List ℕ) (p : ℕ) (L : Layout rows p) (W : Value
       let w = L .wide in
       let s = L .size in
       let i = one-said 8 13 (L .only-id) (omega arith) (omega (arith, w)) (L .id) (L .must-id) inner f c in
-      let o = one-said 6 18 (L .only-object) (omega arith) (omega (arith, w)) (L .object) (L .must-object) inner f c in
-      let b = one-said 7 14 (L .only-business) (omega arith) (omega (arith, w)) (L .business) (L .must-business) inner f c in
       let before : parentOf (getD rows 12 0) < 12 = rw (series-in rows p L) (omega arith) in
       let g = rw (← taken-said inner) at f in
       let others : Within (λ q. hasRole 2 (getD rows q 0) ≡ false) (saying inner) =
@@ -297,11 +271,7 @@ module _ (kind : ℕ) (rows : List ℕ) (p : ℕ) (L : Layout rows p) (W : Value
       (elsewhere rows p L 12 (saying inner) 12 (omega (arith, s)) before (g .stand) (each-said rows inner c)) in
       record {
         id = i .0;
-        object = o .0;
-        business = b .0;
         id-once = i .1;
-        object-once = o .1;
-        business-once = b .1;
         no-series = none-there rows (hasRole 2) (saying inner) others;
         no-series-each = none-in rows (hasRole 2) (saying inner) others;
       }
@@ -311,47 +281,30 @@ module _ (kind : ℕ) (rows : List ℕ) (p : ℕ) (L : Layout rows p) (W : Value
 
   abbrev FilledBy : Trees Placed → Tally → Tables → Type 0
   FilledBy kids y t =
-      Filled doc (y .series) (y .intervals) (t .series) (filled kind rows kids y t .series) (seriesIn kids) (identifications rows (saying kids)) (objects rows (saying kids))
-      (businessTypes rows (saying kids)) (intervalCounts rows (saying kids))
+      Filled doc rows (y .series) (y .intervals) (t .series) (filled kind rows kids y t .series) (seriesIn kids) (eachSeries rows (saying kids))
 
   filled-plain : (q : ℕ) (x : Placed) (inner after : Trees Placed) (y : Tally) (t : Tables) → Untouched q x inner y t
       → FilledBy after (tallyIn q x y) (tablesIn q x y t) → FilledBy (element q x inner after) y t
-  unfolding filled walked saying identifications objects businessTypes intervalCounts
+  unfolding filled walked saying eachSeries
   filled-plain q x inner after y t e h =
       let k = filled-as (e .series) (e .intervals) (e .cells) (ap length (those-plain rows 2 q x inner after (e .bare) (e .not-two)))
-      (ap (map valueBytes) (those-plain rows 8 q x inner after (e .bare) (e .not-eight)))
-      (ap (map valueBytes) (those-plain rows 6 q x inner after (e .bare) (e .not-six)))
-      (ap (map trimmedBytes) (those-plain rows 7 q x inner after (e .bare) (e .not-seven)))
-      (ap (map (λ (s : Trees Said). length (those (hasRole 4) rows s))) (each-plain rows 2 q x inner after (e .bare) (e .not-two))) h in
+      (each-plain rows 2 q x inner after (e .bare) (e .not-two)) h in
       rw (e .bare) (rw (e .bare) at k)
 
   filled-series : (q : ℕ) (x : Placed) (inner after : Trees Placed) (y : Tally) (t : Tables) → q ≡ 12 → (o : Once inner)
-      → Rowed y (tallyOut q x inner y) (t .series) (tablesOut q x inner y t .series) (valueBytes (o .id)) (valueBytes (o .object)) (trimmedBytes (o .business))
-      (length (those (hasRole 4) rows (saying inner)))
+      → Rowed y (tallyOut q x inner y) (t .series) (tablesOut q x inner y t .series) (saying inner)
       → FilledBy after (tallyOut q x inner y) (tablesOut q x inner y t) → FilledBy (element q x inner after) y t
-  unfolding filled walked saying identifications objects businessTypes intervalCounts
+  unfolding filled walked saying eachSeries
   filled-series q x inner after y t e o r h =
-      let n = y .series in
-      let c = length (those (hasRole 4) rows (saying inner)) in
       let u = filled kind rows after (tallyOut q x inner y) (tablesOut q x inner y t) .series in
-      let a = saying after in
       let role = ap (λ (i : ℕ). roleOf (getD rows i 0)) e ∙ L .series in
       let two : eqb (roleOf (getD rows q 0)) 2 ≡ true = rw role in
-      let six : eqb (roleOf (getD rows q 0)) 6 ≡ false = rw role in
-      let seven : eqb (roleOf (getD rows q 0)) 7 ≡ false = rw role in
-      let eight : eqb (roleOf (getD rows q 0)) 8 ≡ false = rw role in
-      let k = filled-as (r .series) (r .intervals) refl refl refl refl refl refl h in
-      filled-as refl refl refl (ap length (those-after rows 2 q x inner after two (o .no-series)))
-      (ap (map valueBytes) (those-after rows 8 q x inner after eight (o .id-once)))
-      (ap (map valueBytes) (those-after rows 6 q x inner after six (o .object-once)))
-      (ap (map trimmedBytes) (those-after rows 7 q x inner after seven (o .business-once)))
-      (ap (map (λ (s : Trees Said). length (those (hasRole 4) rows s))) (each-after rows 2 q x inner after two (o .no-series-each)))
+      let k = filled-as (r .series) (r .intervals) refl refl refl h in
+      filled-as refl refl refl (ap length (those-after rows 2 q x inner after two (o .no-series))) (each-after rows 2 q x inner after two (o .no-series-each))
       (record {
         size = k .size ∙ r .size;
         before = λ j l. k .before j (omega (arith, l)) ∙ r .before j l;
-        rows =
-            rows-on doc u n (y .intervals) (seriesIn after) (valueBytes (o .id)) (valueBytes (o .object)) (trimmedBytes (o .business)) c
-            (identifications rows a) (objects rows a) (businessTypes rows a) (intervalCounts rows a) (row-kept (k .before) (r .row)) (k .rows);
+        shown = rows-on doc u rows (y .series) (y .intervals) (seriesIn after) (saying inner) (eachSeries rows (saying after)) (row-kept (k .before) (r .row)) (k .shown);
       })
 
   -- how many series there are with one element more
@@ -364,14 +317,14 @@ module _ (kind : ℕ) (rows : List ℕ) (p : ℕ) (L : Layout rows p) (W : Value
   pub series-filled : (kids : Trees Placed) (y : Tally) (t : Tables) → Stand rows 1 (rowsTaken kids) → EachConforms rows kids → Stands doc kids → HasValues rows kids
       → cellsOf (y .series + seriesIn kids) ≤ length (t .series) → ((j : ℕ) → cellsOf (y .series) ≤ j → getD (t .series) j 0 ≡ 0) → FilledBy kids y t
   unfolding rowsTaken Stand EachConforms Stands HasValues filled saying those
-  series-filled none y t s c d g room blank = record { size = refl; before = λ j l. refl; rows = λ i l. absurd (omega (arith, l)) }
+  series-filled none y t s c d g room blank = record { size = refl; before = λ j l. refl; shown = λ i l. absurd (omega (arith, l)) }
   series-filled (element q x inner after) y t s c d g room blank =
       ⊎-elim
       (λ e.
       let f = c .0 in
       let o = once-in inner (rw (e .0) at f) (c .1) in
       let m = more-series q x inner after (e .0) o in
-      let r = rowed q x inner y t (e .0) f (c .1) (d .2) (g .1) (omega (arith, m, room)) blank (o .id) (o .object) (o .business) (o .id-once) (o .object-once) (o .business-once) in
+      let r = rowed q x inner y t (e .0) f (c .1) (d .2) (g .1) (omega (arith, m, room)) blank in
       let u = r .series in
       let v = r .size in
       filled-series q x inner after y t (e .0) o r

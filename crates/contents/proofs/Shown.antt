@@ -14,9 +14,8 @@ use Rattle.reader.specs.Items.{Placed}
 use Rattle.series.specs.Row.{cellsOf}
 use Rattle.reader.specs.Reading.{blank, tablesAfter}
 use Rattle.trees.specs.Trees.{Trees, none, element, EachConforms, Conforms}
-use Rattle.contents.specs.Said.{Said}
-use Rattle.contents.specs.Legal.{hasRole, those, inEach, positionOf, identifications}
-use Rattle.contents.specs.Shown.{amountIn, sum, objects, businessTypes, intervalCounts, Shows}
+use Rattle.contents.specs.Legal.{hasRole, those, inEach, positionOf}
+use Rattle.contents.specs.Shown.{amountIn, sum, eachSeries, intervalCounts, Shows}
 use Rattle.contents.proofs.Lists.{sets-shown, zero-all}
 use Rattle.contents.proofs.Laid.{Layout, Valued}
 use Rattle.contents.proofs.Elements.{last-in, last-those}
@@ -25,7 +24,6 @@ use Rattle.contents.proofs.Walk.{nothing, opened, walked}
 use Rattle.contents.proofs.Fill.{saidOf, saying, stateOf, tablesWith, filled, Stands}
 use Rattle.contents.proofs.Values.{HasValues}
 use Rattle.contents.proofs.Intervals.{Puts, puts}
-use Rattle.contents.proofs.Series.{valueBytes, trimmedBytes}
 use Rattle.contents.proofs.Rows.{Filled, filled-as, row-moved, series-kept, seriesIn, series-filled}
 
 module _ (kind : ℕ) (rows : List ℕ) (p : ℕ) (L : Layout rows p) (W : Valued rows) (doc : List ℕ) (ns np na : ℕ) where
@@ -53,7 +51,7 @@ module _ (kind : ℕ) (rows : List ℕ) (p : ℕ) (L : Layout rows p) (W : Value
   root-cells x =
       let r = L .root in
       series-kept (roleOf (getD rows 1 0)) (positionOf (saidOf x)) (x .at) _ (x .rest) (stateOf kind 1 true (opened (getD rows 1 0) (saidOf x) nothing)) (zeros ns)
-      (λ e. omega (arith, e, r)) (λ e. omega (arith, e, r)) (λ e. omega (arith, e, r)) (λ e. omega (arith, e, r)) (λ e. omega (arith, e, r))
+      (λ e. omega (arith, e, r)) (λ e. omega (arith, e, r)) (λ e. omega (arith, e, r))
 
   -- ---- a conforming content
 
@@ -82,10 +80,9 @@ module _ (kind : ℕ) (rows : List ℕ) (p : ℕ) (L : Layout rows p) (W : Value
 
   root-filled : (x : Placed) (inner : Trees Placed) → Conforms rows 0 (element 1 x inner none) → Stands doc (element 1 x inner none)
       → HasValues rows (element 1 x inner none) → cellsOf (seriesIn kind rows p L W doc (element 1 x inner none)) ≤ ns
-      → Filled doc 0 0 (zeros ns) (filled kind rows (element 1 x inner none) nothing (blank ns np na) .series) (length (those (hasRole 2) rows (saying (element 1 x inner none))))
-      (identifications rows (saying (element 1 x inner none))) (objects rows (saying (element 1 x inner none))) (businessTypes rows (saying (element 1 x inner none)))
-      (intervalCounts rows (saying (element 1 x inner none)))
-  unfolding EachConforms Stands HasValues filled identifications objects businessTypes intervalCounts
+      → Filled doc rows 0 0 (zeros ns) (filled kind rows (element 1 x inner none) nothing (blank ns np na) .series) (length (those (hasRole 2) rows (saying (element 1 x inner none))))
+      (eachSeries rows (saying (element 1 x inner none)))
+  unfolding EachConforms Stands HasValues filled eachSeries
   root-filled x inner c d g room =
       let y = opened (getD rows 1 0) (saidOf x) nothing in
       let t = tablesWith kind rows 1 x y (blank ns np na) in
@@ -94,17 +91,12 @@ module _ (kind : ℕ) (rows : List ℕ) (p : ℕ) (L : Layout rows p) (W : Value
       let z = root-cells x in
       let m = ap length (root-those 2 x inner refl) in
       let len : length (t .series) ≡ ns = ap length z ∙ length-replicate ns 0 in
-      filled-as (a .0) (a .1) z m
-      (ap (map valueBytes) (root-those 8 x inner refl))
-      (ap (map valueBytes) (root-those 6 x inner refl))
-      (ap (map trimmedBytes) (root-those 7 x inner refl))
-      (ap (map (λ (s : Trees Said). length (those (hasRole 4) rows s))) (root-in-each 2 x inner refl))
+      filled-as (a .0) (a .1) z m (root-in-each 2 x inner refl)
       (series-filled kind rows p L W doc inner y t (c .each .0 .stand) (c .each .1) (d .2) (g .1) (omega (arith, m, room, len, a₀))
       (λ j l. ap (λ (k : List ℕ). getD k j 0) z ∙ zero-all 0 ns j))
 
   shown-series : (kids : Trees Placed) → Conforms rows 0 kids → Stands doc kids → HasValues rows kids → cellsOf (length (those (hasRole 2) rows (saying kids))) ≤ ns
-      → Filled doc 0 0 (zeros ns) (filled kind rows kids nothing (blank ns np na) .series) (length (those (hasRole 2) rows (saying kids)))
-      (identifications rows (saying kids)) (objects rows (saying kids)) (businessTypes rows (saying kids)) (intervalCounts rows (saying kids))
+      → Filled doc rows 0 0 (zeros ns) (filled kind rows kids nothing (blank ns np na) .series) (length (those (hasRole 2) rows (saying kids))) (eachSeries rows (saying kids))
   shown-series kids c d g room =
       let h = document-shape rows p L kids c in
       rw (h .is) (root-filled (h .tag) (h .inner) (rw (h .is) at c) (rw (h .is) at d) (rw (h .is) at g) (rw (h .is) at room))
@@ -116,9 +108,8 @@ module _ (kind : ℕ) (rows : List ℕ) (p : ℕ) (L : Layout rows p) (W : Value
       let k = shown-series kids c d g a in
       record {
         series = λ i l.
-            let r = row-moved (let z : 0 + i ≡ i = omega arith in z)
-            (let z : 0 + sum (take i (intervalCounts rows (saying kids))) ≡ sum (take i (intervalCounts rows (saying kids))) = omega arith in z) (k .rows i l) in
-            record { identification = r .id-shown; object = r .object-shown; businessType = r .business-shown; first = r .first-shown; count = r .count-shown };
+            let n = sum (take i (intervalCounts rows (eachSeries rows (saying kids)))) in
+            row-moved (let z : 0 + i ≡ i = omega arith in z) (let z : 0 + n ≡ n = omega arith in z) (k .shown i l);
         positions = shown-positions kids c g b;
         amounts = shown-amounts kids c g e;
       }

@@ -15,7 +15,8 @@ use Rattle.columns.specs.Columns.{roleOf}
 use Rattle.trees.specs.Trees.{Trees, none, element}
 use Rattle.contents.specs.Said.{Said, bytes}
 use Rattle.contents.specs.Legal.{hasRole, hasForm, those, Period, periodBy, periodIn, positionOf, inTurn}
-use Rattle.contents.proofs.Lists.{lastOf, last-append}
+use Rattle.contents.specs.Shown.{lastOf}
+use Rattle.contents.proofs.Lists.{last-append}
 use Rattle.contents.proofs.Elements.{always, Within, length-element, mapped-parts, own}
 use Rattle.contents.proofs.Walk.{Tally, opened, walked}
 

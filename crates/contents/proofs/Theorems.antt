@@ -8,7 +8,7 @@ use mathlib.Core.Bool.{true, false}
 use native.Mathlib.Omega.{arith}
 use native.Mathlib.Nat.{zero-add}
 use lib.Dec.{leb}
-use lib.ListN.{length, getD, length-replicate}
+use lib.ListN.{length, getD, length-replicate, take}
 use lib.IntN.{pos}
 use borrow.Author.Tests.{le-ltb}
 use Rattle.lists.proofs.Cases.{leb-cases, never}
@@ -26,13 +26,13 @@ use Rattle.reader.specs.Items.{Placed, itemsFrom}
 use Rattle.reader.specs.Reading.{Tables, Out, blank, roomOf, roomIn, refusedAt, acceptedAt, readItems, itemsRead, readAfter, readInto, orBlank, readSheet}
 use Rattle.reader.specs.Answer.{Outcome, answerOf, told, noted, readOf}
 use Rattle.reader.proofs.Sheets.{into-items, sheet-taken, read-noted}
-use Rattle.trees.specs.Trees.{Sign, Opens, Trees, spell, Conforms}
+use Rattle.trees.specs.Trees.{Sign, Opens, Trees, none, spell, Conforms}
 use Rattle.trees.specs.Cursor.{rowAfter, openAfter}
 use Rattle.trees.proofs.Theorems.{one-tree}
 use Rattle.contents.specs.Said.{Said}
 use Rattle.contents.specs.Spelled.{signsOf, Spells, Alike}
 use Rattle.contents.specs.Legal.{periodOf, quartersOf, Legal, HasRoom}
-use Rattle.contents.specs.Shown.{Shows, RowShows, Tells, SameButPlaces}
+use Rattle.contents.specs.Shown.{sum, eachSeries, intervalCounts, Shows, RowShows, Tells, SameButPlaces}
 use Rattle.series.specs.Row.{isView, cellsOf, rowsIn, fieldAt, view}
 use Rattle.series.specs.declared.Field.{Field}
 use Rattle.series.specs.declared.Field.the-variants.{Identification, Object, BusinessType, FirstRow, Count}
@@ -251,21 +251,22 @@ alike-spells x y a kind c s =
     }
 
 module _ (x y : List ℕ) (o u : Outcome) (kind : ℕ) (c : Trees Said) (t : Tells x o kind c) (v : Tells y u kind c) where
-  row : (i : ℕ) → i < o .answer .series → RowShows x (o .tables .series) (rowsOf kind) c i × RowShows y (u .tables .series) (rowsOf kind) c i
+  abbrev Row : List ℕ → Outcome → ℕ → Type 0
+  Row doc r i =
+      RowShows doc (r .tables .series) (rowsOf kind) i (getD (eachSeries (rowsOf kind) c) i none)
+      (sum (take i (intervalCounts (rowsOf kind) (eachSeries (rowsOf kind) c))))
+
+  row : (i : ℕ) → i < o .answer .series → Row x o i × Row y u i
   row i l = let l′ = rw (t .series) at l in (t .tables .series i l′, v .tables .series i l′)
 
   views-same : (i : ℕ) → i < o .answer .series → (f : Field) → isView f ≡ true → view x (o .tables .series) i f ≡ view y (u .tables .series) i f
-  views-same i l Identification e = let r = row i l in r .0 .identification ∙ sym (r .1 .identification)
-  views-same i l Object e = let r = row i l in r .0 .object ∙ sym (r .1 .object)
-  views-same i l BusinessType e = let r = row i l in r .0 .businessType ∙ sym (r .1 .businessType)
-  views-same i l FirstRow e = never e
-  views-same i l Count e = never e
+  views-same i l f e = let r = row i l in r .0 .views f e ∙ sym (r .1 .views f e)
 
   counts-same : (i : ℕ) → i < o .answer .series → (f : Field) → isView f ≡ false → fieldAt (o .tables .series) i f ≡ fieldAt (u .tables .series) i f
   counts-same i l Identification e = never (sym e)
   counts-same i l Object e = never (sym e)
   counts-same i l BusinessType e = never (sym e)
-  counts-same i l FirstRow e = let r = row i l in r .0 .first ∙ sym (r .1 .first)
+  counts-same i l FirstRow e = let r = row i l in r .0 .begins ∙ sym (r .1 .begins)
   counts-same i l Count e = let r = row i l in r .0 .count ∙ sym (r .1 .count)
 
   same-told : SameButPlaces x o y u

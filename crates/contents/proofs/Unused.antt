@@ -22,7 +22,7 @@ use Rattle.series.proofs.Rows.{view-as}
 use Rattle.reader.specs.Rows.{broughtBy, spanOf, used, usedIn, usedWith, usedBefore}
 use Rattle.reader.specs.Reading.{Tables, blank, tablesAfter}
 use Rattle.trees.specs.Trees.{Trees, none, element, rowsTaken, Stand, Fits, EachConforms, Conforms}
-use Rattle.contents.specs.Said.{Said}
+use Rattle.contents.specs.Said.{Said, bytes}
 use Rattle.contents.specs.Legal.{hasRole, those, positionOf, All, isAmong, Apart, identifications}
 use Rattle.contents.proofs.Lists.{zero-all, all-both, joined, all-change}
 use Rattle.contents.proofs.Laid.{Layout, Valued}
@@ -32,9 +32,13 @@ use Rattle.contents.proofs.Walk.{Tally, nothing, opened, walked}
 use Rattle.contents.proofs.Fill.{saidOf, saying, tablesWith, filled, Unused, Stands}
 use Rattle.contents.proofs.Values.{said-bytes, HasValues}
 use Rattle.contents.proofs.Roles.{Role, is-series, is-interval, is-object, is-business, is-id, is-pos, is-qty, is-other, role-cases, by-entry}
-use Rattle.contents.proofs.Series.{valueBytes, step-effect, no-series, inside}
+use Rattle.contents.specs.Shown.{lastOf, saidFor}
+use Rattle.contents.proofs.Series.{step-effect, no-series, inside}
 use Rattle.contents.proofs.Rows.{tallyIn, tablesIn, tallyOut, tablesOut, opened-series, opened-before, opened-size, rowed, untouched, once-in, more-series, those-plain, those-after}
 use Rattle.contents.proofs.Shown.{root-those, root-role, root-tally, root-cells}
+
+abbrev valueBytes : Said → List ℕ
+valueBytes s = bytes (s .v)
 
 -- ---- no two are the same
 
@@ -199,6 +203,11 @@ module _ (kind : ℕ) (rows : List ℕ) (p : ℕ) (L : Layout rows p) (W : Value
 
   -- ---- beside the series
 
+  -- the identification of a series that says one
+  id-shown : (s : Trees Said) {v : List ℕ} (id : Said) → those (hasRole 8) rows s ≡ id ∷ [] → v ≡ lastOf [] (saidFor rows s Identification) → v ≡ valueBytes id
+  unfolding saidFor
+  id-shown s id o e = e ∙ ap (λ (l : List Said). lastOf [] (map valueBytes l)) o
+
   -- no identification is brought by a row that has another role
   step-none : (q : ℕ) (x : Placed) (y : Tally) (t : List ℕ) → eqb (roleOf (getD rows q 0)) 8 ≡ false
       → usedBefore doc t (spanOf (x .item)) (x .rest) (opened (getD rows q 0) (saidOf x) y .series) (entryOf (roleOf (getD rows q 0)) (positionOf (saidOf x))) ≡ false
@@ -250,12 +259,12 @@ module _ (kind : ℕ) (rows : List ℕ) (p : ℕ) (L : Layout rows p) (W : Value
       let n = y .series in
       let o = once-in kind rows p L W doc inner (rw (e .0) at f) (c .1) in
       let more = more-series kind rows p L W doc q x inner after (e .0) o in
-      let r = rowed kind rows p L W doc q x inner y t (e .0) f (c .1) (d .2) (g .1) (omega (arith, more, room)) blank (o .id) (o .object) (o .business) (o .id-once) (o .object-once) (o .business-once) in
+      let r = rowed kind rows p L W doc q x inner y t (e .0) f (c .1) (d .2) (g .1) (omega (arith, more, room)) blank in
       let u = r .series in
       let v = r .size in
       let role : roleOf (getD rows q 0) ≡ 2 = ap (λ (i : ℕ). roleOf (getD rows i 0)) (e .0) ∙ L .series in
       let eight : eqb (roleOf (getD rows q 0)) 8 ≡ false = rw role in
-      let known = knows-on doc (t .series) (t₂ .series) n past (valueBytes (o .id)) (r .before) (r .row .id-shown) k in
+      let known = knows-on doc (t .series) (t₂ .series) n past (valueBytes (o .id)) (r .before) (id-shown (saying inner) (o .id) (o .id-once) (r .row .views Identification refl)) k in
       let u₁ : y₂ .series ≡ suc n = omega (arith, u) in
       series-unused q x inner after y t past (o .id) eight (o .id-once)
       (within-unused q x inner y t past (o .id) (e .0) (s .0) f (c .1) (d .2) (g .1) (omega (arith, more, room)) (o .id-once) k)

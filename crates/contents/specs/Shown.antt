@@ -8,17 +8,17 @@ use lib.ListN.{length, getD, take}
 use Rattle.characters.specs.Says.{says}
 use Rattle.trims.specs.Trim.{dropped}
 use Rattle.numbers.specs.Amount.{amountOf}
-use Rattle.columns.specs.Columns.{seriesRole, intervalRole, objectRole, businessRole, posRole, qtyRole}
-use Rattle.series.specs.Row.{isView, fieldAt, view}
+use Rattle.columns.specs.Columns.{valueRole, seriesRole, intervalRole, objectRole, businessRole, seriesIdRole, posRole, qtyRole}
+use Rattle.series.specs.Row.{isView, fieldAt, NoView, view}
 use Rattle.series.specs.declared.Field.{Field}
 use Rattle.series.specs.declared.Field.the-variants.{Identification, Object, BusinessType, FirstRow, Count}
 use Rattle.reader.specs.Rows.{thousandthsOf}
 use Rattle.guideline.specs.Rows.{rowsOf}
 use Rattle.reader.specs.Reading.{Tables}
 use Rattle.reader.specs.Answer.{Outcome}
-use Rattle.trees.specs.Trees.{Trees}
+use Rattle.trees.specs.Trees.{Trees, none}
 use Rattle.contents.specs.Said.{Said, bytes}
-use Rattle.contents.specs.Legal.{hasRole, those, inEach, periodOf, quartersOf, positionOf, identifications}
+use Rattle.contents.specs.Legal.{hasRole, those, inEach, periodOf, quartersOf, positionOf}
 
 -- the amount that a Qty says, which is collapsed, in thousandths
 unfoldable pub amountIn : Said → ℤ
@@ -28,30 +28,50 @@ unfoldable pub sum : List ℕ → ℕ
 sum [] = 0
 sum (n ∷ ns) = n + sum ns
 
-module _ (rows : List ℕ) (c : Trees Said) where
-  unfoldable pub objects : List (List ℕ)
-  objects = map (λ (s : Said). bytes (s .v)) (those (hasRole objectRole) rows c)
+-- the last of a list, or d where there is none
+abbrev pub lastOf : {A : Type 0} → A → List A → A
+lastOf d [] = d
+lastOf d (x ∷ l) = lastOf x l
 
-  -- "of its BusinessType, spaces dropped"
-  unfoldable pub businessTypes : List (List ℕ)
-  businessTypes = map (λ (s : Said). dropped (bytes (s .v))) (those (hasRole businessRole) rows c)
+-- the element of a series whose value a view shows, by its role; FirstRow and Count are no views
+abbrev pub roleShown : Field → ℕ
+roleShown Identification = seriesIdRole
+roleShown Object = objectRole
+roleShown BusinessType = businessRole
+roleShown FirstRow = valueRole
+roleShown Count = valueRole
 
-  -- how many intervals each series has
-  unfoldable pub intervalCounts : List ℕ
-  intervalCounts = map (λ (s : Trees Said). length (those (hasRole intervalRole) rows s)) (inEach (hasRole seriesRole) rows c)
+-- what it shows of the value: "of its BusinessType, spaces dropped"
+abbrev pub partShown : Field → List ℕ → List ℕ
+partShown Identification b = b
+partShown Object b = b
+partShown BusinessType b = dropped b
+partShown FirstRow b = b
+partShown Count b = b
+
+-- what a series says of it; no element that a view shows comes twice in a series, and where it does not come nothing is said
+unfoldable pub saidFor : List ℕ → Trees Said → Field → List (List ℕ)
+saidFor rows s f = map (λ (x : Said). partShown f (bytes (x .v))) (those (hasRole (roleShown f)) rows s)
+
+unfoldable pub eachSeries : List ℕ → Trees Said → List (Trees Said)
+eachSeries rows c = inEach (hasRole seriesRole) rows c
+
+-- how many intervals each series has
+unfoldable pub intervalCounts : List ℕ → List (Trees Said) → List ℕ
+intervalCounts rows ss = map (λ (s : Trees Said). length (those (hasRole intervalRole) rows s)) ss
 
 -- "A series takes eight u32 numbers ..: start and length of its TimeSeriesIdentification; of its object ..; of its BusinessType, spaces dropped; its first
--- interval row; its interval count." Row i is of series i
-pub record RowShows (doc cells : List ℕ) (rows : List ℕ) (c : Trees Said) (i : ℕ) : Type 0 where
-  pub identification : view doc cells i Identification ≡ getD (identifications rows c) i []
-  pub object : view doc cells i Object ≡ getD (objects rows c) i []
-  pub businessType : view doc cells i BusinessType ≡ getD (businessTypes rows c) i []
-  pub first : fieldAt cells i FirstRow ≡ sum (take i (intervalCounts rows c))
-  pub count : fieldAt cells i Count ≡ getD (intervalCounts rows c) i 0
+-- interval row; its interval count." Row i shows series s
+pub record RowShows (doc cells rows : List ℕ) (i : ℕ) (s : Trees Said) (first : ℕ) : Type 0 where
+  pub views : (f : Field) → isView f ≡ true → view doc cells i f ≡ lastOf [] (saidFor rows s f)
+  pub absent : (f : Field) → isView f ≡ true → saidFor rows s f ≡ [] → NoView cells i f
+  pub begins : fieldAt cells i FirstRow ≡ first
+  pub count : fieldAt cells i Count ≡ length (those (hasRole intervalRole) rows s)
 
 -- "Intervals take one position and one amount at the same index .. Rows come in document order. Cells past the last row are 0."
 pub record Shows (doc : List ℕ) (t : Tables) (rows : List ℕ) (c : Trees Said) : Type 0 where
-  pub series : (i : ℕ) → i < length (those (hasRole seriesRole) rows c) → RowShows doc (t .series) rows c i
+  pub series : (i : ℕ) → i < length (those (hasRole seriesRole) rows c)
+      → RowShows doc (t .series) rows i (getD (eachSeries rows c) i none) (sum (take i (intervalCounts rows (eachSeries rows c))))
   pub positions : (j : ℕ) → getD (t .positions) j 0 ≡ getD (map positionOf (those (hasRole posRole) rows c)) j 0
   pub amounts : (j : ℕ) → getD (t .amounts) j (pos 0) ≡ getD (map amountIn (those (hasRole qtyRole) rows c)) j (pos 0)
 

@@ -1,14 +1,19 @@
 -- A view that is set in a row of the series table: what it shows, and that every other cell is kept. Assumes nothing.
-use Prim.Native.Nat.{ℕ, _+_, _≤_, _<_}
-use mathlib.Core.Path.{_≡_, _∙_}
-use mathlib.Core.List.{List}
+use Prim.Native.Nat.{ℕ, _+_, _*_, _≤_, _<_}
+use mathlib.Core.Path.{_≡_, refl, sym, ap, _∙_}
+use mathlib.Core.List.{List, []}
+use mathlib.Core.Bool.{true, cond}
+use mathlib.Core.Logic.{_⊎_, inl, inr, ⊎-elim}
 use native.Mathlib.Omega.{arith}
 use native.Mathlib.Nat.{div-add-mod'}
+use lib.Dec.{eqb}
 use lib.ListN.{length, getD, set, length-set}
 use lib.Seq.{getD-set-same, getD-set-other}
+use Rattle.lists.proofs.Cases.{eqb-cases, ltb-cases, never}
 use Rattle.attributes.specs.Attribute.{partOf}
 use Rattle.series.specs.declared.Field.{Field}
-use Rattle.series.specs.Row.{rowWidth, cellsOf, rowsIn, cellAt, withView, view}
+use Rattle.series.specs.declared.Field.the-variants.{Identification, Object, BusinessType, FirstRow, Count}
+use Rattle.series.specs.Row.{cellOf, isView, rowWidth, cellsOf, rowsIn, cellAt, withView, view}
 
 -- u is t with a view of a and n in field f of row i, and every other cell kept
 pub record ViewSet (t u : List ℕ) (i : ℕ) (f : Field) (a n : ℕ) : Type 0 where
@@ -52,3 +57,47 @@ module _ (doc : List ℕ) where
 -- as many rows as there is room for have their cells
 pub rows-fit : (n m : ℕ) → n ≤ rowsIn m → cellsOf n ≤ m
 rows-fit n m h = omega (arith, h, div-add-mod' m rowWidth)
+
+-- ---- views beside each other
+
+-- before the two counts
+pub view-low : (f : Field) → isView f ≡ true → cellOf f + 1 < cellOf FirstRow
+view-low Identification e = omega arith
+view-low Object e = omega arith
+view-low BusinessType e = omega arith
+view-low FirstRow e = never e
+view-low Count e = never e
+
+even : (f : Field) → isView f ≡ true → (k : ℕ) × (cellOf f ≡ 2 * k)
+even Identification e = (0, refl)
+even Object e = (1, refl)
+even BusinessType e = (2, refl)
+even FirstRow e = never e
+even Count e = never e
+
+-- the field that begins at a cell
+abbrev fieldFrom : ℕ → Field
+fieldFrom n = cond (eqb n 0) Identification (cond (eqb n 2) Object (cond (eqb n 4) BusinessType (cond (eqb n 6) FirstRow Count)))
+
+field-from : (f : Field) → fieldFrom (cellOf f) ≡ f
+field-from Identification = refl
+field-from Object = refl
+field-from BusinessType = refl
+field-from FirstRow = refl
+field-from Count = refl
+
+-- two views are one, or have no cell in common
+pub views-apart : (f g : Field) → isView f ≡ true → isView g ≡ true → (f ≡ g) ⊎ ((cellOf f + 1 < cellOf g) ⊎ (cellOf g + 1 < cellOf f))
+views-apart f g a b =
+    ⊎-elim
+    (λ y. inl (sym (field-from f) ∙ ap fieldFrom (y .0) ∙ field-from g))
+    (λ y.
+    let m = even f a in
+    let n = even g b in
+    inr (⊎-elim (λ z. inl (omega (arith, m .1, n .1, z .0))) (λ z. inr (omega (arith, m .1, n .1, z .0, y .0))) (ltb-cases (cellOf f) (cellOf g))))
+    (eqb-cases (cellOf f) (cellOf g))
+
+-- a view of no length
+pub view-none : (doc t : List ℕ) (i : ℕ) (f : Field) → getD t (cellAt i f + 1) 0 ≡ 0 → view doc t i f ≡ []
+unfolding view partOf
+view-none doc t i f e = rw e

@@ -3,6 +3,7 @@
 -- series row grows from eight numbers to twelve: after the BusinessType pair, start and length of Direction (spaces dropped) and of the area
 -- (ConnectingArea; in kind 1, InArea), 0 and 0 where absent."
 use Prim.Native.Nat.{ℕ, _+_, _*_, _/_}
+use mathlib.Core.Path.{_≡_}
 use mathlib.Core.List.{List}
 use mathlib.Core.Bool.{Bool, true, false}
 use lib.ListN.{getD, set}
@@ -53,6 +54,10 @@ withField t i f n = set t (cellAt i f) n
 -- start and length of a view
 unfoldable pub withView : List ℕ → ℕ → Field → ℕ → ℕ → List ℕ
 withView t i f start len = set (set t (cellAt i f) start) (cellAt i f + 1) len
+
+-- a view that shows nothing, and stands nowhere
+abbrev pub NoView : List ℕ → ℕ → Field → Type 0
+NoView t i f = (getD t (cellAt i f) 0 ≡ 0) × (getD t (cellAt i f + 1) 0 ≡ 0)
 
 -- the part of the document that a view shows
 unfoldable pub view : List ℕ → List ℕ → ℕ → Field → List ℕ
