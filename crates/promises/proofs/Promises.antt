@@ -45,7 +45,7 @@ the-examples = examples-pass
 
 -- "These fakes have to be rejected: a reader that refuses everything or gives one answer for all .., one that does nothing .., one that fills only the
 -- first series and pretends after it .., one that invents counts": a document that is accepted, with two series
-pub a-sheet : readOf sheet 17 4 4 16 ≡ sheetOutcome
+pub a-sheet : readOf sheet 25 4 4 16 ≡ sheetOutcome
 a-sheet = sheet-read
 
 module _ (doc : List ℕ) (ns np na nb : ℕ) where

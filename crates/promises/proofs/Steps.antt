@@ -27,7 +27,7 @@ use Rattle.states.specs.Moves.{oneMore, begun, placed, oneSeries, oneInterval, 
 use Rattle.states.specs.declared.State.{State}
 use Rattle.states.specs.declared.Room.{Room}
 use Rattle.states.specs.declared.Entry.{Entry}
-use Rattle.states.specs.declared.Entry.the-variants.{Nothing, Series, Identification, Object, BusinessType, Interval, Position, Amount}
+use Rattle.states.specs.declared.Entry.the-variants.{Nothing, Series, Identification, Object, BusinessType, Direction, Area, Interval, Position, Amount}
 use Rattle.states.specs.declared.Step.{Step}
 use Rattle.states.specs.declared.Step.the-variants.{Next, Refused}
 use Rattle.states.proofs.Judgements.{judged-passed, series-room, interval-room}
@@ -52,6 +52,8 @@ Fits y Series = 1 ≤ y .series
 Fits y Identification = 1 ≤ y .series
 Fits y Object = 1 ≤ y .series
 Fits y BusinessType = 1 ≤ y .series
+Fits y Direction = 1 ≤ y .series
+Fits y Area = 1 ≤ y .series
 Fits y Interval = 1 ≤ y .series
 Fits y (Position p) = 1 ≤ y .intervals
 Fits y Amount = 1 ≤ y .intervals

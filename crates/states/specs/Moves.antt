@@ -190,11 +190,11 @@ entryOf role p =
     (cond (eqb role intervalRole) Interval
     (cond (eqb role objectRole) Object
     (cond (eqb role businessRole) BusinessType
-    (cond (eqb role directionRole) Direction
-    (cond (eqb role areaRole) Area
     (cond (eqb role seriesIdRole) Identification
     (cond (eqb role posRole) (Position p)
-    (cond (eqb role qtyRole) Amount Nothing))))))))
+    (cond (eqb role qtyRole) Amount
+    (cond (eqb role directionRole) Direction
+    (cond (eqb role areaRole) Area Nothing))))))))
 
 unfoldable pub startedBy : State → ℕ → ℕ → ℕ → Bool → Judged → Step
 startedBy x kind r w empty j =
