@@ -85,9 +85,9 @@ sheet-accepted = ap (λ (o : Outcome). o .answer .refusal) sheet-read
 sheet-short : length sheet ≤ 1048576
 sheet-short =
     let p : readOf sheet 25 4 4 16 .answer .place ≡ 1387 = ap (λ (o : Outcome). o .answer .place) sheet-read in
-    let l = accepted-whole sheet 17 4 4 16 sheet-accepted in
+    let l = accepted-whole sheet 25 4 4 16 sheet-accepted in
     omega (arith, p, l)
 
 -- it spells a legal content
-pub sheet-content : (kind : ℕ) × (c : Trees Said) × Spells sheet kind c × Legal kind c × HasRoom (roomOf 17 4 4) kind c
-sheet-content = accepted-legal sheet 17 4 4 16 (omega arith) sheet-short sheet-accepted
+pub sheet-content : (kind : ℕ) × (c : Trees Said) × Spells sheet kind c × Legal kind c × HasRoom (roomOf 25 4 4) kind c
+sheet-content = accepted-legal sheet 25 4 4 16 (omega arith) sheet-short sheet-accepted

@@ -124,7 +124,7 @@ module _ (doc : List ℕ) (ns np na nb : ℕ) where
   accepted-exactly wide small = (accepted-legal doc ns np na nb wide small, legal-accepted doc ns np na nb wide small)
 
 -- and there is one: the content of the sheet above
-pub a-content : (kind : ℕ) × (c : Trees Said) × Spells sheet kind c × Legal kind c × HasRoom (roomOf 17 4 4) kind c
+pub a-content : (kind : ℕ) × (c : Trees Said) × Spells sheet kind c × Legal kind c × HasRoom (roomOf 25 4 4) kind c
 a-content = sheet-content
 
 -- a document spells one legal content at most, so that its content is unambiguous

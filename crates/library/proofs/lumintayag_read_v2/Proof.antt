@@ -39,8 +39,8 @@ returns c =
       puts = rw (← q .answers) (c .before .before .put-answer .ensures);
     }
 
-pub lumintayag-read-spec : {M : Type 1} → statement M
-lumintayag-read-spec =
+pub lumintayag-read-v2-spec : {M : Type 1} → statement M
+lumintayag-read-v2-spec =
     tie.close
     (tie.spec
     read-requires
