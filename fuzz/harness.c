@@ -15,8 +15,8 @@
 
 #include "../library/lumintayag.h"
 
-uint32_t checked_lumintayag_read(const uint8_t *doc, size_t doc_len, uint32_t *series, size_t series_len, uint32_t *positions, size_t positions_len,
-                                 int64_t *amounts, size_t amounts_len, uint8_t *note, size_t note_len, uint32_t *answer, size_t answer_len);
+uint32_t checked_lumintayag_read_v2(const uint8_t *doc, size_t doc_len, uint32_t *series, size_t series_len, uint32_t *positions, size_t positions_len,
+                                    int64_t *amounts, size_t amounts_len, uint8_t *note, size_t note_len, uint32_t *answer, size_t answer_len);
 uint32_t checked_lumintayag_read_note(const uint8_t *note, size_t note_len, uint32_t *five, size_t five_len);
 
 enum { SIZES = 8 };
@@ -97,27 +97,52 @@ static void judge_refusal(struct outcome o, const uint32_t *n) {
     hold((n[0] == 1) == (lent.note >= 16 && length > 1048576), "1 is given for a document of more than 1,048,576 bytes, and for nothing else");
 }
 
+/* The tag that a place of the document stands in has one of these names; a `<` stands in no value. */
+static int in_tag(const uint8_t *doc, size_t at, const char *name, const char *other) {
+    while (at > 0 && doc[at] != '<') at--;
+    return strncmp((const char *)doc + at + 1, name, strlen(name)) == 0 || strncmp((const char *)doc + at + 1, other, strlen(other)) == 0;
+}
+
+/* Direction and area are those of their own series: each stands behind the series' identification and before its object (kind 2) or InParty. */
+static void judge_optional(struct outcome o, const uint32_t *n, const uint32_t *row, int cell) {
+    const uint32_t *view = row + cell;
+    int is_direction = cell == LUMINTAYAG_DIRECTION;
+    if (view[0] == 0) {
+        hold(view[1] == 0 && (n[2] == 2 || is_direction), "a view that is absent is 0 and 0, and that of InArea never is");
+        return;
+    }
+    hold(view[0] > row[LUMINTAYAG_IDENTIFICATION] && view[0] < row[LUMINTAYAG_OBJECT], "a Direction or area is that of its own series");
+    hold(view[1] == (is_direction ? 3 : 16), "a Direction has three bytes, and an area sixteen");
+    hold(is_direction ? n[2] == 2 && in_tag(o.doc, view[0], "Direction", "Direction") : in_tag(o.doc, view[0], "InArea", "ConnectingArea"),
+         "a view stands in the tag of its element");
+    hold(o.doc[view[0]] != ' ' && o.doc[view[0] + view[1] - 1] != ' ', "spaces are dropped");
+}
+
 static void judge_series(struct outcome o, const uint32_t *n, size_t i, uint32_t *rows) {
-    const uint32_t *row = o.series + 8 * i;
-    for (int k = 0; k < 6; k += 2)
-        hold(row[k] > 0 && (size_t)row[k] + row[k + 1] < length, "a view is a part of the document");
-    hold(row[6] == *rows && row[7] >= 1, "rows come in document order");
-    *rows += row[7];
+    const uint32_t *row = o.series + LUMINTAYAG_SERIES_ROW * i;
+    uint32_t first = row[LUMINTAYAG_FIRST_INTERVAL], count = row[LUMINTAYAG_INTERVAL_COUNT];
+    for (int k = 0; k <= LUMINTAYAG_AREA; k += 2) {
+        hold((size_t)row[k] + row[k + 1] < length, "a view is a part of the document");
+        if (k == LUMINTAYAG_DIRECTION || k == LUMINTAYAG_AREA) judge_optional(o, n, row, k);
+        else hold(row[k] > 0, "a value that has to be there is shown");
+    }
+    hold(first == *rows && count >= 1, "rows come in document order");
+    *rows += count;
     hold(*rows <= n[4], "the rows of the series are the intervals");
-    for (uint32_t k = row[6], before = 0; k < *rows; before = o.positions[k++])
-        hold(o.positions[k] > before && o.positions[k] <= n[5] && (k > row[6] || o.positions[k] == 1) && (n[2] == 2 || o.positions[k] == before + 1),
+    for (uint32_t k = first, before = 0; k < *rows; before = o.positions[k++])
+        hold(o.positions[k] > before && o.positions[k] <= n[5] && (k > first || o.positions[k] == 1) && (n[2] == 2 || o.positions[k] == before + 1),
              "positions begin with 1 and rise to N at most");
-    hold(n[2] == 2 || row[7] == n[5], "a series of kind 1 has N intervals");
+    hold(n[2] == 2 || count == n[5], "a series of kind 1 has N intervals");
 }
 
 static void judge_acceptance(struct outcome o, const uint32_t *n) {
     size_t room = lent.positions < lent.amounts ? lent.positions : lent.amounts;
     uint32_t rows = 0;
     hold(n[1] == length && (n[2] == 1 || n[2] == 2) && n[3] >= 1 && n[4] >= n[3] && n[5] >= 1, "the answer on acceptance");
-    hold(8 * (size_t)n[3] <= lent.series && n[4] <= room, "rows have room");
+    hold(LUMINTAYAG_SERIES_ROW * (size_t)n[3] <= lent.series && n[4] <= room, "rows have room");
     for (size_t i = 0; i < n[3]; i++) judge_series(o, n, i, &rows);
     hold(rows == n[4], "the rows of the series are the intervals");
-    hold(is_zero(o.series, 32 * (size_t)n[3], 4 * lent.series) && is_zero(o.positions, 4 * (size_t)rows, 4 * lent.positions) &&
+    hold(is_zero(o.series, 4 * LUMINTAYAG_SERIES_ROW * (size_t)n[3], 4 * lent.series) && is_zero(o.positions, 4 * (size_t)rows, 4 * lent.positions) &&
              is_zero(o.amounts, 8 * (size_t)rows, 8 * lent.amounts),
          "cells past the last row are 0");
     for (size_t i = 0; i < rows; i++)
@@ -179,7 +204,7 @@ static void judge_digits(const uint8_t *doc, struct outcome first, const uint32_
     uint8_t *other = filled(length, 0);
     memcpy(other, doc, length);
     turn_digits(other);
-    struct outcome o = read_by(lumintayag_read, other, 7, 0x11);
+    struct outcome o = read_by(lumintayag_read_v2, other, 7, 0x11);
     hold(same_but_amounts(first, o) && memcmp(o.answer, n, 28) == 0, "nothing but the amounts depends on the digits of a price");
     let_go(o);
     free(other);
@@ -194,8 +219,8 @@ int LLVMFuzzerTestOneInput(const uint8_t *data, size_t size) {
     length = size < SIZES ? 0 : size - SIZES;
     lent = sizes_of(first);
 
-    struct outcome a = read_by(lumintayag_read, doc, lent.answer, 0xA5);
-    struct outcome b = read_by(checked_lumintayag_read, doc, 7, 0x5A);
+    struct outcome a = read_by(lumintayag_read_v2, doc, lent.answer, 0xA5);
+    struct outcome b = read_by(checked_lumintayag_read_v2, doc, 7, 0x5A);
     const uint32_t *n = b.answer;
     hold(same(a, b), "the same document gives the same, whatever stood in what is lent");
     hold(memcmp(a.answer, n, 4 * (lent.answer < 7 ? lent.answer : 7)) == 0, "the answer in fewer cells is its first numbers");
@@ -213,8 +238,8 @@ int LLVMFuzzerTestOneInput(const uint8_t *data, size_t size) {
 
 /* Room for all rows; for no series; for one row; for fewer amounts than positions; a note of 15. Each sample is lent one of these. */
 static const uint8_t ROOM[][SIZES] = {
-    {255, 255, 1, 255, 1, 16, 7, 5}, {255, 255, 0, 200, 0, 31, 15, 7}, {8, 1, 0, 1, 0, 16, 7, 5}, {255, 255, 1, 255, 1, 16, 0, 0},
-    {7, 10, 0, 10, 0, 16, 3, 4},     {255, 255, 1, 255, 1, 16, 7, 6},  {64, 3, 0, 2, 0, 20, 9, 1}, {255, 255, 1, 255, 1, 15, 7, 5},
+    {255, 255, 1, 255, 1, 16, 7, 5}, {255, 255, 0, 200, 0, 31, 15, 7}, {12, 1, 0, 1, 0, 16, 7, 5}, {255, 255, 1, 255, 1, 16, 0, 0},
+    {11, 10, 0, 10, 0, 16, 3, 4},    {255, 255, 1, 255, 1, 16, 7, 6},  {71, 3, 0, 2, 0, 20, 9, 1},  {255, 255, 1, 255, 1, 15, 7, 5},
 };
 
 /* libFuzzer's own changes break most documents. Half of the changes are these, which keep a document near to acceptance: another value between quotes, white

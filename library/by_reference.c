@@ -23,18 +23,18 @@ size_t NAMED(AS, _readable_len)(const uint8_t *doc, size_t doc_len) {
 #else
 
 uint32_t NAMED(IN, _version)(void);
-uint32_t NAMED(IN, _read)(struct slice *doc, struct slice *series, struct slice *positions, struct slice *amounts, struct slice *note, struct slice *answer);
+uint32_t NAMED(IN, _read_v2)(struct slice *doc, struct slice *series, struct slice *positions, struct slice *amounts, struct slice *note, struct slice *answer);
 uint32_t NAMED(IN, _read_note)(struct slice *note, struct slice *five);
 
 uint32_t NAMED(AS, _version)(void) {
     return NAMED(IN, _version)();
 }
 
-uint32_t NAMED(AS, _read)(const uint8_t *doc, size_t doc_len, uint32_t *series, size_t series_len, uint32_t *positions, size_t positions_len,
-                          int64_t *amounts, size_t amounts_len, uint8_t *note, size_t note_len, uint32_t *answer, size_t answer_len) {
+uint32_t NAMED(AS, _read_v2)(const uint8_t *doc, size_t doc_len, uint32_t *series, size_t series_len, uint32_t *positions, size_t positions_len,
+                             int64_t *amounts, size_t amounts_len, uint8_t *note, size_t note_len, uint32_t *answer, size_t answer_len) {
     struct slice d = {doc, doc_len}, s = {series, series_len}, p = {positions, positions_len}, a = {amounts, amounts_len}, n = {note, note_len},
                  r = {answer, answer_len};
-    return NAMED(IN, _read)(&d, &s, &p, &a, &n, &r);
+    return NAMED(IN, _read_v2)(&d, &s, &p, &a, &n, &r);
 }
 
 uint32_t NAMED(AS, _read_note)(const uint8_t *note, size_t note_len, uint32_t *five, size_t five_len) {

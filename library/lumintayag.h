@@ -6,7 +6,7 @@
  * to call, open no file and call nothing but memset. They end for every input. What they answer and leave behind
  * is proved for every document and every length of every slice (crates/library, crates/reader, crates/notes,
  * crates/readable); no input is excepted. Threads may call them at the same time, each with slices of its own.
- * lumintayag_read takes 67 KB of stack, whatever the document; a thread that has 128 KiB has enough.
+ * lumintayag_read_v2 takes 67 KB of stack, whatever the document; a thread that has 128 KiB has enough.
  *
  * Slices. A lent slice is two arguments: a pointer, and a length in elements (not in bytes). What no proof can see
  * is left to the caller:
@@ -29,12 +29,12 @@ extern "C" {
 #endif
 
 /*
- * The version of this header, a.b.c as 10000 a + 100 b + c: 0.1.0. lumintayag_version answers that of the archive
+ * The version of this header, a.b.c as 10000 a + 100 b + c: 0.2.0. lumintayag_version answers that of the archive
  * or shared object; a program that checks that the two are equal knows that they belong together.
  * A function whose arguments, rows or cells are laid out anew gets a new name, and the old name is gone: a
  * program that knows the old layout is not linked with the new one.
  */
-#define LUMINTAYAG_VERSION 100
+#define LUMINTAYAG_VERSION 200
 uint32_t lumintayag_version(void);
 
 /* A longer document is refused with 1. */
@@ -48,7 +48,7 @@ uint32_t lumintayag_version(void);
 #define LUMINTAYAG_NOTE_NUMBERS 5
 
 /* u32 numbers that a series takes in the series table. */
-#define LUMINTAYAG_SERIES_ROW 8
+#define LUMINTAYAG_SERIES_ROW 12
 
 /*
  * Rows that are room for every document: an Interval takes 45 bytes at least and a series 410, in a document of
@@ -94,22 +94,26 @@ enum {
 };
 
 /*
- * The cells of a series row: row i is series[8 * i] to series[8 * i + 7]. A start is an index into the document
+ * The cells of a series row: row i is series[12 * i] to series[12 * i + 11]. A start is an index into the document
  * and a length is in bytes between the quotes, so what it shows is doc[start] to doc[start + length - 1], without
- * a 0 after it. Lengths may be 0.
+ * a 0 after it. Lengths may be 0. A value that the series does not have is start 0 and length 0; one that it has
+ * never starts at 0. In kind 2 Direction and ConnectingArea may be absent. In kind 1 there is no Direction, and
+ * InArea is always there.
  */
 enum {
-    LUMINTAYAG_IDENTIFICATION = 0, /* start and length of the TimeSeriesIdentification */
-    LUMINTAYAG_OBJECT = 2,         /* of InParty (kind 1) or ResourceObject (kind 2) */
-    LUMINTAYAG_BUSINESS_TYPE = 4,  /* of BusinessType, without the spaces at its ends */
-    LUMINTAYAG_FIRST_INTERVAL = 6, /* its first row in the position and amount tables */
-    LUMINTAYAG_INTERVAL_COUNT = 7  /* and how many rows it has there */
+    LUMINTAYAG_IDENTIFICATION = 0,  /* start and length of the TimeSeriesIdentification */
+    LUMINTAYAG_OBJECT = 2,          /* of InParty (kind 1) or ResourceObject (kind 2) */
+    LUMINTAYAG_BUSINESS_TYPE = 4,   /* of BusinessType, without the spaces at its ends */
+    LUMINTAYAG_DIRECTION = 6,       /* of Direction, without the spaces at its ends: A01 is up, A02 is down */
+    LUMINTAYAG_AREA = 8,            /* of InArea (kind 1) or ConnectingArea (kind 2) */
+    LUMINTAYAG_FIRST_INTERVAL = 10, /* its first row in the position and amount tables */
+    LUMINTAYAG_INTERVAL_COUNT = 11  /* and how many rows it has there */
 };
 
 /*
  * Reads a document. It answers the refusal, 0 for acceptance: the same number as answer[0].
  *
- * series     rows of eight numbers, in document order. Room for series is series_len / 8, rounded down.
+ * series     rows of twelve numbers, in document order. Room for series is series_len / 12, rounded down.
  * positions  the Pos of each interval, in document order, counted over all series.
  * amounts    at the same index its Qty, in thousandths: 12.5 is 12500. Room for intervals is the shorter of
  *            positions_len and amounts_len.
@@ -125,21 +129,21 @@ enum {
  * stands until the next Pos, the last one to the end of quarter hour N.
  *
  * An amount is megawatts in kind 1; in kind 2 euros by MeasurementUnit: per piece (Z01), per megawatt hour (Z02)
- * or per hour (Z03). Unit and Direction are no cells of the row. What the format descriptions tell in prose of one
- * value beside another is judged only where the build scope lists it: a Direction may be absent, and a unit may
- * stand with any BusinessType. So amounts of two series can be compared where kind, BusinessType, Direction and
- * MeasurementUnit are the same, which the caller has to see to.
+ * or per hour (Z03). The unit is no cell of the row. What the format descriptions tell in prose of one value beside
+ * another is judged only where the build scope lists it: a Direction may be absent, and a unit may stand with any
+ * BusinessType. So amounts of two series can be compared where kind, BusinessType, Direction and MeasurementUnit
+ * are the same, which the caller has to see to.
  *
  * Nothing but the amounts depends on the digits of a price: two documents of equal length that differ only in
  * digits of readable Qty values get the same answer and note, and the same cells but for the amounts of accepted
  * intervals whose own digits differ (proved: docs/ARCHITECTURE.md).
  */
-uint32_t lumintayag_read(const uint8_t *doc, size_t doc_len,
-                         uint32_t *series, size_t series_len,
-                         uint32_t *positions, size_t positions_len,
-                         int64_t *amounts, size_t amounts_len,
-                         uint8_t *note, size_t note_len,
-                         uint32_t *answer, size_t answer_len);
+uint32_t lumintayag_read_v2(const uint8_t *doc, size_t doc_len,
+                            uint32_t *series, size_t series_len,
+                            uint32_t *positions, size_t positions_len,
+                            int64_t *amounts, size_t amounts_len,
+                            uint8_t *note, size_t note_len,
+                            uint32_t *answer, size_t answer_len);
 
 /*
  * Reads a note back: exactly five numbers, each shortest and below 2^21, and nothing after; so note_len is the

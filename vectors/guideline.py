@@ -8,7 +8,7 @@ import sys
 
 FORMS = ["", "identification", "series identification", "market partner ID", "version", "date-time", "period covered", "time interval",
          "resolution", "Pos", "amount", "ResourceObject", "party"]
-ROLES = {"Period": 3, "Interval": 4, "BusinessType": 7, "TimeSeriesIdentification": 8, "Pos": 9, "Qty": 10}
+ROLES = {"Period": 3, "Interval": 4, "BusinessType": 7, "TimeSeriesIdentification": 8, "Pos": 9, "Qty": 10, "Direction": 11}
 
 
 def tables(path):
@@ -50,6 +50,8 @@ def role(row, element, special):
         return 5
     if special.startswith("the object of kind"):
         return 6
+    if special.startswith("the area of kind"):
+        return 12
     return ROLES.get(element, 0)
 
 

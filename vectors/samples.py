@@ -1,4 +1,4 @@
-"""A reader of document 01, written from the paper alone, and samples with their expected answers.
+"""A reader of document 01 as 02 changes it, written from the papers alone, and samples with their expected answers.
 
     samples.py          prints a line for each sample, sorted by name, and stops where a file of crates/samples_run/data is not the sample
     samples.py NAME     prints the sample
@@ -210,6 +210,10 @@ KINDS = {"Beschaffungsanforderung": 1, "Kostenblatt": 2}
 ROOTS = {0: None, 1: KIND_1, 2: KIND_2}
 QUARTER = timedelta(minutes=15)
 
+# The numbers that a series takes, and those after its five views.
+WIDTH = 12
+FIRST, COUNT = 10, 11
+
 
 def midnight(day):
     """The start of a delivery day, in UTC: the clock goes forward on the last Sunday of March and back on the last one of October, at 01:00."""
@@ -249,7 +253,7 @@ class Reading:
 
     def inside(self):
         """Intervals of the series that is being read."""
-        return self.intervals - self.series[-1][6]
+        return self.intervals - self.series[-1][FIRST]
 
     def values(self, item):
         """On the root, attributes named `xmlns` or beginning `xmlns:` or `xsi:` are passed over."""
@@ -345,7 +349,7 @@ class Reading:
             first, last = interval(self.period)
             self.n = (last - first) // QUARTER
         elif row.name in ("ScheduleTimeSeries", "CostTimeSeries"):
-            self.series.append([0, 0, 0, 0, 0, 0, self.intervals, 0])
+            self.series.append([0] * FIRST + [self.intervals, 0])
             self.originals = 0
         elif row.name == "TimeSeriesIdentification":
             self.used.add(raw.decode())
@@ -354,11 +358,15 @@ class Reading:
             self.series[-1][2:4] = start, length
         elif row.name == "BusinessType":
             self.series[-1][4:6] = start + len(raw) - len(raw.lstrip(b" ")), len(raw.strip(b" "))
+        elif row.name == "Direction":
+            self.series[-1][6:8] = start + len(raw) - len(raw.lstrip(b" ")), len(raw.strip(b" "))
+        elif row.name == "InArea" or row.name == "ConnectingArea":
+            self.series[-1][8:10] = start, length
         elif row.name.startswith("Original"):
             self.originals += 1
         elif row.name == "Interval":
             self.intervals += 1
-            self.series[-1][7] += 1
+            self.series[-1][COUNT] += 1
         elif row.name == "Pos":
             self.positions.append(int(raw.strip(b" ")))
         elif row.name == "Qty":
@@ -393,7 +401,7 @@ def filled(cells, size):
     return list(cells) + [0] * (size - len(cells))
 
 
-def read(doc, series_cells=512, position_cells=2048, amount_cells=2048, note_bytes=16):
+def read(doc, series_cells=64 * WIDTH, position_cells=2048, amount_cells=2048, note_bytes=16):
     """The note is given without the zeros after it."""
     def refused(refusal, place, kind, series, intervals, note):
         return Answer(refusal, place, kind, series, intervals, 0, note, *([0] * c for c in (series_cells, position_cells, amount_cells)))
@@ -405,7 +413,7 @@ def read(doc, series_cells=512, position_cells=2048, amount_cells=2048, note_byt
         return refused(10, 0, 0, 0, 0, b"")
     if len(doc) > 1_048_576:
         return refused(1, 0, 0, 0, 0, note_of(1, 0, 0, 0, 0))
-    reading = Reading(doc, series_cells // 8, min(position_cells, amount_cells))
+    reading = Reading(doc, series_cells // WIDTH, min(position_cells, amount_cells))
     numbers = (*reading.run(), reading.kind, len(reading.series), reading.intervals)
     if numbers[0]:
         return refused(*numbers, note_of(*numbers))
@@ -447,7 +455,8 @@ def refused(name, refusal, kind, series, intervals, text):
 
 
 def taken(name, kind, n, rows, text):
-    """For each series: identification, object, BusinessType and its intervals, each with position and thousandths."""
+    """For each series: identification, object, BusinessType, its intervals, each with position and thousandths, and, where they are there,
+    Direction and area, None for a Direction that is not there before an area that is."""
     assert MARK not in text, name
     doc = raw(text)
     put(name, Sample(doc, 0, len(doc), kind, len(rows), sum(len(row[3]) for row in rows), n, rows))
@@ -556,6 +565,7 @@ def first_rows(count):
 TWO = two(cost())
 ALL_TWO = two(cost(direction=DIRECTION, area=CONNECTING, status=STATUS, originals=ORIGINALS))
 TWO_ROW = ("S-1", "C0ABCDEFGH1", "A01", SOME_ROWS)
+ALL_ROW = (*TWO_ROW, "A02", "10YDE-EON------1")
 # Kind 1 with all optional parts, given up after its second interval: for faults that come earlier.
 BEGUN_ONE = one(schedule(first(2), originals=ORIGINALS)).partition("</Period>")[0]
 SPRING = "2024-03-30T23:00Z/2024-03-31T22:00Z"
@@ -584,12 +594,12 @@ MANY = "".join(f" xmlns:a{i}='{i}'" for i in range(150))
 
 def accepted_two():
     taken("two-plain", 2, 96, [TWO_ROW], TWO)
-    taken("two-all-optional", 2, 96, [TWO_ROW], ALL_TWO)
-    taken("two-direction-only", 2, 96, [TWO_ROW], two(cost(direction=DIRECTION)))
-    taken("two-connecting-area-only", 2, 96, [TWO_ROW], two(cost(area=CONNECTING)))
+    taken("two-all-optional", 2, 96, [ALL_ROW], ALL_TWO)
+    taken("two-direction-only", 2, 96, [(*TWO_ROW, "A02")], two(cost(direction=DIRECTION)))
+    taken("two-connecting-area-only", 2, 96, [(*TWO_ROW, None, "10YDE-EON------1")], two(cost(area=CONNECTING)))
     taken("two-status-only", 2, 96, [TWO_ROW], two(cost(status=STATUS)))
     taken("two-originals-only", 2, 96, [TWO_ROW], two(cost(originals=ORIGINALS)))
-    taken("two-compact", 2, 96, [TWO_ROW], re.sub("\n", "", ALL_TWO))
+    taken("two-compact", 2, 96, [ALL_ROW], re.sub("\n", "", ALL_TWO))
     taken("two-one-interval", 2, 96, [("S-1", "C0ABCDEFGH1", "A01", [(1, 7000)])], two(cost(pairs=[(1, 7)])))
     taken("two-pos-gaps", 2, 96, [("S-1", "C0ABCDEFGH1", "A01", [(1, 1), (2, 20), (9, 300), (95, 4000), (96, 0)])],
           two(cost(pairs=[(1, "0.001"), (2, "0.02"), (9, "0.3"), (95, "4"), (96, "0")])))
@@ -618,12 +628,41 @@ def accepted_two():
               cost("S-3", resource="B0000000000", business="A04", pairs=SOME + [(96, 99)], status=STATUS)))
 
 
+def directions_and_areas():
+    """Of each series its own, and 0 and 0 where it has none, whatever the series before has."""
+    last = cost("S-2", pairs=[(1, 1)])
+    last_row = ("S-2", "C0ABCDEFGH1", "A01", [(1, 1000)])
+    taken("two-direction-then-none", 2, 96, [(*TWO_ROW, "A02"), last_row], two(cost(direction=DIRECTION), last))
+    taken("two-area-then-none", 2, 96, [(*TWO_ROW, None, "10YDE-EON------1"), last_row], two(cost(area=CONNECTING), last))
+    taken("two-none-then-both", 2, 96, [TWO_ROW, (*last_row, "A02", "10YDE-EON------1")],
+          two(cost(), cost("S-2", pairs=[(1, 1)], direction=DIRECTION, area=CONNECTING)))
+    shapes = (("A02", " A02", AREAS[1]), ("A01", "A01   ", AREAS[4]), (None, "", None), ("A02", "   A02 ", None), ("A02", "A02", AREAS[1]),
+              (None, "", AREAS[0]), ("A01", "A01", AREAS[1]))
+    taken("two-directions-and-areas", 2, 96,
+          [(f"S-{i}", "C0ABCDEFGH1", "A01", [(1, i * 1000)], direction, area) for i, (direction, _, area) in enumerate(shapes, 1)],
+          two(*(cost(f"S-{i}", pairs=[(1, i)], direction=f'<Direction v="{said}"/>\n' if direction else "",
+                     area=f'<ConnectingArea v="{area}" codingScheme="A01"/>\n' if area else "")
+                for i, (direction, said, area) in enumerate(shapes, 1))))
+    taken("two-direction-spaces", 2, 96, [(*TWO_ROW, "A01")], two(cost(direction='<Direction v="    A01  "/>\n')))
+    taken("two-direction-spaces-single-quotes", 2, 96, [(*TWO_ROW, "A02")], two(cost(direction="<Direction\n v = '  A02' ></Direction>\n")))
+    taken("two-area-after-its-scheme", 2, 96, [(*TWO_ROW, None, AREAS[4])],
+          two(cost(area=f"<ConnectingArea codingScheme=' A01 ' v='{AREAS[4]}'/>\n")))
+    into, out = '<InArea v="10YDE-VE-------2"', '<OutArea v="10YDE-RWENET---I"'
+    row = ("T-1", "11XINVENTED-IN-A", "A02", first_rows(96), None)
+    taken("one-areas-alike", 1, 96, [(*row, "10YDE-VE-------2")],
+          edited(one(schedule(first(96))), (out, '<OutArea v="10YDE-VE-------2"')))
+    taken("one-areas-exchanged", 1, 96, [(*row, "10YDE-RWENET---I")],
+          edited(one(schedule(first(96))), (out, '<OutArea v="10YDE-VE-------2"'), (into, '<InArea v="10YDE-RWENET---I"')))
+    taken("one-areas-of-two-series", 1, 96, [(*row, "10YDE-VE-------2"), ("T-2", *row[1:], "10YFLENSBURG---3")],
+          one(schedule(first(96)), edited(schedule(first(96), "T-2"), (into, '<InArea v="10YFLENSBURG---3"'))))
+
+
 def accepted_values():
-    rows = [("S-1", "C0ABCDEFGH1", code, [(1, 1000)]) for code in ("A01", "A04", "Z01", "Z02", "Z03")]
-    rows = [(f"S-{i}", *row[1:]) for i, row in enumerate(rows)]
+    rows = [(f"S-{i}", "C0ABCDEFGH1", code, [(1, 1000)], f"A0{i % 2 + 1}", AREAS[i])
+            for i, code in enumerate(("A01", "A04", "Z01", "Z02", "Z03"))]
     taken("two-every-code", 2, 96, rows, edited(two(*(
-        cost(f"S-{i}", business=rows[i][2], pairs=[(1, 1)], direction=f'<Direction v="A0{i % 2 + 1}"/>', unit=f"Z0{i % 3 + 1}",
-             area=f'<ConnectingArea v="{AREAS[i]}" codingScheme="A01"/>', status=f'<Status v="Z0{i + 1}"/>') for i in range(5))),
+        cost(f"S-{i}", business=rows[i][2], pairs=[(1, 1)], direction=f'<Direction v="{rows[i][4]}"/>', unit=f"Z0{i % 3 + 1}",
+             area=f'<ConnectingArea v="{rows[i][5]}" codingScheme="A01"/>', status=f'<Status v="Z0{i + 1}"/>') for i in range(5))),
         ('<SenderRole v="A27"/>', '<SenderRole v="A39"/>'), ('<ReceiverRole v="A39"/>', '<ReceiverRole v="A18"/>'),
         ('000016" codingScheme="A10"', '000016" codingScheme="NDE"'), ('000023" codingScheme="NDE"', '000023" codingScheme="A10"'),
         ('<DocumentVersion v="3"/>', '<DocumentVersion v="999"/>')).replace('000030" codingScheme="A10"', '000030" codingScheme="NDE"'))
@@ -633,7 +672,7 @@ def accepted_values():
     taken("two-amounts", 2, 96, [("S-1", "C0ABCDEFGH1", "A01", [(i + 1, amount) for i, (_, amount) in enumerate(amounts)])],
           two(cost(pairs=[(i + 1, text) for i, (text, _) in enumerate(amounts)])))
     taken("two-business-spaces", 2, 96, [("S-1", "C0ABCDEFGH1", "A04", SOME_ROWS)], two(cost(business="   A04  ")))
-    taken("two-spaces-dropped", 2, 96, [TWO_ROW], edited(ALL_TWO, *(
+    taken("two-spaces-dropped", 2, 96, [ALL_ROW], edited(ALL_TWO, *(
         (f'v="{value}"', f'v="  {value} "') for value in (
             "3", "Z05", "A14", "A27", "A39", "2024-05-06T07:08:09Z", "8716867000016", "A03", "2024-05-05T10:11:12Z", "PT15M",
             "1", "5", "10.5", "-3.25")),
@@ -650,7 +689,7 @@ def accepted_values():
     taken("two-id-edge-characters", 2, 96, [(odd, "C0ABCDEFGH1", "A01", SOME_ROWS)], two(cost(odd)))
     taken("two-ids-by-bytes", 2, 96, [(i, "C0ABCDEFGH1", "A01", [(1, 1000)]) for i in ("s-1", "S-1", " S-1", "S-1 ", "ä", "a\u0308")],
           edited(two(*(cost(i, pairs=[(1, 1)]) for i in ("s-1", "S-1", " S-1", "S-1 ", "ä", "a\u0308"))), ('v="D-1"', 'v="S-1"')))
-    taken("two-original-ids-as-they-are", 2, 96, [TWO_ROW], edited(
+    taken("two-original-ids-as-they-are", 2, 96, [ALL_ROW], edited(
         ALL_TWO, ('"OD-7"', '" %s "' % (33 * "ß")), ('"OS-7"', '""'), ('"D-1"', '"  D"'),
         ('000047" codingScheme="NDE"', '000047" codingScheme="A10"'),
         ('<OriginalDocumentVersion v="7"/>', '<OriginalDocumentVersion v="999"/>')))
@@ -664,15 +703,15 @@ def accepted_items():
             ("declaration-white", "<?xml\r\n\tversion =\n'1.0'\tencoding= 'utf-8'  ?>\r\n"),
             ("comment-first", "<!-- ä & ]]> < -->\n<!----><!--->-->")):
         taken("two-" + name, 2, 96, [TWO_ROW], TWO.replace(DECLARED, declaration))
-    taken("two-single-quotes", 2, 96, [TWO_ROW], ALL_TWO.replace('"', "'"))
-    taken("two-attributes-turned", 2, 96, [TWO_ROW], re.sub(r'( v="[^"]*")( codingScheme=)"([^"]*)"', r"\2'\3'\1", ALL_TWO))
+    taken("two-single-quotes", 2, 96, [ALL_ROW], ALL_TWO.replace('"', "'"))
+    taken("two-attributes-turned", 2, 96, [ALL_ROW], re.sub(r'( v="[^"]*")( codingScheme=)"([^"]*)"', r"\2'\3'\1", ALL_TWO))
     taken("two-quotes-in-values", 2, 96, [("it's > ]]> -->", "C0ABCDEFGH1", "A01", SOME_ROWS)],
           edited(two(cost("it's > ]]> -->")), ('v="D-1"', "v='\"D\"/>'")))
-    taken("two-start-with-end", 2, 96, [TWO_ROW], re.sub(r"<(\w+)( [^>]*)/>", r"<\1\2></\1>", ALL_TWO))
-    taken("two-text-in-leaves", 2, 96, [TWO_ROW], re.sub(r"<(\w+)( [^>]*)/>", "<\\1\\2>\r\n<!-- \\1 -->\t</\\1 \n>", ALL_TWO))
-    taken("two-white-in-tags", 2, 96, [TWO_ROW],
+    taken("two-start-with-end", 2, 96, [ALL_ROW], re.sub(r"<(\w+)( [^>]*)/>", r"<\1\2></\1>", ALL_TWO))
+    taken("two-text-in-leaves", 2, 96, [ALL_ROW], re.sub(r"<(\w+)( [^>]*)/>", "<\\1\\2>\r\n<!-- \\1 -->\t</\\1 \n>", ALL_TWO))
+    taken("two-white-in-tags", 2, 96, [ALL_ROW],
           re.sub(r"<(/?\w+)>", "<\\1\r\n>", re.sub(r' (\w+)=("[^"]*")', "\r\n\t\\1 \t=\n \\2 ", ALL_TWO[len(DECLARED):])))
-    taken("two-comments-everywhere", 2, 96, [TWO_ROW],
+    taken("two-comments-everywhere", 2, 96, [ALL_ROW],
           re.sub("\n", '<!-- Qty v="1" & <Pos> ]]> Größe - -->\t\r\n', ALL_TWO[len(DECLARED):]))
     taken("two-after-root", 2, 96, [TWO_ROW], TWO + "<!-- after -->\r\n\t <!---->")
     taken("two-65535-bytes", 2, 96, [TWO_ROW], TWO + "<!--" + (65_535 - 7 - len(TWO)) * "&" + "-->")
@@ -684,8 +723,10 @@ def accepted_items():
 # ---------------------------------------------------------------- Accepted, kind 1
 
 def accepted_one():
+    area = (None, "10YDE-VE-------2")
+
     def row(count):
-        return [("T-1", "11XINVENTED-IN-A", "A02", first_rows(count))]
+        return [("T-1", "11XINVENTED-IN-A", "A02", first_rows(count), *area)]
     taken("one-plain", 1, 96, row(96), one(schedule(first(96))))
     taken("one-all-optional", 1, 96, row(96), one(schedule(first(96), originals=ORIGINALS)))
     taken("one-92", 1, 92, row(92), one(schedule(first(92), period=SPRING), period=SPRING))
@@ -695,9 +736,9 @@ def accepted_one():
                       ("one-before-march-sunday", "2024-03-29T23:00Z/2024-03-30T23:00Z"), ("one-after-march-sunday", "2024-03-31T22:00Z/2024-04-01T22:00Z"),
                       ("one-before-october-sunday", "2024-10-25T22:00Z/2024-10-26T22:00Z"), ("one-after-october-sunday", "2024-10-27T23:00Z/2024-10-28T23:00Z")):
         taken(name, 1, 96, row(96), one(schedule(first(96), period=day), period=day))
-    taken("one-two-series", 1, 96, row(96) + [("T-2", "11XINVENTED-IN-A", "A02", first_rows(96))],
+    taken("one-two-series", 1, 96, row(96) + [("T-2", "11XINVENTED-IN-A", "A02", first_rows(96), *area)],
           one(schedule(first(96)), schedule(first(96), "T-2", originals=ORIGINALS)))
-    taken("one-negative", 1, 96, [("T-1", "11XINVENTED-IN-A", "A02", [(1, -500)] + first_rows(96)[1:])],
+    taken("one-negative", 1, 96, [("T-1", "11XINVENTED-IN-A", "A02", [(1, -500)] + first_rows(96)[1:], *area)],
           edited(one(schedule(first(96))), ('<Qty v="0.5"/>', '<Qty v="-0.5"/>')))
     taken("one-spaces-dropped", 1, 96, row(96), edited(one(schedule(first(96), originals=ORIGINALS)), *(
         (f'v="{value}"', f'v="  {value} "') for value in (
@@ -705,7 +746,7 @@ def accepted_one():
             "1", "96", "0.5", "95.5")), ('<DocumentVersion v="3"/>', '<DocumentVersion v=" 3"/>'),
         ('000016" codingScheme="A10"', '000016" codingScheme=" A10 "'),
         ('OUT9" codingScheme="A01"', 'OUT9" codingScheme="A01 "'), ('IN-A" codingScheme="A01"', 'IN-A" codingScheme=" A01"')))
-    taken("one-every-code", 1, 96, [(f"T-{i}", "11XINVENTED-IN-A", "A02", first_rows(96)) for i in range(5)], edited(one(*(
+    taken("one-every-code", 1, 96, [(f"T-{i}", "11XINVENTED-IN-A", "A02", first_rows(96), None, AREAS[i]) for i in range(5)], edited(one(*(
         schedule(first(96), f"T-{i}").replace("10YDE-VE-------2", AREAS[i]).replace("10YDE-RWENET---I", AREAS[4 - i]) for i in range(5))),
         ('<SenderRole v="A18"/>', '<SenderRole v="A39"/>'), ('<ReceiverRole v="A39"/>', '<ReceiverRole v="A18"/>'),
         ('000016" codingScheme="A10"', '000016" codingScheme="NDE"'), ('000023" codingScheme="NDE"', '000023" codingScheme="A10"')))
@@ -1152,17 +1193,36 @@ def other_examples():
     # 2,049 intervals are longer than 65,536 bytes, so that smaller tables show the full ones.
     doc = raw(ALL_TWO)
     second, start = doc.rindex(b"<Interval>"), doc.index(b"<CostTimeSeries>")
-    assert read(doc, 8, 2, 2).refusal == 0
-    assert read(doc, 15, 2, 9).amount_table == [10500, -3250, 0, 0, 0, 0, 0, 0, 0]
-    assert read(doc, 7, 0, 0)[:6] == (4, start, 2, 0, 0, 0)
-    assert read(doc, 8, 1, 2)[:6] == read(doc, 8, 2, 1)[:6] == (4, second, 2, 1, 1, 0)
-    assert read(doc.replace(b"<Interval><Pos v=\"5\"/>", b"<Interval v=''>"), 8, 1, 1)[:2] == (4, second)
-    assert read(doc.replace(b"<Interval><Pos v=\"5\"/>", b"<Interval/>"), 8, 1, 1)[:2] == (3, second)
+    assert read(doc, 12, 2, 2).refusal == 0
+    assert read(doc, 23, 2, 9).amount_table == [10500, -3250, 0, 0, 0, 0, 0, 0, 0]
+    assert read(doc, 11, 0, 0)[:6] == (4, start, 2, 0, 0, 0)
+    assert read(doc, 12, 1, 2)[:6] == read(doc, 12, 2, 1)[:6] == (4, second, 2, 1, 1, 0)
+    assert read(doc.replace(b"<Interval><Pos v=\"5\"/>", b"<Interval v=''>"), 12, 1, 1)[:2] == (4, second)
+    assert read(doc.replace(b"<Interval><Pos v=\"5\"/>", b"<Interval/>"), 12, 1, 1)[:2] == (3, second)
     hundred = raw(one(schedule(first(101), period=AUTUMN), period=AUTUMN))
-    assert read(hundred, 8, 100, 100)[:2] == (3, hundred.rindex(b"<Interval>"))
+    assert read(hundred, 12, 100, 100)[:2] == (3, hundred.rindex(b"<Interval>"))
+    pair = raw(two(cost(), cost("S-2")))
+    assert [read(pair, cells)[:2] for cells in (0, 11, 12, 23, 24, 35)] == 2 * [(4, pair.index(b"<CostTimeSeries>"))] + \
+        2 * [(4, pair.rindex(b"<CostTimeSeries>"))] + 2 * [(0, len(pair))]
 
 
 # ---------------------------------------------------------------- The script
+
+# The elements that the views of a row show, in kind 1 and in kind 2.
+VIEWS = ((b"TimeSeriesIdentification",), (b"InParty", b"ResourceObject"), (b"BusinessType",), (b"Direction",), (b"InArea", b"ConnectingArea"))
+
+
+def check_views(doc, row, expected, where):
+    """A view lies in a tag of its element, and shows what is expected of it; where that is None, its cells are 0."""
+    for k, (names, said) in enumerate(zip(VIEWS, expected)):
+        start, length = row[2 * k:2 * k + 2]
+        if said is None:
+            assert start == length == 0, (*where, names)
+            continue
+        tag = doc[doc.rindex(b"<", 0, start):start]
+        assert tag.startswith(tuple(b"<" + name for name in names)), (*where, names)
+        assert re.search(rb"\bv\s*=\s*[\"'] *$", tag) and doc[start:start + length] == raw(said), (*where, names)
+
 
 def check(name, sample, answer):
     """The reader's answer is the one that the sample states."""
@@ -1171,15 +1231,15 @@ def check(name, sample, answer):
         assert not any(answer.series_table + answer.position_table + answer.amount_table), name
         return
     at = 0
-    for i, (identification, thing, business, pairs) in enumerate(sample.rows):
-        row = answer.series_table[8 * i:8 * i + 8]
-        said = [sample.doc[row[k]:row[k] + row[k + 1]] for k in (0, 2, 4)]
-        assert said == [raw(identification), raw(thing), raw(business)] and row[6:] == [at, len(pairs)], (name, i, said)
-        assert sample.doc[row[0] - 1:row[0]] in (b'"', b"'"), (name, i)
+    for i, expected in enumerate(sample.rows):
+        identification, thing, business, pairs, direction, area = (*expected, None, None)[:6]
+        row = answer.series_table[WIDTH * i:WIDTH * i + WIDTH]
+        check_views(sample.doc, row, (identification, thing, business, direction, area), (name, i))
+        assert row[FIRST:] == [at, len(pairs)], (name, i)
         assert answer.position_table[at:at + len(pairs)] == [pos for pos, _ in pairs], (name, i)
         assert answer.amount_table[at:at + len(pairs)] == [amount for _, amount in pairs], (name, i)
         at += len(pairs)
-    assert not any(answer.series_table[8 * len(sample.rows):] + answer.position_table[at:] + answer.amount_table[at:]), name
+    assert not any(answer.series_table[WIDTH * len(sample.rows):] + answer.position_table[at:] + answer.amount_table[at:]), name
 
 
 def line(name, answer):
@@ -1188,7 +1248,7 @@ def line(name, answer):
 
 
 def main():
-    for group in (accepted_two, accepted_values, accepted_items, accepted_one, short_documents, declarations, unreadable_items,
+    for group in (accepted_two, directions_and_areas, accepted_values, accepted_items, accepted_one, short_documents, declarations, unreadable_items,
                   other_text, rows_of_head, rows_of_series, rows_of_originals, rows_of_period, rows_of_one, counts_of_one,
                   missing_rows, near_names, places_in_notes, full_tables, used_identifications, several_faults, late_faults,
                   other_examples):

@@ -1,5 +1,5 @@
 /* 200 pairs of documents that differ only in digits of readable Qty values, each read once. Under callgrind, which counts the instructions of
- * lumintayag_read alone, each call leaves one count. No document and no amount is written anywhere. */
+ * lumintayag_read_v2 alone, each call leaves one count. No document and no amount is written anywhere. */
 #include <stdint.h>
 #include <stdio.h>
 #include <string.h>
@@ -80,14 +80,14 @@ static int64_t amounts[128];
 static void count(int k, size_t rows) {
     memcpy(doc, text[k], at);
     CALLGRIND_ZERO_STATS;
-    lumintayag_read(doc, at, series, 64, positions, rows, amounts, 128, note, 16, answer, 7);
+    lumintayag_read_v2(doc, at, series, 64, positions, rows, amounts, 128, note, 16, answer, 7);
     CALLGRIND_DUMP_STATS;
     memcpy(answers[k], answer, sizeof answer);
     memcpy(notes[k], note, sizeof note);
 }
 
 int main(void) {
-    lumintayag_read(doc, 0, series, 64, positions, 128, amounts, 128, note, 16, answer, 7); /* the linker's work is done here */
+    lumintayag_read_v2(doc, 0, series, 64, positions, 128, amounts, 128, note, 16, answer, 7); /* the linker's work is done here */
     for (unsigned pair = 0; pair < PAIRS; pair++) {
         document(pair);
         for (int k = 0; k < 2; k++) count(k, pair % 7 == 6 ? 20 : 128); /* now and then a table that is full */

@@ -1,4 +1,4 @@
-/* How much stack a call of lumintayag_read takes, with its caller's frame: the deepest byte that is written on a painted stack, and the smallest stack on
+/* How much stack a call of lumintayag_read_v2 takes, with its caller's frame: the deepest byte that is written on a painted stack, and the smallest stack on
  * which every call comes back, over the samples of a folder and over documents of 1 MiB that are made in memory. Nothing is written to a file. */
 #define _GNU_SOURCE
 #include <dirent.h>
@@ -24,15 +24,15 @@ struct document {
 static struct document documents[DOCUMENTS];
 static size_t count;
 
-static uint32_t series[8 * LUMINTAYAG_SERIES_ROOM], positions[LUMINTAYAG_INTERVALS_ROOM], answer[7];
+static uint32_t series[LUMINTAYAG_SERIES_ROW * LUMINTAYAG_SERIES_ROOM], positions[LUMINTAYAG_INTERVALS_ROOM], answer[7];
 static int64_t amounts[LUMINTAYAG_INTERVALS_ROOM];
 static uint8_t note[16];
 static const struct document *read_now;
 static ucontext_t here, there;
 
 static void call(void) {
-    lumintayag_read(read_now->bytes, read_now->length, series, 8 * LUMINTAYAG_SERIES_ROOM, positions, LUMINTAYAG_INTERVALS_ROOM, amounts,
-                    LUMINTAYAG_INTERVALS_ROOM, note, 16, answer, 7);
+    lumintayag_read_v2(read_now->bytes, read_now->length, series, sizeof series / sizeof *series, positions, LUMINTAYAG_INTERVALS_ROOM,
+                       amounts, LUMINTAYAG_INTERVALS_ROOM, note, 16, answer, 7);
 }
 
 /* The lowest address of a stack below which nothing can be touched. */

@@ -1,7 +1,7 @@
 //! Documents made at random: right ones in all their spellings, each rule of 01 broken, damaged, cut.
 //! A document depends on the seed and its number alone.
 
-use crate::model::{Lengths, LONGEST};
+use crate::model::{Lengths, LONGEST, ROW};
 use crate::random::Random;
 use crate::rows::{Row, Task, ROOTS};
 use crate::spelling::{spelled, Style};
@@ -99,9 +99,11 @@ fn long_document(random: &mut Random) -> Document {
 
 fn tag(random: &mut Random, row: &'static Row, plan: &Plan) -> Tag {
     let mut attributes = Vec::new();
+    // Of these two the row shows where the spaces end.
+    let seldom = if matches!(row.task, Task::BusinessType | Task::Direction) { 4 } else { 12 };
     for wanted in row.attributes {
         let mut value = right(random, wanted.form, plan);
-        if wanted.collapse && random.one_in(12) {
+        if wanted.collapse && random.one_in(seldom) {
             value = spaced(random, &value);
         }
         attributes.push((wanted.name.as_bytes().to_vec(), value));
@@ -162,7 +164,7 @@ fn add_series(random: &mut Random, row: &'static Row, plan: &mut Plan, pieces: &
         match child.task {
             Task::Period => add_period(random, child, plan, pieces),
             Task::Original if !originals => {}
-            Task::Nothing if child.least == 0 && random.one_in(2) => {}
+            Task::Nothing | Task::Direction | Task::Area if child.least == 0 && random.one_in(2) => {}
             Task::SeriesIdentification => pieces.push(Piece::Leaf(new_identification(random, child, plan))),
             _ => pieces.push(Piece::Leaf(tag(random, child, plan))),
         }
@@ -237,7 +239,7 @@ fn starts_of(pieces: &[Piece], task: Task) -> usize {
 
 fn enough(pieces: &[Piece]) -> Lengths {
     let intervals = starts_of(pieces, Task::Interval);
-    Lengths { series: 8 * starts_of(pieces, Task::Series), positions: intervals, amounts: intervals, note: 16 }
+    Lengths { series: ROW * starts_of(pieces, Task::Series), positions: intervals, amounts: intervals, note: 16 }
 }
 
 /// Tables that are enough, just enough, one short, or of any length; all lengths for themselves.
@@ -248,11 +250,11 @@ fn lengths_for(random: &mut Random, pieces: &[Piece]) -> Lengths {
         _ if all_enough => need + random.below(10),
         0 => need.saturating_sub(1 + random.below(step)),
         1 => random.below(need + 2),
-        2 => random.below(20),
+        2 => random.below(3 * ROW),
         3 => need,
         _ => need + random.below(20),
     };
-    let (series, positions, amounts) = (around(least.series, 8), around(least.positions, 3), around(least.amounts, 3));
+    let (series, positions, amounts) = (around(least.series, ROW), around(least.positions, 3), around(least.amounts, 3));
     let note = if random.one_in(16) { random.below(41) } else { random.within(16, 40) };
     Lengths { series, positions, amounts, note }
 }

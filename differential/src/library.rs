@@ -1,7 +1,7 @@
 //! The proved library, called as C calls it.
 
 use differential::model::{Lengths, Outcome};
-use lumintayag_sys::{lumintayag_read, lumintayag_read_note};
+use lumintayag_sys::{lumintayag_read_note, lumintayag_read_v2};
 
 /// Cells after those that are lent; none of them may change.
 const GUARD: usize = 3;
@@ -31,7 +31,7 @@ pub fn read(doc: &[u8], lengths: &Lengths) -> Result<Outcome, &'static str> {
     let (mut amounts, mut note, mut answer) = (full(lengths.amounts, LONG), full(lengths.note, BYTE), full(7, WORD));
     // Each length is at most that of the slice its pointer is from.
     let returned = unsafe {
-        lumintayag_read(
+        lumintayag_read_v2(
             doc.as_ptr(),
             doc.len(),
             series.as_mut_ptr(),

@@ -1,4 +1,4 @@
-//! A reader of document 01, written from the paper alone, in the paper's order.
+//! A reader of document 01 as 02 changes it, written from the papers alone, in the order of 01.
 
 use crate::rows::{Attribute, Form, Row, Task, ROOTS};
 use std::collections::BTreeSet;
@@ -27,6 +27,10 @@ pub struct Outcome {
 pub const LONGEST: usize = 1_048_576;
 /// "the note buffer has fewer than 16 bytes"
 pub const LEAST_NOTE: usize = 16;
+/// "A series row grows from eight numbers to twelve"; the last two are "its first interval row; its interval count".
+pub const ROW: usize = 12;
+const FIRST: usize = 10;
+const COUNT: usize = 11;
 
 // ---------------------------------------------------------------- Items
 
@@ -454,7 +458,7 @@ struct Reading<'d> {
     n: u32,
     originals: usize,
     last_pos: u32,
-    series: Vec<[u32; 8]>,
+    series: Vec<[u32; ROW]>,
     positions: Vec<u32>,
     amounts: Vec<i64>,
 }
@@ -463,7 +467,7 @@ impl<'d> Reading<'d> {
     fn new(doc: &'d [u8], lengths: &Lengths) -> Reading<'d> {
         Reading {
             doc,
-            series_room: lengths.series / 8,
+            series_room: lengths.series / ROW,
             interval_room: lengths.positions.min(lengths.amounts),
             kind: 0,
             open: Vec::new(),
@@ -642,6 +646,8 @@ impl<'d> Reading<'d> {
             Task::SeriesIdentification => self.set_view(0, value),
             Task::Object => self.set_view(2, value),
             Task::BusinessType => self.set_view(4, value),
+            Task::Direction => self.set_view(6, value),
+            Task::Area => self.set_view(8, value),
             Task::Original => self.originals += 1,
             Task::Period => self.last_pos = 0,
             Task::Interval => self.take_interval(),
@@ -658,7 +664,9 @@ impl<'d> Reading<'d> {
 
     fn take_series(&mut self) {
         self.originals = 0;
-        self.series.push([0, 0, 0, 0, 0, 0, self.positions.len() as u32, 0]);
+        let mut row = [0; ROW];
+        row[FIRST] = self.positions.len() as u32;
+        self.series.push(row);
     }
 
     fn set_view(&mut self, cell: usize, value: Range<usize>) {
@@ -672,7 +680,7 @@ impl<'d> Reading<'d> {
         self.positions.push(0);
         self.amounts.push(0);
         if let Some(row) = self.series.last_mut() {
-            row[7] += 1;
+            row[COUNT] += 1;
         }
     }
 
@@ -695,7 +703,7 @@ impl<'d> Reading<'d> {
             return Err(3);
         }
         // "Kind 1: .. at the end tag of Period there are N intervals"
-        let intervals = self.series.last().map_or(0, |row| row[7]);
+        let intervals = self.series.last().map_or(0, |row| row[COUNT]);
         if self.kind == 1 && top.row.task == Task::Period && intervals != self.n {
             return Err(8);
         }

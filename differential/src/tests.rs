@@ -1,9 +1,9 @@
 //! The examples of 01 and of the readings of its open points, held against the model alone.
 
 use crate::documents::document;
-use crate::model::{read, read_note, Lengths, Outcome};
+use crate::model::{read, read_note, Lengths, Outcome, ROW};
 
-const ROOM: Lengths = Lengths { series: 512, positions: 2048, amounts: 2048, note: 16 };
+const ROOM: Lengths = Lengths { series: 64 * ROW, positions: 2048, amounts: 2048, note: 16 };
 const ROOT: &str = "<Kostenblatt DtdBDEWNachrichtenVersion=\"1.0\">";
 
 /// A right document of kind 2 in pieces that a test may change; `@` stands where the series are.
@@ -113,11 +113,37 @@ fn tables_and_note() {
     let doc = kind_2();
     let outcome = accepted(&doc);
     let find = |piece: &str| doc.find(piece).unwrap_or(0) as u32;
-    let row = [find("s1\"/"), 2, find("A0000000001"), 11, find("A01 "), 3, 0, 1];
-    assert_eq!(outcome.series[..8], row);
-    assert!(outcome.series[8..].iter().all(|cell| *cell == 0));
+    let row = [find("s1\"/"), 2, find("A0000000001"), 11, find("A01 "), 3, 0, 0, 0, 0, 0, 1];
+    assert_eq!(outcome.series[..ROW], row);
+    assert!(outcome.series[ROW..].iter().all(|cell| *cell == 0));
     assert_eq!((outcome.positions[0], outcome.amounts[0], outcome.answer[5]), (1, -1, 4));
     assert_eq!(read_note(&outcome.note[..outcome.answer[6] as usize]), (0, [0, doc.len() as u32, 2, 1, 1]));
+}
+
+#[test]
+fn direction_and_area() {
+    let product = "<Product v=\"8716867000016\"/>";
+    let area = "<ConnectingArea v=\"10YFLENSBURG---3\" codingScheme=\"A01\"/>";
+    let both = SERIES.replace(product, &["<Direction v=\"  A02 \"/>", product, area].concat());
+    let doc = [ROOT, HEAD, &both, &SERIES.replace("s1", "s2"), "</Kostenblatt>"].concat();
+    let find = |piece: &str| doc.find(piece).unwrap_or(0) as u32;
+    let outcome = accepted(&doc);
+    assert_eq!(outcome.series[6..ROW], [find("A02 "), 3, find("10YFLENSBURG---3"), 16, 0, 1]);
+    assert_eq!(outcome.series[ROW + 6..2 * ROW], [0, 0, 0, 0, 1, 1]);
+    let doc = kind_1("2024-05-10T22:00Z/2024-05-11T22:00Z", 96);
+    let start = doc.find("10YDE-VE-------2").unwrap_or(0) as u32;
+    assert_eq!(accepted(&doc).series[6..ROW], [0, 0, start, 16, 0, 96]);
+}
+
+/// "Room becomes the table length divided by 12."
+#[test]
+fn room_by_twelve() {
+    let doc = [ROOT, HEAD, SERIES, &SERIES.replace("s1", "s2"), "</Kostenblatt>"].concat();
+    let starts: Vec<u32> = doc.match_indices("<CostTimeSeries>").map(|(at, _)| at as u32).collect();
+    for (cells, said) in [(0, (4, starts[0])), (11, (4, starts[0])), (12, (4, starts[1])), (23, (4, starts[1])), (24, (0, doc.len() as u32))] {
+        let answer = read(doc.as_bytes(), &Lengths { series: cells, ..ROOM }).answer;
+        assert_eq!((answer[0], answer[1]), said, "{cells} cells");
+    }
 }
 
 #[test]
@@ -213,14 +239,35 @@ fn ten_and_one() {
     assert_eq!(read(&vec![b' '; 1_048_576], &ROOM).answer, [3, 1_048_576, 0, 0, 0, 0, 7]);
 }
 
-/// Every refusal comes up among the documents, and the same number makes the same document.
+/// Every refusal comes up among the documents, of kind 2 rows with and without Direction and area, spaces on either side of a Direction and after a
+/// series that has one a series that has none, and accepted documents in tables whose length 12 does not divide. The same number makes the same document.
 #[test]
 fn generated() {
     let mut seen = [0; 12];
+    let (mut shapes, mut spaces, mut after, mut odd) = ([0; 4], [0; 2], 0, 0);
     for number in 0..30_000 {
         let made = document(5, number);
-        seen[read(&made.bytes, &made.lengths).answer[0] as usize] += 1;
+        let outcome = read(&made.bytes, &made.lengths);
+        seen[outcome.answer[0] as usize] += 1;
+        if outcome.answer[0] != 0 || outcome.answer[2] != 2 {
+            continue;
+        }
+        odd += usize::from(made.lengths.series % ROW != 0);
+        let mut before = false;
+        for row in outcome.series.chunks_exact(ROW).take(outcome.answer[3] as usize) {
+            let (direction, area) = (row[6] > 0, row[8] > 0);
+            shapes[usize::from(direction) + 2 * usize::from(area)] += 1;
+            if direction {
+                let (start, end) = (row[6] as usize, (row[6] + row[7]) as usize);
+                spaces[0] += usize::from(made.bytes[start - 1] == b' ');
+                spaces[1] += usize::from(made.bytes[end] == b' ');
+            }
+            after += usize::from(before && !direction);
+            before = direction;
+        }
     }
     assert!(seen[..11].iter().all(|many| *many > 0), "{seen:?}");
+    let all = shapes.iter().chain(&spaces).chain([&after, &odd]);
+    assert!(all.clone().all(|many| *many > 100), "{shapes:?} {spaces:?} {after} {odd}");
     assert_eq!(document(5, 77).bytes, document(5, 77).bytes);
 }

@@ -2,9 +2,9 @@
  * The plants of a sheet by price in a quarter hour, cheapest first and like with like. The sheet is invented.
  * usage: plants QUARTER (1 is the first of TimePeriodCovered)
  *
- * A price is ranked beside those of the same BusinessType of a Kostenblatt alone. Direction (up or down) and MeasurementUnit (euros per piece,
- * per megawatt hour or per hour) have to be the same too. They are not in the tables yet, so that this program cannot tell them apart: its own sheet
- * has one Direction and one unit for each BusinessType, and a sheet that mixes them may not be ranked like this.
+ * A price is ranked beside those of the same BusinessType, Direction and area of a Kostenblatt alone; `-` stands for a Direction or an area that a
+ * series does not have. MeasurementUnit (euros per piece, per megawatt hour or per hour) has to be the same too. It is not in the tables yet, so that
+ * this program cannot tell units apart: its own sheet has one unit for each BusinessType, and a sheet that mixes them may not be ranked like this.
  */
 #include <inttypes.h>
 #include <stdio.h>
@@ -13,23 +13,33 @@
 #include "../lumintayag.h"
 
 #define DAY "2031-02-02T23:00Z/2031-02-03T23:00Z"
-#define PLANT(id, business_type, object, unit, prices) \
-    "<CostTimeSeries><TimeSeriesIdentification v=\"" id "\"/><BusinessType v=\"" business_type "\"/><Direction v=\"A01\"/><Product v=\"8716867000016\"/>" \
+#define UP "<Direction v=\"A01\"/>"
+#define DOWN "<Direction v=\"A02\"/>"
+#define AREA(code) "<ConnectingArea v=\"" code "\" codingScheme=\"A01\"/>"
+#define NORTH AREA("10YFLENSBURG---3")
+#define SOUTH AREA("10YDE-ENBW-----N")
+#define PLANT(id, business_type, direction, area, object, unit, prices) \
+    "<CostTimeSeries><TimeSeriesIdentification v=\"" id "\"/><BusinessType v=\"" business_type "\"/>" direction "<Product v=\"8716867000016\"/>" area \
     "<ResourceObject v=\"" object "\" codingScheme=\"NDE\"/><ResourceProvider v=\"9900000000017\" codingScheme=\"NDE\"/><CurveType v=\"A03\"/>" \
     "<MeasurementUnit v=\"" unit "\"/><Period><TimeInterval v=\"" DAY "\"/><Resolution v=\"PT15M\"/>" prices "</Period></CostTimeSeries>"
 #define FROM(pos, price) "<Interval><Pos v=\"" pos "\"/><Qty v=\"" price "\"/></Interval>"
 
-/* Energy of three plants, in euros per megawatt hour, and what a start of two of them costs, in euros per piece. */
+/* Energy of three plants, up and down, in euros per megawatt hour; what a start costs, in euros per piece; and an hour more, in euros, which has no
+ * Direction. */
 static const char sheet[] =
     "<Kostenblatt DtdBDEWNachrichtenVersion=\"1.0\"><DocumentIdentification v=\"KB-7\"/><DocumentVersion v=\"1\"/><DocumentType v=\"Z05\"/>"
     "<ProcessType v=\"A14\"/><SenderIdentification v=\"9900000000017\" codingScheme=\"NDE\"/><SenderRole v=\"A27\"/>"
     "<ReceiverIdentification v=\"9900000000024\" codingScheme=\"NDE\"/><ReceiverRole v=\"A18\"/><DocumentDateTime v=\"2031-02-02T10:15:00Z\"/>"
     "<TimePeriodCovered v=\"" DAY "\"/>"
-    PLANT("Neckar", "A01", "C0000000017", "Z02", FROM("1", "84.5") FROM("29", "61.25") FROM("81", "97"))
-    PLANT("Neckar, start", "Z01", "C0000000017", "Z01", FROM("1", "1250"))
-    PLANT("Isar", "A01", "C0000000025", "Z02", FROM("1", "72"))
-    PLANT("Oste", "A01", "C0000000033", "Z02", FROM("1", "55.125") FROM("41", "-3.75") FROM("57", "120.001"))
-    PLANT("Oste, start", "Z01", "C0000000033", "Z01", FROM("1", "980") FROM("41", "1400.5"))
+    PLANT("Neckar, up", "A01", UP, SOUTH, "C0000000017", "Z02", FROM("1", "84.5") FROM("29", "61.25") FROM("81", "97"))
+    PLANT("Neckar, down", "A01", DOWN, SOUTH, "C0000000017", "Z02", FROM("1", "-40") FROM("41", "12.5"))
+    PLANT("Neckar, start", "Z01", UP, SOUTH, "C0000000017", "Z01", FROM("1", "1250"))
+    PLANT("Neckar, hour", "Z02", "", SOUTH, "C0000000017", "Z03", FROM("1", "310"))
+    PLANT("Isar, up", "A01", UP, SOUTH, "C0000000025", "Z02", FROM("1", "72"))
+    PLANT("Isar, down", "A01", DOWN, SOUTH, "C0000000025", "Z02", FROM("1", "3.25"))
+    PLANT("Isar, start", "Z01", UP, SOUTH, "C0000000025", "Z01", FROM("1", "980") FROM("41", "1400.5"))
+    PLANT("Oste, up", "A01", UP, NORTH, "C0000000033", "Z02", FROM("1", "55.125") FROM("41", "-3.75") FROM("57", "120.001"))
+    PLANT("Oste, hour", "Z02", "", "", "C0000000033", "Z03", FROM("1", "275.5"))
     "</Kostenblatt>";
 
 struct offer { const uint32_t *row; int64_t price; };
@@ -42,9 +52,12 @@ static int by_view(const uint32_t *a, const uint32_t *b, int cell) {
 }
 
 static int by_price(const void *a, const void *b) {
+    static const int like[] = {LUMINTAYAG_BUSINESS_TYPE, LUMINTAYAG_DIRECTION, LUMINTAYAG_AREA};
     const struct offer *x = a, *y = b;
-    int alike = by_view(x->row, y->row, LUMINTAYAG_BUSINESS_TYPE);
-    if (alike != 0) return alike;
+    for (size_t i = 0; i < sizeof like / sizeof *like; i++) {
+        int order = by_view(x->row, y->row, like[i]);
+        if (order != 0) return order;
+    }
     if (x->price != y->price) return x->price < y->price ? -1 : 1;
     return by_view(x->row, y->row, LUMINTAYAG_OBJECT);
 }
@@ -56,11 +69,18 @@ static int64_t amount_at(const uint32_t *row, const uint32_t *positions, const i
     return amounts[k];
 }
 
+/* A value that starts at 0 is absent. */
+static void print_view(const uint32_t *row, int cell) {
+    if (row[cell] == 0) printf("-");
+    else printf("%.*s", (int)row[cell + 1], sheet + row[cell]);
+}
+
 static void print_offer(struct offer o) {
+    static const int shown[] = {LUMINTAYAG_BUSINESS_TYPE, LUMINTAYAG_DIRECTION, LUMINTAYAG_AREA, LUMINTAYAG_OBJECT};
     uint64_t size = (uint64_t)llabs(o.price);
-    printf("%.*s %.*s %s%" PRIu64 ".%03" PRIu64 " (%.*s)\n", (int)o.row[LUMINTAYAG_BUSINESS_TYPE + 1], sheet + o.row[LUMINTAYAG_BUSINESS_TYPE],
-           (int)o.row[LUMINTAYAG_OBJECT + 1], sheet + o.row[LUMINTAYAG_OBJECT], o.price < 0 ? "-" : "", size / 1000, size % 1000,
-           (int)o.row[LUMINTAYAG_IDENTIFICATION + 1], sheet + o.row[LUMINTAYAG_IDENTIFICATION]);
+    for (size_t i = 0; i < sizeof shown / sizeof *shown; i++) print_view(o.row, shown[i]), printf(" ");
+    printf("%s%" PRIu64 ".%03" PRIu64 " (", o.price < 0 ? "-" : "", size / 1000, size % 1000);
+    print_view(o.row, LUMINTAYAG_IDENTIFICATION), printf(")\n");
 }
 
 int main(int argc, char **argv) {
@@ -70,8 +90,8 @@ int main(int argc, char **argv) {
     static struct offer offers[64];
     unsigned long quarter = argc == 2 ? strtoul(argv[1], NULL, 10) : 0;
     const uint8_t *doc = (const uint8_t *)sheet;
-    if (lumintayag_read(doc, sizeof sheet - 1, series, 64 * LUMINTAYAG_SERIES_ROW, positions, 2048, amounts, 2048, note, sizeof note, answer,
-                        LUMINTAYAG_ANSWER_NUMBERS))
+    if (lumintayag_read_v2(doc, sizeof sheet - 1, series, 64 * LUMINTAYAG_SERIES_ROW, positions, 2048, amounts, 2048, note, sizeof note, answer,
+                           LUMINTAYAG_ANSWER_NUMBERS))
         return fprintf(stderr, "refusal %" PRIu32 " at %" PRIu32 "\n", answer[LUMINTAYAG_REFUSAL], answer[LUMINTAYAG_PLACE]), 1;
     if (answer[LUMINTAYAG_KIND] != LUMINTAYAG_KOSTENBLATT)
         return fprintf(stderr, "a document of kind %" PRIu32 " has no prices\n", answer[LUMINTAYAG_KIND]), 1;

@@ -6,7 +6,7 @@ usage: read.py [LIBRARY]     liblumintayag.so where the loader finds it, if not 
 import ctypes
 import sys
 
-VERSION, ROW, NOTE_ROOM, ANSWER_NUMBERS = 100, 8, 16, 7  # lumintayag.h
+VERSION, ROW, NOTE_ROOM, ANSWER_NUMBERS = 200, 12, 16, 7  # lumintayag.h
 REFUSAL, PLACE, SERIES = 0, 1, 3
 
 library = ctypes.CDLL(sys.argv[1] if len(sys.argv) > 1 else "liblumintayag.so")
@@ -14,7 +14,7 @@ if library.lumintayag_version() != VERSION:
     sys.exit(f"the library is of version {library.lumintayag_version()}, and this program is for {VERSION}")
 doc_slice, u32_slice = [ctypes.c_char_p, ctypes.c_size_t], [ctypes.POINTER(ctypes.c_uint32), ctypes.c_size_t]
 i64_slice, u8_slice = [ctypes.POINTER(ctypes.c_int64), ctypes.c_size_t], [ctypes.POINTER(ctypes.c_uint8), ctypes.c_size_t]
-read = library.lumintayag_read
+read = library.lumintayag_read_v2
 read.restype, read.argtypes = ctypes.c_uint32, doc_slice + u32_slice + u32_slice + i64_slice + u8_slice + u32_slice
 
 doc = sys.stdin.buffer.read()

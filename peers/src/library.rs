@@ -1,6 +1,6 @@
 //! The proved library, called as C calls it.
 
-use lumintayag_sys::lumintayag_read;
+use lumintayag_sys::lumintayag_read_v2;
 
 #[derive(Clone, Copy)]
 pub struct Answer {
@@ -9,6 +9,9 @@ pub struct Answer {
     pub kind: u32,
 }
 
+/// Numbers that a series takes.
+const ROW: usize = 12;
+
 /// A series is longer than this, and so is an Interval: with a row for each there is room for all of them. What is lent then
 /// plays no part, and with less room no other document is accepted.
 const SHORTEST_SERIES: usize = 200;
@@ -16,12 +19,12 @@ const SHORTEST_INTERVAL: usize = 40;
 
 pub fn read(doc: &[u8]) -> Answer {
     let rows = doc.len() / SHORTEST_INTERVAL + 1;
-    let mut series = vec![0_u32; 8 * (doc.len() / SHORTEST_SERIES + 1)];
+    let mut series = vec![0_u32; ROW * (doc.len() / SHORTEST_SERIES + 1)];
     let (mut positions, mut amounts) = (vec![0_u32; rows], vec![0_i64; rows]);
     let (mut note, mut answer) = ([0_u8; 16], [0_u32; 7]);
     // Each length is that of the slice its pointer is from.
     unsafe {
-        lumintayag_read(
+        lumintayag_read_v2(
             doc.as_ptr(),
             doc.len(),
             series.as_mut_ptr(),

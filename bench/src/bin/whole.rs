@@ -1,6 +1,6 @@
 //! Reads whole documents by the document reader (validation, tables, note), beside the bare events of expat, quick-xml and libxml2, libxml2's judgement by
 //! the XML Schemas of `peers/`, as a tree and as a stream, and plain scans of the bytes.
-use lumintayag_sys::lumintayag_read;
+use lumintayag_sys::lumintayag_read_v2;
 use side_by_side::{best, document, grouped, peers, print_head, print_row, short, worst, Walk};
 use std::cell::RefCell;
 
@@ -18,14 +18,14 @@ thread_local! {
 }
 
 fn lent(series: usize, intervals: usize) -> Lent {
-    Lent { series: vec![0; 8 * series], positions: vec![0; intervals], amounts: vec![0; intervals], note: [0; 16], answer: [0; 7] }
+    Lent { series: vec![0; ROW * series], positions: vec![0; intervals], amounts: vec![0; intervals], note: [0; 16], answer: [0; 7] }
 }
 
 /// The length for an accepted document, else 0.
 fn reader(doc: &[u8]) -> usize {
     LENT.with_borrow_mut(|t| {
         let refusal = unsafe {
-            lumintayag_read(
+            lumintayag_read_v2(
                 doc.as_ptr(),
                 doc.len(),
                 t.series.as_mut_ptr(),
@@ -43,6 +43,9 @@ fn reader(doc: &[u8]) -> usize {
         if refusal == 0 { doc.len() } else { 0 }
     })
 }
+
+/// Numbers that a series takes.
+const ROW: usize = 12;
 
 /// Room for every document of 1 MiB.
 const MOST: (usize, usize) = (2_558, 23_302);

@@ -113,7 +113,9 @@ not-amount role p h =
     (by-cond P (eqb role 6) (λ z. zero-not-one (cc))
     (by-cond P (eqb role 7) (λ z. zero-not-one (cc))
     (by-cond P (eqb role 8) (λ z. zero-not-one (cc))
-    (by-cond P (eqb role 9) (λ z. zero-not-one (cc)) (λ z. zero-not-one (cc))))))))
+    (by-cond P (eqb role 9) (λ z. zero-not-one (cc))
+    (by-cond P (eqb role 11) (λ z. zero-not-one (cc))
+    (by-cond P (eqb role 12) (λ z. zero-not-one (cc)) (λ z. zero-not-one (cc))))))))))
   where
     P : Entry → Type 0
     P e = e ≡ Amount → ⊥

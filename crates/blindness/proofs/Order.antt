@@ -20,7 +20,7 @@ use Rattle.states.specs.Moves.{step}
 use Rattle.states.specs.declared.State.{State}
 use Rattle.states.specs.declared.Room.{Room}
 use Rattle.states.specs.declared.Entry.{Entry}
-use Rattle.states.specs.declared.Entry.the-variants.{Nothing, Series, Identification, Object, BusinessType, Interval, Position, Amount}
+use Rattle.states.specs.declared.Entry.the-variants.{Nothing, Series, Identification, Object, BusinessType, Direction, Area, Interval, Position, Amount}
 use Rattle.states.specs.declared.Step.{Step}
 use Rattle.states.specs.declared.Step.the-variants.{Next, Refused}
 use Rattle.reader.specs.Items.{Placed, itemsAfter}
@@ -68,6 +68,8 @@ source-kept at v st Series t h = refl
 source-kept at v st Identification t h = refl
 source-kept at v st Object t h = refl
 source-kept at v st BusinessType t h = refl
+source-kept at v st Direction t h = refl
+source-kept at v st Area t h = refl
 source-kept at v st Interval t h = refl
 source-kept at v st (Position p) t h = refl
 source-kept at v st Amount t h = absurd (h refl)

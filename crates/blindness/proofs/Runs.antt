@@ -12,7 +12,7 @@ use Rattle.states.specs.Moves.{step}
 use Rattle.states.specs.declared.State.{State}
 use Rattle.states.specs.declared.Room.{Room}
 use Rattle.states.specs.declared.Entry.{Entry}
-use Rattle.states.specs.declared.Entry.the-variants.{Nothing, Series, Identification, Object, BusinessType, Interval, Position, Amount}
+use Rattle.states.specs.declared.Entry.the-variants.{Nothing, Series, Identification, Object, BusinessType, Direction, Area, Interval, Position, Amount}
 use Rattle.states.specs.declared.Step.{Step}
 use Rattle.states.specs.declared.Step.the-variants.{Next, Refused}
 use Rattle.reader.specs.Items.{Placed}
@@ -128,6 +128,8 @@ amounts-after doc at s q v st Series so = refl
 amounts-after doc at s q v st Identification so = refl
 amounts-after doc at s q v st Object so = refl
 amounts-after doc at s q v st BusinessType so = refl
+amounts-after doc at s q v st Direction so = refl
+amounts-after doc at s q v st Area so = refl
 amounts-after doc at s q v st Interval so = refl
 amounts-after doc at s q v st (Position p) so = refl
 amounts-after doc at s q v st Amount so =

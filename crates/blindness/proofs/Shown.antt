@@ -15,10 +15,10 @@ use Rattle.tags.specs.declared.Span.{Span}
 use Rattle.states.specs.declared.State.{State}
 use Rattle.states.specs.declared.Entry.{Entry}
 use Rattle.states.specs.declared.Entry.the-variants.{Nothing, Series, Interval, Position, Amount}
-use Rattle.states.specs.declared.Entry.the-variants.{Identification as BringsIdentification, Object as BringsObject, BusinessType as BringsBusinessType}
+use Rattle.states.specs.declared.Entry.the-variants.{Identification as BringsIdentification, Object as BringsObject, BusinessType as BringsBusinessType, Direction as BringsDirection, Area as BringsArea}
 use Rattle.series.specs.Row.{cellOf, rowWidth, cellAt, withField, withView, view}
 use Rattle.series.specs.declared.Field.{Field}
-use Rattle.series.specs.declared.Field.the-variants.{Identification, Object, BusinessType, FirstRow, Count}
+use Rattle.series.specs.declared.Field.the-variants.{Identification, Object, BusinessType, Direction, Area, FirstRow, Count}
 use Rattle.series.proofs.Rows.{view-set, view-as, view-shown, view-kept}
 use Rattle.reader.specs.Rows.{broughtBy, quoted, fieldAfter, seriesWith, seriesAfter, used, usedIn, usedWith, usedBefore}
 use Rattle.blindness.proofs.Steps.{Values}
@@ -109,6 +109,9 @@ module _ (x y : List ℕ) where
   shown-after at v s st BringsObject t h p = shown-view t (st .series - 1) Object (at + v .start) (v .len) (omega arith) (omega arith) h
   shown-after at v s st BringsBusinessType t h p =
       shown-view t (st .series - 1) BusinessType (at + v .start + run space (quoted v s)) (length (dropped (quoted v s))) (omega arith) (omega arith) h
+  shown-after at v s st BringsDirection t h p =
+      shown-view t (st .series - 1) Direction (at + v .start + run space (quoted v s)) (length (dropped (quoted v s))) (omega arith) (omega arith) h
+  shown-after at v s st BringsArea t h p = shown-view t (st .series - 1) Area (at + v .start) (v .len) (omega arith) (omega arith) h
   shown-after at v s st Series t h p = shown-field t (st .series - 1) FirstRow (st .first) (omega arith) (omega arith) h
   shown-after at v s st Interval t h p = shown-field t (st .series - 1) Count (st .intervals - st .first) (omega arith) (omega arith) h
   shown-after at v s st (Position q) t h p = h
@@ -129,6 +132,8 @@ module _ (x y : List ℕ) where
     same-used v s s′ t h n BringsIdentification (inr e) = rw e (used-same t h (n - 1) (quoted v s′))
     same-used v s s′ t h n BringsObject q = refl
     same-used v s s′ t h n BringsBusinessType q = refl
+    same-used v s s′ t h n BringsDirection q = refl
+    same-used v s s′ t h n BringsArea q = refl
     same-used v s s′ t h n Interval q = refl
     same-used v s s′ t h n (Position p) q = refl
     same-used v s s′ t h n Amount q = refl
@@ -142,6 +147,9 @@ module _ (x y : List ℕ) where
     same-after at v s s′ st BringsObject t q = refl
     same-after at v s s′ st BringsBusinessType t (inl e) = let z = e .0 in absurd (zero-not-one (cc))
     same-after at v s s′ st BringsBusinessType t (inr e) = rw e
+    same-after at v s s′ st BringsDirection t (inl e) = let z = e .0 in absurd (zero-not-one (cc))
+    same-after at v s s′ st BringsDirection t (inr e) = rw e
+    same-after at v s s′ st BringsArea t q = refl
     same-after at v s s′ st Interval t q = refl
     same-after at v s s′ st (Position p) t q = refl
     same-after at v s s′ st Amount t q = refl

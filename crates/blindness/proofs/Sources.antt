@@ -14,7 +14,7 @@ use Rattle.states.specs.Moves.{begun}
 use Rattle.states.specs.declared.State.{State}
 use Rattle.states.specs.declared.Room.{Room}
 use Rattle.states.specs.declared.Entry.{Entry}
-use Rattle.states.specs.declared.Entry.the-variants.{Nothing, Series, Identification, Object, BusinessType, Interval, Position, Amount}
+use Rattle.states.specs.declared.Entry.the-variants.{Nothing, Series, Identification, Object, BusinessType, Direction, Area, Interval, Position, Amount}
 use Rattle.states.specs.declared.Step.the-variants.{Next, Refused}
 use Rattle.reader.specs.Items.{Placed, itemsFrom}
 use Rattle.reader.specs.Rows.{spanOf, seriesAfter}
@@ -28,6 +28,8 @@ sourcesAfter at v st Series t = t
 sourcesAfter at v st Identification t = t
 sourcesAfter at v st Object t = t
 sourcesAfter at v st BusinessType t = t
+sourcesAfter at v st Direction t = t
+sourcesAfter at v st Area t = t
 sourcesAfter at v st Interval t = t
 sourcesAfter at v st (Position p) t = t
 sourcesAfter at v st Amount t = set t (st .intervals - 1) (record { start = at + v .start; len = v .len })

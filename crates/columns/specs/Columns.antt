@@ -194,3 +194,10 @@ posRole = 9
 
 abbrev pub qtyRole : ℕ
 qtyRole = 10
+
+abbrev pub directionRole : ℕ
+directionRole = 11
+
+-- ConnectingArea, and InArea in kind 1
+abbrev pub areaRole : ℕ
+areaRole = 12

@@ -112,6 +112,10 @@ pub const POS_ROLE: usize = 9;
 
 pub const QTY_ROLE: usize = 10;
 
+pub const DIRECTION_ROLE: usize = 11;
+
+pub const AREA_ROLE: usize = 12;
+
 // The form of the element's `v`. Ruled out: the columns after it left in, and a code list's number without IN_LIST.
 pub fn form_of(w: usize) -> usize
     ensures { λ r. ⌜ r ≡ formOf w ⌝ }

@@ -83,11 +83,13 @@ positions-kept : (r n : ℕ) (st : State) (l : List ℕ) → eqb r 9 ≡ false �
 unfolding positionsAfter positionsWith broughtBy
 positions-kept r n st l k =
     by-entry (λ e. positionsAfter st e l ≡ l) r n refl (λ e. refl) (λ e. refl) (λ e. refl) (λ e. refl) (λ e. refl) (λ e. absurd (eqb-false r 9 k e)) (λ e. refl)
+    (λ e. refl) (λ e. refl)
 
 amounts-kept : (r n : ℕ) (v : Span) (s : List ℕ) (st : State) (l : List ℤ) → eqb r 10 ≡ false → amountsAfter v s st (entryOf r n) l ≡ l
 unfolding amountsAfter amountsWith broughtBy
 amounts-kept r n v s st l k =
     by-entry (λ e. amountsAfter v s st e l ≡ l) r n refl (λ e. refl) (λ e. refl) (λ e. refl) (λ e. refl) (λ e. refl) (λ e. refl) (λ e. absurd (eqb-false r 10 k e))
+    (λ e. refl) (λ e. refl)
 
 module _ (kind : ℕ) (rows : List ℕ) (p : ℕ) (L : Layout rows p) (W : Valued rows) where
   step-puts : (q : ℕ) (x : Placed) (y : Tally) (t : Tables) → eqb (roleOf (getD rows q 0)) 4 ≡ false → eqb (roleOf (getD rows q 0)) 9 ≡ false

@@ -22,7 +22,7 @@ use Rattle.states.specs.Moves.{cutShort, startJudged, entryOf, startedBy, start
 use Rattle.states.specs.declared.State.{State}
 use Rattle.states.specs.declared.Room.{Room}
 use Rattle.states.specs.declared.Entry.{Entry}
-use Rattle.states.specs.declared.Entry.the-variants.{Nothing, Series, Identification, Object, BusinessType, Interval, Position, Amount}
+use Rattle.states.specs.declared.Entry.the-variants.{Nothing, Series, Identification, Object, BusinessType, Direction, Area, Interval, Position, Amount}
 use Rattle.states.specs.declared.Step.{Step}
 use Rattle.states.specs.declared.Step.the-variants.{Next, Refused}
 use Rattle.reader.specs.Items.{Placed}
@@ -80,6 +80,8 @@ tables-inside x kind q a b y Series t = refl
 tables-inside x kind q a b y Identification t = refl
 tables-inside x kind q a b y Object t = refl
 tables-inside x kind q a b y BusinessType t = refl
+tables-inside x kind q a b y Direction t = refl
+tables-inside x kind q a b y Area t = refl
 tables-inside x kind q a b y Interval t = refl
 tables-inside x kind q a b y (Position p) t = refl
 tables-inside x kind q a b y Amount t = refl

@@ -103,7 +103,7 @@ pub series-kept : (r n at : ℕ) (v : Span) (s : List ℕ) (st : State) (l : Lis
 unfolding seriesAfter seriesWith broughtBy
 series-kept r n at v s st l a b c =
     by-entry (λ e. seriesAfter at v s st e l ≡ l) r n refl (λ e. absurd (a e)) (λ e. absurd (b e)) (λ e. absurd (c (omega (arith, e)))) (λ e. absurd (c (omega (arith, e))))
-    (λ e. absurd (c (omega (arith, e)))) (λ e. refl) (λ e. refl)
+    (λ e. absurd (c (omega (arith, e)))) (λ e. refl) (λ e. refl) (λ e. absurd (c (omega (arith, e)))) (λ e. absurd (c (omega (arith, e))))
 
 module _ (kind : ℕ) (rows : List ℕ) (p : ℕ) (L : Layout rows p) (W : Valued rows) (doc : List ℕ) where
   -- the tally and the tables after the start tag of an element, and after what stands in it

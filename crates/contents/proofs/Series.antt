@@ -19,7 +19,7 @@ use Rattle.states.specs.Moves.{entryOf}
 use Rattle.reader.specs.Items.{Placed}
 use Rattle.series.specs.Row.{cellOf, isView, cellsOf, cellAt, fieldAt, withField, withView, view}
 use Rattle.series.specs.declared.Field.{Field}
-use Rattle.series.specs.declared.Field.the-variants.{Identification, Object, BusinessType, FirstRow, Count}
+use Rattle.series.specs.declared.Field.the-variants.{Identification, Object, BusinessType, Direction, Area, FirstRow, Count}
 use Rattle.series.proofs.Rows.{view-set, view-as, view-low, views-apart}
 use Rattle.reader.specs.Rows.{broughtBy, spanOf, quoted, fieldAfter, seriesWith, seriesAfter}
 use Rattle.reader.specs.Reading.{Tables, tablesAfter}
@@ -35,7 +35,7 @@ use Rattle.contents.proofs.Walk.{Tally, opened, walked}
 use Rattle.contents.proofs.Fill.{saidOf, saying, stateOf, tablesWith, filled, Stands}
 use Rattle.contents.proofs.Values.{HasValues}
 use Rattle.contents.proofs.Views.{whole-view, trimmed-view}
-use Rattle.contents.proofs.Roles.{Role, is-series, is-interval, is-object, is-business, is-id, is-pos, is-qty, is-other, role-cases, role-tells, shownRole, not-shown}
+use Rattle.contents.proofs.Roles.{Role, is-series, is-interval, is-object, is-business, is-id, is-pos, is-qty, is-direction, is-area, is-other, role-cases, role-tells, shownRole, not-shown}
 
 -- what an element in row w shows in each view
 abbrev pub valueShown : Field → Said → List ℕ
@@ -185,11 +185,16 @@ module _ (kind : ℕ) (doc : List ℕ) where
   step-effect w q i x y t (is-business e) n v s a l =
       rw (e, last-row a) (view-effect refl refl refl BusinessType refl (x .at + spanOf (x .item) .start + run space (quoted (spanOf (x .item)) (x .rest)))
       (length (dropped (quoted (spanOf (x .item)) (x .rest)))) (saidOf x) (trimmed-view doc x s (v (omega (arith, e))) t i BusinessType (omega (arith, l))))
+  step-effect w q i x y t (is-direction e) n v s a l =
+      rw (e, last-row a) (view-effect refl refl refl Direction refl (x .at + spanOf (x .item) .start + run space (quoted (spanOf (x .item)) (x .rest)))
+      (length (dropped (quoted (spanOf (x .item)) (x .rest)))) (saidOf x) (trimmed-view doc x s (v (omega (arith, e))) t i Direction (omega (arith, l))))
+  step-effect w q i x y t (is-area e) n v s a l =
+      rw (e, last-row a) (view-effect refl refl refl Area refl (x .at + spanOf (x .item) .start) (spanOf (x .item) .len) (saidOf x) (whole-view doc x s (v (omega (arith, e))) t i Area (omega (arith, l))))
   step-effect w q i x y t (is-id e) n v s a l =
       rw (e, last-row a) (view-effect refl refl refl Identification refl (x .at + spanOf (x .item) .start) (spanOf (x .item) .len) (saidOf x) (whole-view doc x s (v (omega (arith, e))) t i Identification (omega (arith, l))))
   step-effect w q i x y t (is-pos e) n v s a l = rw e (kept-effect refl refl refl (unshown 9 refl (saidOf x)))
   step-effect w q i x y t (is-qty e) n v s a l = rw e (kept-effect refl refl refl (unshown 10 refl (saidOf x)))
-  step-effect w q i x y t (is-other b c d e f g h) n v s a l = simp (b, c, d, e, f, g, h) (kept-effect refl refl refl (unshown (roleOf w) (rw (d, e, f)) (saidOf x)))
+  step-effect w q i x y t (is-other b c d e f g h j k) n v s a l = simp (b, c, d, e, f, g, h, j, k) (kept-effect refl refl refl (unshown (roleOf w) (rw (d, e, f, j, k)) (saidOf x)))
 
 -- ---- the elements in a series
 

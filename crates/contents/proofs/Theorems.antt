@@ -35,7 +35,7 @@ use Rattle.contents.specs.Legal.{periodOf, quartersOf, Legal, HasRoom}
 use Rattle.contents.specs.Shown.{sum, eachSeries, intervalCounts, Shows, RowShows, Tells, SameButPlaces}
 use Rattle.series.specs.Row.{isView, cellsOf, rowsIn, fieldAt, view}
 use Rattle.series.specs.declared.Field.{Field}
-use Rattle.series.specs.declared.Field.the-variants.{Identification, Object, BusinessType, FirstRow, Count}
+use Rattle.series.specs.declared.Field.the-variants.{Identification, Object, BusinessType, Direction, Area, FirstRow, Count}
 use Rattle.series.proofs.Rows.{rows-fit}
 use Rattle.contents.proofs.Laid.{Known, laid}
 use Rattle.contents.proofs.Shape.{document-shape}
@@ -266,6 +266,8 @@ module _ (x y : List ℕ) (o u : Outcome) (kind : ℕ) (c : Trees Said) (t : Tel
   counts-same i l Identification e = never (sym e)
   counts-same i l Object e = never (sym e)
   counts-same i l BusinessType e = never (sym e)
+  counts-same i l Direction e = never (sym e)
+  counts-same i l Area e = never (sym e)
   counts-same i l FirstRow e = let r = row i l in r .0 .begins ∙ sym (r .1 .begins)
   counts-same i l Count e = let r = row i l in r .0 .count ∙ sym (r .1 .count)
 

@@ -31,7 +31,7 @@ use Rattle.contents.proofs.Shape.{later, document-shape}
 use Rattle.contents.proofs.Walk.{Tally, nothing, opened, walked}
 use Rattle.contents.proofs.Fill.{saidOf, saying, tablesWith, filled, Unused, Stands}
 use Rattle.contents.proofs.Values.{said-bytes, HasValues}
-use Rattle.contents.proofs.Roles.{Role, is-series, is-interval, is-object, is-business, is-id, is-pos, is-qty, is-other, role-cases, by-entry}
+use Rattle.contents.proofs.Roles.{Role, is-series, is-interval, is-object, is-business, is-id, is-pos, is-qty, is-direction, is-area, is-other, role-cases, by-entry}
 use Rattle.contents.specs.Shown.{lastOf, saidFor}
 use Rattle.contents.proofs.Series.{step-effect, no-series, inside}
 use Rattle.contents.proofs.Rows.{tallyIn, tablesIn, tallyOut, tablesOut, opened-series, opened-before, opened-size, rowed, untouched, once-in, more-series, those-plain, those-after}
@@ -122,7 +122,7 @@ module _ (doc : List ℕ) where
   unfolding usedBefore usedWith broughtBy usedIn
   not-used r n t v s m k =
       by-entry (λ e. usedBefore doc t v s m e ≡ false) r n refl (λ e. refl) (λ e. refl) (λ e. refl) (λ e. refl) (λ e. absurd (eqb-false r 8 k e)) (λ e. refl)
-      (λ e. refl)
+      (λ e. refl) (λ e. refl) (λ e. refl)
 
   abbrev NotUsed : List ℕ → ℕ → List ℕ → Type 0
   NotUsed t i id = used doc t i id ≡ false
@@ -140,7 +140,9 @@ module _ (doc : List ℕ) where
       rw (e, d, said-bytes x (v (omega (arith, e)))) ((λ h. (h, tt)), (λ h. h .0))
   step-used w i x y t (is-pos e) n v a = rw e ((λ h. tt), (λ h. refl))
   step-used w i x y t (is-qty e) n v a = rw e ((λ h. tt), (λ h. refl))
-  step-used w i x y t (is-other b c d e f g k) n v a = simp (b, c, d, e, f, g, k) ((λ h. tt), (λ h. refl))
+  step-used w i x y t (is-direction e) n v a = rw e ((λ h. tt), (λ h. refl))
+  step-used w i x y t (is-area e) n v a = rw e ((λ h. tt), (λ h. refl))
+  step-used w i x y t (is-other b c d e f g k o p) n v a = simp (b, c, d, e, f, g, k, o, p) ((λ h. tt), (λ h. refl))
 
 ids-parts : (rows : List ℕ) (q : ℕ) (x : Placed) (inner after : Trees Placed)
     → identifications rows (saying (element q x inner after))

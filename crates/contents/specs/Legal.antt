@@ -159,7 +159,7 @@ pub record Legal (kind : ℕ) (c : Trees Said) : Type 0 where
   -- "TimeSeriesIdentification used before in this document" is refused
   pub apart : Apart (identifications (rowsOf kind) c)
 
--- "Room for series is the table length divided by 8, rounded down. .. room is the shorter length.": the rows of a content have room
+-- "Room becomes the table length divided by 12.", "room is the shorter length": the rows of a content have room
 pub record HasRoom (room : Room) (kind : ℕ) (c : Trees Said) : Type 0 where
   pub series : length (those (hasRole seriesRole) (rowsOf kind) c) ≤ room .series
   pub intervals : length (those (hasRole intervalRole) (rowsOf kind) c) ≤ room .intervals

@@ -8,10 +8,10 @@ use lib.ListN.{length, getD, take}
 use Rattle.characters.specs.Says.{says}
 use Rattle.trims.specs.Trim.{dropped}
 use Rattle.numbers.specs.Amount.{amountOf}
-use Rattle.columns.specs.Columns.{valueRole, seriesRole, intervalRole, objectRole, businessRole, seriesIdRole, posRole, qtyRole}
+use Rattle.columns.specs.Columns.{valueRole, seriesRole, intervalRole, objectRole, businessRole, seriesIdRole, posRole, qtyRole, directionRole, areaRole}
 use Rattle.series.specs.Row.{isView, fieldAt, NoView, view}
 use Rattle.series.specs.declared.Field.{Field}
-use Rattle.series.specs.declared.Field.the-variants.{Identification, Object, BusinessType, FirstRow, Count}
+use Rattle.series.specs.declared.Field.the-variants.{Identification, Object, BusinessType, Direction, Area, FirstRow, Count}
 use Rattle.reader.specs.Rows.{thousandthsOf}
 use Rattle.guideline.specs.Rows.{rowsOf}
 use Rattle.reader.specs.Reading.{Tables}
@@ -38,14 +38,18 @@ abbrev pub roleShown : Field → ℕ
 roleShown Identification = seriesIdRole
 roleShown Object = objectRole
 roleShown BusinessType = businessRole
+roleShown Direction = directionRole
+roleShown Area = areaRole
 roleShown FirstRow = valueRole
 roleShown Count = valueRole
 
--- what it shows of the value: "of its BusinessType, spaces dropped"
+-- what it shows of the value: "of its BusinessType, spaces dropped", and of "Direction (spaces dropped)"
 abbrev pub partShown : Field → List ℕ → List ℕ
 partShown Identification b = b
 partShown Object b = b
 partShown BusinessType b = dropped b
+partShown Direction b = dropped b
+partShown Area b = b
 partShown FirstRow b = b
 partShown Count b = b
 
@@ -60,8 +64,8 @@ eachSeries rows c = inEach (hasRole seriesRole) rows c
 unfoldable pub intervalCounts : List ℕ → List (Trees Said) → List ℕ
 intervalCounts rows ss = map (λ (s : Trees Said). length (those (hasRole intervalRole) rows s)) ss
 
--- "A series takes eight u32 numbers ..: start and length of its TimeSeriesIdentification; of its object ..; of its BusinessType, spaces dropped; its first
--- interval row; its interval count." Row i shows series s
+-- "start and length of its TimeSeriesIdentification; of its object ..; of its BusinessType, spaces dropped; its first interval row; its interval count", and
+-- "after the BusinessType pair, start and length of Direction (spaces dropped) and of the area .., 0 and 0 where absent". Row i shows series s
 pub record RowShows (doc cells rows : List ℕ) (i : ℕ) (s : Trees Said) (first : ℕ) : Type 0 where
   pub views : (f : Field) → isView f ≡ true → view doc cells i f ≡ lastOf [] (saidFor rows s f)
   pub absent : (f : Field) → isView f ≡ true → saidFor rows s f ≡ [] → NoView cells i f

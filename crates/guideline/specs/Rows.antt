@@ -59,6 +59,8 @@ use Rattle.columns.specs.Columns.{
   seriesIdRole,
   posRole,
   qtyRole,
+  directionRole,
+  areaRole,
 }
 
 -- kind 1
@@ -80,7 +82,7 @@ beschaffungsanforderung =
     row "TimeSeriesIdentification" 12 must once seriesIdForm keep noScheme seriesIdRole ∷
     row "BusinessType" 12 must once (inList + businessTypeOneList) collapse noScheme businessRole ∷
     row "Product" 12 must once (inList + productList) collapse noScheme valueRole ∷
-    row "InArea" 12 must once (inList + areaList) keep (byList + eicSchemeList) valueRole ∷
+    row "InArea" 12 must once (inList + areaList) keep (byList + eicSchemeList) areaRole ∷
     row "OutArea" 12 must once (inList + areaList) keep (byList + eicSchemeList) valueRole ∷
     row "InParty" 12 must once partyForm keep (byList + eicSchemeList) objectRole ∷
     row "OutParty" 12 must once partyForm keep (byList + eicSchemeList) valueRole ∷
@@ -116,9 +118,9 @@ kostenblatt =
     row "CostTimeSeries" 1 must again noForm keep noScheme seriesRole ∷
     row "TimeSeriesIdentification" 12 must once seriesIdForm keep noScheme seriesIdRole ∷
     row "BusinessType" 12 must once (inList + businessTypeTwoList) collapse noScheme businessRole ∷
-    row "Direction" 12 may once (inList + directionList) collapse noScheme valueRole ∷
+    row "Direction" 12 may once (inList + directionList) collapse noScheme directionRole ∷
     row "Product" 12 must once (inList + productList) collapse noScheme valueRole ∷
-    row "ConnectingArea" 12 may once (inList + areaList) keep (byList + eicSchemeList) valueRole ∷
+    row "ConnectingArea" 12 may once (inList + areaList) keep (byList + eicSchemeList) areaRole ∷
     row "ResourceObject" 12 must once objectForm keep (byList + resourceSchemeList) objectRole ∷
     row "ResourceProvider" 12 must once partnerForm keep (byList + partySchemeList) valueRole ∷
     row "CurveType" 12 must once (inList + curveTypeList) collapse noScheme valueRole ∷

@@ -3,6 +3,7 @@
 use columns::AGAIN;
 use columns::AMOUNT_FORM;
 use columns::AREA_LIST;
+use columns::AREA_ROLE;
 use columns::AS;
 use columns::BUSINESS_ROLE;
 use columns::BUSINESS_TYPE_ONE_LIST;
@@ -13,6 +14,7 @@ use columns::COLLAPSED;
 use columns::CURVE_TYPE_LIST;
 use columns::DATE_TIME_FORM;
 use columns::DIRECTION_LIST;
+use columns::DIRECTION_ROLE;
 use columns::DOCUMENT_TYPE_ONE_LIST;
 use columns::DOCUMENT_TYPE_TWO_LIST;
 use columns::EIC_SCHEME_LIST;
@@ -141,7 +143,12 @@ pub const EVERY_ROW: [usize; 66] = [
         + COLLAPSED
         + AS * BUSINESS_ROLE,
     PRODUCT + IN * 12 + NEEDED + V * (IN_LIST + PRODUCT_LIST) + COLLAPSED,
-    IN_AREA + IN * 12 + NEEDED + V * (IN_LIST + AREA_LIST) + BY * (BY_LIST + EIC_SCHEME_LIST),
+    IN_AREA
+        + IN * 12
+        + NEEDED
+        + V * (IN_LIST + AREA_LIST)
+        + BY * (BY_LIST + EIC_SCHEME_LIST)
+        + AS * AREA_ROLE,
     OUT_AREA + IN * 12 + NEEDED + V * (IN_LIST + AREA_LIST) + BY * (BY_LIST + EIC_SCHEME_LIST),
     IN_PARTY
         + IN * 12
@@ -191,9 +198,13 @@ pub const EVERY_ROW: [usize; 66] = [
         + V * (IN_LIST + BUSINESS_TYPE_TWO_LIST)
         + COLLAPSED
         + AS * BUSINESS_ROLE,
-    DIRECTION + IN * 12 + V * (IN_LIST + DIRECTION_LIST) + COLLAPSED,
+    DIRECTION + IN * 12 + V * (IN_LIST + DIRECTION_LIST) + COLLAPSED + AS * DIRECTION_ROLE,
     PRODUCT + IN * 12 + NEEDED + V * (IN_LIST + PRODUCT_LIST) + COLLAPSED,
-    CONNECTING_AREA + IN * 12 + V * (IN_LIST + AREA_LIST) + BY * (BY_LIST + EIC_SCHEME_LIST),
+    CONNECTING_AREA
+        + IN * 12
+        + V * (IN_LIST + AREA_LIST)
+        + BY * (BY_LIST + EIC_SCHEME_LIST)
+        + AS * AREA_ROLE,
     RESOURCE_OBJECT
         + IN * 12
         + NEEDED

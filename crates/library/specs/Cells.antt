@@ -19,7 +19,7 @@ cells n ns = take n (ns ++ zeros n)
 unfoldable pub sevenOf : Answer → List ℕ
 sevenOf a = a .refusal ∷ a .place ∷ a .kind ∷ a .series ∷ a .intervals ∷ a .quarters ∷ a .note ∷ []
 
--- what `lumintayag_read` answers and leaves: the refusal, the tables and the note of this outcome, and its seven numbers in k cells
+-- what `lumintayag_read_v2` answers and leaves: the refusal, the tables and the note of this outcome, and its seven numbers in k cells
 pub record PermittedCall (o : Outcome) (k refusal : ℕ) (series positions : List ℕ) (amounts : List ℤ) (note answer : List ℕ) : Type 0 where
   pub refuses : refusal ≡ o .answer .refusal
   pub leaves : Permitted o (o .answer) series positions amounts note

@@ -15,7 +15,7 @@ ghost use Rattle.library.specs.Cells.{cells, sevenOf, PermittedCall, Per
 ghost use Rattle.library.specs.Version.{version};
 
 // A function whose arguments, cells or rows are laid out anew gets a new name, so that no program is linked with a layout it does not know.
-const VERSION: u32 = 100;
+const VERSION: u32 = 200;
 
 // The version of the exported functions, by which a program tells whether it was compiled with the header of this archive.
 #[no_mangle]
@@ -58,7 +58,7 @@ fn put_answer(t: &mut [u32], a: Answer)
 // Ruled out: a number of the answer in another one's cell; 0 for a refused document, or a refusal for an accepted one; a cell past the
 // seventh left as it was; tables or a note that are not the document reader's.
 #[no_mangle]
-pub extern "C" fn lumintayag_read(
+pub extern "C" fn lumintayag_read_v2(
     doc: &[u8],
     series: &mut [u32],
     positions: &mut [u32],

@@ -15,11 +15,11 @@ use Rattle.states.specs.declared.State.{State}
 use Rattle.states.specs.declared.Room.{Room}
 use Rattle.states.specs.declared.Entry.{Entry}
 use Rattle.states.specs.declared.Entry.the-variants.{Nothing, Series, Interval, Position, Amount}
-use Rattle.states.specs.declared.Entry.the-variants.{Identification as BringsIdentification, Object as BringsObject, BusinessType as BringsBusinessType}
+use Rattle.states.specs.declared.Entry.the-variants.{Identification as BringsIdentification, Object as BringsObject, BusinessType as BringsBusinessType, Direction as BringsDirection, Area as BringsArea}
 use Rattle.reader.specs.Items.{Placed}
 use Rattle.series.specs.Row.{cellOf, rowWidth, cellsOf, cellAt, withField, withView}
 use Rattle.series.specs.declared.Field.{Field}
-use Rattle.series.specs.declared.Field.the-variants.{Identification, Object, BusinessType, FirstRow, Count}
+use Rattle.series.specs.declared.Field.the-variants.{Identification, Object, BusinessType, Direction, Area, FirstRow, Count}
 use Rattle.series.proofs.Rows.{view-set}
 use Rattle.reader.specs.Rows.{broughtBy, spanOf, quoted, fieldAfter, seriesWith, positionsWith, amountsWith, seriesAfter, positionsAfter, amountsAfter}
 use Rattle.reader.specs.Reading.{Tables, blank, tablesAfter}
@@ -66,6 +66,8 @@ module _ (at : ℕ) (v : Span) (s : List ℕ) (y : State) where
   row-size Identification t = view-set t _ Identification _ _ .size
   row-size Object t = view-set t _ Object _ _ .size
   row-size BusinessType t = view-set t _ BusinessType _ _ .size
+  row-size Direction t = view-set t _ Direction _ _ .size
+  row-size Area t = view-set t _ Area _ _ .size
   row-size FirstRow t = simp length-set
   row-size Count t = simp length-set
 
@@ -76,6 +78,8 @@ module _ (at : ℕ) (v : Span) (s : List ℕ) (y : State) where
   series-size BringsIdentification t = row-size Identification t
   series-size BringsObject t = row-size Object t
   series-size BringsBusinessType t = row-size BusinessType t
+  series-size BringsDirection t = row-size Direction t
+  series-size BringsArea t = row-size Area t
   series-size Interval t = row-size Count t
   series-size (Position q) t = refl
   series-size Amount t = refl
@@ -87,6 +91,8 @@ module _ (at : ℕ) (v : Span) (s : List ℕ) (y : State) where
   positions-size BringsIdentification t = refl
   positions-size BringsObject t = refl
   positions-size BringsBusinessType t = refl
+  positions-size BringsDirection t = refl
+  positions-size BringsArea t = refl
   positions-size Interval t = refl
   positions-size (Position q) t = simp length-set
   positions-size Amount t = refl
@@ -98,6 +104,8 @@ module _ (at : ℕ) (v : Span) (s : List ℕ) (y : State) where
   amounts-size BringsIdentification t = refl
   amounts-size BringsObject t = refl
   amounts-size BringsBusinessType t = refl
+  amounts-size BringsDirection t = refl
+  amounts-size BringsArea t = refl
   amounts-size Interval t = refl
   amounts-size (Position q) t = refl
   amounts-size Amount t = simp length-set
@@ -108,6 +116,9 @@ module _ (at : ℕ) (v : Span) (s : List ℕ) (y : State) where
   row-past Object t h p = view-past (y .series) Object (at + v .start) (v .len) t h (omega arith) p
   row-past BusinessType t h p =
       view-past (y .series) BusinessType (at + v .start + run space (quoted v s)) (length (dropped (quoted v s))) t h (omega arith) p
+  row-past Direction t h p =
+      view-past (y .series) Direction (at + v .start + run space (quoted v s)) (length (dropped (quoted v s))) t h (omega arith) p
+  row-past Area t h p = view-past (y .series) Area (at + v .start) (v .len) t h (omega arith) p
   row-past FirstRow t h p = field-past (y .series) FirstRow (y .first) t h (omega arith) p
   row-past Count t h p = field-past (y .series) Count (y .intervals - y .first) t h (omega arith) p
 
@@ -118,6 +129,8 @@ module _ (at : ℕ) (v : Span) (s : List ℕ) (y : State) where
   series-past BringsIdentification t f p = row-past Identification t f p
   series-past BringsObject t f p = row-past Object t f p
   series-past BringsBusinessType t f p = row-past BusinessType t f p
+  series-past BringsDirection t f p = row-past Direction t f p
+  series-past BringsArea t f p = row-past Area t f p
   series-past Interval t f p = row-past Count t f p
   series-past (Position q) t f p = p
   series-past Amount t f p = p
@@ -129,6 +142,8 @@ module _ (at : ℕ) (v : Span) (s : List ℕ) (y : State) where
   positions-past BringsIdentification t f p = p
   positions-past BringsObject t f p = p
   positions-past BringsBusinessType t f p = p
+  positions-past BringsDirection t f p = p
+  positions-past BringsArea t f p = p
   positions-past Interval t f p = p
   positions-past (Position q) t f p = store 0 (y .intervals) t (y .intervals - 1) q (omega arith) p
   positions-past Amount t f p = p
@@ -140,6 +155,8 @@ module _ (at : ℕ) (v : Span) (s : List ℕ) (y : State) where
   amounts-past BringsIdentification t f p = p
   amounts-past BringsObject t f p = p
   amounts-past BringsBusinessType t f p = p
+  amounts-past BringsDirection t f p = p
+  amounts-past BringsArea t f p = p
   amounts-past Interval t f p = p
   amounts-past (Position q) t f p = p
   amounts-past Amount t f p = store (pos 0) (y .intervals) t (y .intervals - 1) _ (omega arith) p

@@ -52,7 +52,7 @@ use Rattle.contents.specs.Legal.{Legal, HasRoom}
 use Rattle.contents.proofs.Theorems.{accepted-legal}
 use Rattle.promises.proofs.Answers.{accepted-whole}
 
-computed : (allPass examples ≡ true) × (readOf sheet 17 4 4 16 ≡ sheetOutcome)
+computed : (allPass examples ≡ true) × (readOf sheet 25 4 4 16 ≡ sheetOutcome)
 unfolding byte run same begins walk seqLen control single charAt saidBy saidAt saysAfter says nameStart nameByte white quote fit valueNext valueOver
     value openingFrom opening attributeEnd attributeQuote attributeName attribute pieceAfter piece partOf absent noneKnown anotherKnown
     notedKnown onto endsAfter ends keep named twice endClose endName endTag tagOf tagItem startTag item markLen beginAfter begin capital
@@ -76,18 +76,18 @@ computed = (refl, refl)
 pub examples-pass : allPass examples ≡ true
 examples-pass = computed .0
 
-pub sheet-read : readOf sheet 17 4 4 16 ≡ sheetOutcome
+pub sheet-read : readOf sheet 25 4 4 16 ≡ sheetOutcome
 sheet-read = computed .1
 
-sheet-accepted : readOf sheet 17 4 4 16 .answer .refusal ≡ 0
+sheet-accepted : readOf sheet 25 4 4 16 .answer .refusal ≡ 0
 sheet-accepted = ap (λ (o : Outcome). o .answer .refusal) sheet-read
 
 sheet-short : length sheet ≤ 1048576
 sheet-short =
-    let p : readOf sheet 17 4 4 16 .answer .place ≡ 1308 = ap (λ (o : Outcome). o .answer .place) sheet-read in
-    let l = accepted-whole sheet 17 4 4 16 sheet-accepted in
+    let p : readOf sheet 25 4 4 16 .answer .place ≡ 1387 = ap (λ (o : Outcome). o .answer .place) sheet-read in
+    let l = accepted-whole sheet 25 4 4 16 sheet-accepted in
     omega (arith, p, l)
 
 -- it spells a legal content
-pub sheet-content : (kind : ℕ) × (c : Trees Said) × Spells sheet kind c × Legal kind c × HasRoom (roomOf 17 4 4) kind c
-sheet-content = accepted-legal sheet 17 4 4 16 (omega arith) sheet-short sheet-accepted
+pub sheet-content : (kind : ℕ) × (c : Trees Said) × Spells sheet kind c × Legal kind c × HasRoom (roomOf 25 4 4) kind c
+sheet-content = accepted-legal sheet 25 4 4 16 (omega arith) sheet-short sheet-accepted

@@ -1,4 +1,4 @@
--- Demand 3 of two runs of what C, Rust and the program call: `lumintayag_read` and `put_reply`. Assumes nothing.
+-- Demand 3 of two runs of what C, Rust and the program call: `lumintayag_read_v2` and `put_reply`. Assumes nothing.
 use Prim.Native.Nat.{ℕ}
 use mathlib.Core.Path.{_≡_, sym, ap, _∙_}
 use mathlib.Core.List.{List}

@@ -17,7 +17,7 @@ use Rattle.structure.specs.Rows.{nameOf, parentOf, startOf, endOf}
 use Rattle.structure.specs.Means.{NextIn}
 use Rattle.structure.specs.declared.Due.the-variants.{Row, NotDue}
 use Rattle.structure.proofs.Means.{start-means, end-means}
-use Rattle.columns.specs.Columns.{roleOf, seriesRole, intervalRole, objectRole, businessRole, seriesIdRole, posRole, qtyRole}
+use Rattle.columns.specs.Columns.{roleOf, seriesRole, intervalRole, objectRole, businessRole, seriesIdRole, posRole, qtyRole, directionRole, areaRole}
 use Rattle.guideline.specs.Kinds.{isKind, seriesElement}
 use Rattle.guideline.specs.Rows.{beschaffungsanforderung, kostenblatt, rowsOf}
 use Rattle.guideline.proofs.Each.{of-kind, rowWith}
@@ -190,7 +190,10 @@ abbrev pub forSeries : ℕ → Bool
 forSeries role =
     cond (eqb role seriesRole) true
     (cond (eqb role intervalRole) true
-    (cond (eqb role objectRole) true (cond (eqb role businessRole) true (eqb role seriesIdRole))))
+    (cond (eqb role objectRole) true
+    (cond (eqb role businessRole) true
+    (cond (eqb role seriesIdRole) true
+    (cond (eqb role directionRole) true (eqb role areaRole))))))
 
 abbrev pub forInterval : ℕ → Bool
 forInterval role = cond (eqb role posRole) true (eqb role qtyRole)

@@ -45,7 +45,7 @@ the-examples = examples-pass
 
 -- "These fakes have to be rejected: a reader that refuses everything or gives one answer for all .., one that does nothing .., one that fills only the
 -- first series and pretends after it .., one that invents counts": a document that is accepted, with two series
-pub a-sheet : readOf sheet 17 4 4 16 ≡ sheetOutcome
+pub a-sheet : readOf sheet 25 4 4 16 ≡ sheetOutcome
 a-sheet = sheet-read
 
 module _ (doc : List ℕ) (ns np na nb : ℕ) where
@@ -58,7 +58,7 @@ module _ (doc : List ℕ) (ns np na nb : ℕ) where
       → (a ≡ a′) × (s ≡ s′) × (p ≡ p′) × (m ≡ m′) × (n ≡ n′)
   one-outcome = read-one doc ns np na nb
 
-  -- the same of `lumintayag_read`, with k cells for the answer's numbers
+  -- the same of `lumintayag_read_v2`, with k cells for the answer's numbers
   pub one-call : (k : ℕ) {r r′ : ℕ} {s s′ p p′ : List ℕ} {m m′ : List ℤ} {n n′ a a′ : List ℕ} → PermittedCall outcome k r s p m n a → PermittedCall outcome k r′ s′ p′ m′ n′ a′
       → (r ≡ r′) × (s ≡ s′) × (p ≡ p′) × (m ≡ m′) × (n ≡ n′) × (a ≡ a′)
   one-call k = lumintayag-read-one doc ns np na nb k
@@ -124,7 +124,7 @@ module _ (doc : List ℕ) (ns np na nb : ℕ) where
   accepted-exactly wide small = (accepted-legal doc ns np na nb wide small, legal-accepted doc ns np na nb wide small)
 
 -- and there is one: the content of the sheet above
-pub a-content : (kind : ℕ) × (c : Trees Said) × Spells sheet kind c × Legal kind c × HasRoom (roomOf 17 4 4) kind c
+pub a-content : (kind : ℕ) × (c : Trees Said) × Spells sheet kind c × Legal kind c × HasRoom (roomOf 25 4 4) kind c
 a-content = sheet-content
 
 -- a document spells one legal content at most, so that its content is unambiguous
@@ -144,7 +144,7 @@ pub amounts-alone : (x y : List ℕ) (ns np na nb : ℕ) → DifferInQty x y →
     → (a ≡ a′) × (n ≡ n′) × (s ≡ s′) × (p ≡ p′) × ((k : ℕ) → (getD m k (pos 0) ≡ getD m′ k (pos 0)) ⊎ OwnDigitsDiffer ns np na nb x y k)
 amounts-alone = two-runs
 
--- the same of `lumintayag_read`
+-- the same of `lumintayag_read_v2`
 pub amounts-alone-called : (x y : List ℕ) → DifferInQty x y → (ns np na nb k : ℕ) {r r′ : ℕ} {s s′ p p′ : List ℕ} {m m′ : List ℤ} {n n′ a a′ : List ℕ}
     → PermittedCall (readOf x ns np na nb) k r s p m n a → PermittedCall (readOf y ns np na nb) k r′ s′ p′ m′ n′ a′
     → (r ≡ r′) × (a ≡ a′) × (n ≡ n′) × (s ≡ s′) × (p ≡ p′) × ((j : ℕ) → (getD m j (pos 0) ≡ getD m′ j (pos 0)) ⊎ OwnDigitsDiffer ns np na nb x y j)

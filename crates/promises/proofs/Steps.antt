@@ -14,7 +14,7 @@ use Rattle.elements.specs.Names.{elementNo}
 use Rattle.structure.specs.Rows.{startOf, endOf}
 use Rattle.structure.specs.declared.Due.{Due}
 use Rattle.structure.specs.declared.Due.the-variants.{Row, NotDue}
-use Rattle.columns.specs.Columns.{formOf, roleOf, seriesRole, intervalRole, objectRole, businessRole, seriesIdRole, posRole, qtyRole}
+use Rattle.columns.specs.Columns.{formOf, roleOf, seriesRole, intervalRole, objectRole, businessRole, seriesIdRole, posRole, qtyRole, directionRole, areaRole}
 use Rattle.guideline.specs.Kinds.{kindOne, kindTwo, isKind, kindOf}
 use Rattle.guideline.specs.Rows.{rowsOf}
 use Rattle.guideline.proofs.Each.{kind-some, rowWith}
@@ -27,7 +27,7 @@ use Rattle.states.specs.Moves.{oneMore, begun, placed, oneSeries, oneInterval, 
 use Rattle.states.specs.declared.State.{State}
 use Rattle.states.specs.declared.Room.{Room}
 use Rattle.states.specs.declared.Entry.{Entry}
-use Rattle.states.specs.declared.Entry.the-variants.{Nothing, Series, Identification, Object, BusinessType, Interval, Position, Amount}
+use Rattle.states.specs.declared.Entry.the-variants.{Nothing, Series, Identification, Object, BusinessType, Direction, Area, Interval, Position, Amount}
 use Rattle.states.specs.declared.Step.{Step}
 use Rattle.states.specs.declared.Step.the-variants.{Next, Refused}
 use Rattle.states.proofs.Judgements.{judged-passed, series-room, interval-room}
@@ -52,6 +52,8 @@ Fits y Series = 1 ≤ y .series
 Fits y Identification = 1 ≤ y .series
 Fits y Object = 1 ≤ y .series
 Fits y BusinessType = 1 ≤ y .series
+Fits y Direction = 1 ≤ y .series
+Fits y Area = 1 ≤ y .series
 Fits y Interval = 1 ≤ y .series
 Fits y (Position p) = 1 ≤ y .intervals
 Fits y Amount = 1 ≤ y .intervals
@@ -163,7 +165,9 @@ entry-fits y role p f g =
     (by-eqb (Fits y) role businessRole (λ e. f (rw e refl))
     (by-eqb (Fits y) role seriesIdRole (λ e. f (rw e refl))
     (by-eqb (Fits y) role posRole (λ e. g (rw e refl))
-    (by-eqb (Fits y) role qtyRole (λ e. g (rw e refl)) tt))))))
+    (by-eqb (Fits y) role qtyRole (λ e. g (rw e refl))
+    (by-eqb (Fits y) role directionRole (λ e. f (rw e refl))
+    (by-eqb (Fits y) role areaRole (λ e. f (rw e refl)) tt))))))))
 
 -- what is known of a state before an item that tells the kind
 pub record Before (x : State) (kind : ℕ) : Type 0 where

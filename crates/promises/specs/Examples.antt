@@ -16,6 +16,7 @@ use Rattle.columns.specs.Columns.{dateTimeForm}
 use Rattle.rules.specs.Rules.{formRefusal, judgePeriod}
 use Rattle.rules.specs.declared.Judged.{Judged}
 use Rattle.states.specs.Moves.{countRefusal}
+use Rattle.series.specs.Row.{cellsOf}
 use Rattle.reader.specs.Answer.{Outcome, readOf}
 
 pub data Example : Type 0 where
@@ -90,7 +91,7 @@ hasPeriod j refusal n = eqb (j .number) refusal && eqb (quarterHours (j .first) 
 
 -- Documents are read with room for 64 series and 2,048 intervals, and a note buffer of 16 bytes.
 abbrev pub passes : Example → Bool
-passes (document doc refusal place note) = hasOutcome (readOf doc 512 2048 2048 16) refusal place note
+passes (document doc refusal place note) = hasOutcome (readOf doc (cellsOf 64) 2048 2048 16) refusal place note
 passes (amount cs z) = isAmount (amountOf cs) z
 passes (noAmount cs) = isNone (amountOf cs)
 passes (moment cs refusal) = eqb (formRefusal dateTimeForm cs) refusal

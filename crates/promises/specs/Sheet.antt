@@ -12,7 +12,8 @@ sheet =
     text "<SenderIdentification v=\"9900000000001\" codingScheme=\"A10\"/><SenderRole v=\"A18\"/>" ++
     text "<ReceiverIdentification v=\"9900000000002\" codingScheme=\"A10\"/><ReceiverRole v=\"A39\"/>" ++
     text "<DocumentDateTime v=\"2024-01-01T00:00:00Z\"/><TimePeriodCovered v=\"2024-01-01T00:00Z/2024-01-01T00:30Z\"/>" ++
-    text "<CostTimeSeries><TimeSeriesIdentification v=\"S1\"/><BusinessType v=\" A01 \"/><Product v=\"8716867000016\"/>" ++
+    text "<CostTimeSeries><TimeSeriesIdentification v=\"S1\"/><BusinessType v=\" A01 \"/><Direction v=\" A02 \"/><Product v=\"8716867000016\"/>" ++
+    text "<ConnectingArea v=\"10YDE-EON------1\" codingScheme=\"A01\"/>" ++
     text "<ResourceObject v=\"A1234567890\" codingScheme=\"NDE\"/><ResourceProvider v=\"9900000000003\" codingScheme=\"A10\"/>" ++
     text "<CurveType v=\"A03\"/><MeasurementUnit v=\"Z01\"/>" ++
     text "<Period><TimeInterval v=\"2024-01-01T00:00Z/2024-01-01T00:30Z\"/><Resolution v=\"PT15M\"/>" ++
@@ -24,20 +25,21 @@ sheet =
     text "<Interval><Pos v=\"1\"/><Qty v=\"-0.001\"/></Interval><Interval><Pos v=\"2\"/><Qty v=\"20\"/></Interval></Period></CostTimeSeries>" ++
     text "</Kostenblatt>"
 
--- In tables of 17, 4 and 4 cells and a note buffer of 16 bytes. Each row of the series table: start and length of TimeSeriesIdentification, of
--- ResourceObject and of BusinessType, which is ` A01 ` in the first; the first interval row; the interval count.
+-- In tables of 25, 4 and 4 cells and a note buffer of 16 bytes. Each row of the series table: start and length of TimeSeriesIdentification, of
+-- ResourceObject, of BusinessType, which is ` A01 ` in the first, of Direction, which is ` A02 `, and of ConnectingArea, both of which the second has not;
+-- the first interval row; the interval count.
 abbrev pub sheetOutcome : Outcome
 sheetOutcome =
     record {
-      answer = record { refusal = 0; place = 1308; kind = 2; series = 2; intervals = 3; quarters = 2; note = 6 };
+      answer = record { refusal = 0; place = 1387; kind = 2; series = 2; intervals = 3; quarters = 2; note = 6 };
       tables =
           record {
             series =
-                460 ∷ 2 ∷ 537 ∷ 11 ∷ 483 ∷ 3 ∷ 0 ∷ 1 ∷
-                876 ∷ 2 ∷ 951 ∷ 11 ∷ 898 ∷ 3 ∷ 1 ∷ 2 ∷
+                460 ∷ 2 ∷ 616 ∷ 11 ∷ 483 ∷ 3 ∷ 505 ∷ 3 ∷ 559 ∷ 16 ∷ 0 ∷ 1 ∷
+                955 ∷ 2 ∷ 1030 ∷ 11 ∷ 977 ∷ 3 ∷ 0 ∷ 0 ∷ 0 ∷ 0 ∷ 1 ∷ 2 ∷
                 0 ∷ [];
             positions = 1 ∷ 1 ∷ 2 ∷ 0 ∷ [];
             amounts = pos 1500 ∷ negsuc 0 ∷ pos 20000 ∷ pos 0 ∷ [];
           };
-      note = 0x00 ∷ 0x9C ∷ 0x0A ∷ 0x02 ∷ 0x02 ∷ 0x03 ∷ 0 ∷ 0 ∷ 0 ∷ 0 ∷ 0 ∷ 0 ∷ 0 ∷ 0 ∷ 0 ∷ 0 ∷ [];
+      note = 0x00 ∷ 0xEB ∷ 0x0A ∷ 0x02 ∷ 0x02 ∷ 0x03 ∷ 0 ∷ 0 ∷ 0 ∷ 0 ∷ 0 ∷ 0 ∷ 0 ∷ 0 ∷ 0 ∷ 0 ∷ [];
     }

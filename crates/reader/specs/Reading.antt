@@ -40,7 +40,7 @@ blank ns np na = record { series = zeros ns; positions = zeros np; amounts = noA
 abbrev pub blankAs : Tables → Tables
 blankAs t = blank (length (t .series)) (length (t .positions)) (length (t .amounts))
 
--- "Room for series is the table length divided by 8, rounded down. Intervals take one position and one amount at the same index; room is the shorter length."
+-- "Room becomes the table length divided by 12."; "Intervals take one position and one amount at the same index; room is the shorter length."
 unfoldable pub roomOf : ℕ → ℕ → ℕ → Room
 roomOf ns np na = cond (leb np na) (record { series = rowsIn ns; intervals = np }) (record { series = rowsIn ns; intervals = na })
 

@@ -18,11 +18,11 @@ use Rattle.numbers.specs.declared.Amount.the-variants.{Thousandths, NotAmount}
 use Rattle.numbers.specs.declared.Amount.{Amount as Read}
 use Rattle.series.specs.Row.{withField, withView, view}
 use Rattle.series.specs.declared.Field.{Field}
-use Rattle.series.specs.declared.Field.the-variants.{Identification, Object, BusinessType, FirstRow, Count}
+use Rattle.series.specs.declared.Field.the-variants.{Identification, Object, BusinessType, Direction, Area, FirstRow, Count}
 use Rattle.states.specs.declared.State.{State}
 use Rattle.states.specs.declared.Entry.{Entry}
 use Rattle.states.specs.declared.Entry.the-variants.{Nothing, Series, Interval, Position, Amount}
-use Rattle.states.specs.declared.Entry.the-variants.{Identification as BringsIdentification, Object as BringsObject, BusinessType as BringsBusinessType}
+use Rattle.states.specs.declared.Entry.the-variants.{Identification as BringsIdentification, Object as BringsObject, BusinessType as BringsBusinessType, Direction as BringsDirection, Area as BringsArea}
 use Rattle.reader.specs.declared.rows.Brought.{Brought}
 use Rattle.reader.specs.declared.rows.Brought.the-variants.{NoCell, InRow, AtPosition, AtAmount}
 
@@ -45,6 +45,9 @@ fieldAfter at v s st Identification t = withView t (st .series - 1) Identificati
 fieldAfter at v s st Object t = withView t (st .series - 1) Object (at + v .start) (v .len)
 fieldAfter at v s st BusinessType t =
     withView t (st .series - 1) BusinessType (at + v .start + run space (quoted v s)) (length (dropped (quoted v s)))
+fieldAfter at v s st Direction t =
+    withView t (st .series - 1) Direction (at + v .start + run space (quoted v s)) (length (dropped (quoted v s)))
+fieldAfter at v s st Area t = withView t (st .series - 1) Area (at + v .start) (v .len)
 fieldAfter at v s st FirstRow t = withField t (st .series - 1) FirstRow (st .first)
 fieldAfter at v s st Count t = withField t (st .series - 1) Count (st .intervals - st .first)
 
@@ -55,6 +58,8 @@ broughtBy Series = InRow FirstRow
 broughtBy BringsIdentification = InRow Identification
 broughtBy BringsObject = InRow Object
 broughtBy BringsBusinessType = InRow BusinessType
+broughtBy BringsDirection = InRow Direction
+broughtBy BringsArea = InRow Area
 broughtBy Interval = InRow Count
 broughtBy (Position p) = AtPosition p
 broughtBy Amount = AtAmount
@@ -101,6 +106,8 @@ unfoldable pub usedIn : List ℕ → List ℕ → Span → List ℕ → ℕ → 
 usedIn doc t v s series Identification = used doc t (series - 1) (quoted v s)
 usedIn doc t v s series Object = false
 usedIn doc t v s series BusinessType = false
+usedIn doc t v s series Direction = false
+usedIn doc t v s series Area = false
 usedIn doc t v s series FirstRow = false
 usedIn doc t v s series Count = false
 

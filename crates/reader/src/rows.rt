@@ -48,6 +48,8 @@ fn brought_by(entry: Entry) -> Brought
         Entry::Identification => Brought::InRow(Field::Identification),
         Entry::Object => Brought::InRow(Field::Object),
         Entry::BusinessType => Brought::InRow(Field::BusinessType),
+        Entry::Direction => Brought::InRow(Field::Direction),
+        Entry::Area => Brought::InRow(Field::Area),
         Entry::Interval => Brought::InRow(Field::Count),
         Entry::Position(p) => Brought::AtPosition(p),
         Entry::Amount => Brought::AtAmount,
@@ -110,6 +112,12 @@ fn enter_field(t: &mut [u32], at: usize, v: Span, s: &[u8], st: State, f: Field)
         }
         Field::BusinessType => {
             set_trimmed(t, row, Field::BusinessType, from, quoted_of(v, s));
+        }
+        Field::Direction => {
+            set_trimmed(t, row, Field::Direction, from, quoted_of(v, s));
+        }
+        Field::Area => {
+            set_view(t, row, Field::Area, from as u32, v.len as u32);
         }
         Field::FirstRow => {
             set_field(t, row, Field::FirstRow, st.first);
@@ -200,6 +208,8 @@ fn is_used_in(doc: &[u8], t: &[u32], v: Span, s: &[u8], series: u32, f: Field) -
         Field::Identification => is_used(doc, t, last_of(series), quoted_of(v, s)),
         Field::Object => false,
         Field::BusinessType => false,
+        Field::Direction => false,
+        Field::Area => false,
         Field::FirstRow => false,
         Field::Count => false,
     }

@@ -12,7 +12,7 @@ use lib.Seq.{getD-set-same, getD-set-other}
 use Rattle.lists.proofs.Cases.{eqb-cases, ltb-cases, never}
 use Rattle.attributes.specs.Attribute.{partOf}
 use Rattle.series.specs.declared.Field.{Field}
-use Rattle.series.specs.declared.Field.the-variants.{Identification, Object, BusinessType, FirstRow, Count}
+use Rattle.series.specs.declared.Field.the-variants.{Identification, Object, BusinessType, Direction, Area, FirstRow, Count}
 use Rattle.series.specs.Row.{cellOf, isView, rowWidth, cellsOf, rowsIn, cellAt, withView, view}
 
 -- u is t with a view of a and n in field f of row i, and every other cell kept
@@ -65,6 +65,8 @@ pub view-low : (f : Field) → isView f ≡ true → cellOf f + 1 < cellOf First
 view-low Identification e = omega arith
 view-low Object e = omega arith
 view-low BusinessType e = omega arith
+view-low Direction e = omega arith
+view-low Area e = omega arith
 view-low FirstRow e = never e
 view-low Count e = never e
 
@@ -72,17 +74,22 @@ even : (f : Field) → isView f ≡ true → (k : ℕ) × (cellOf f ≡ 2 * k)
 even Identification e = (0, refl)
 even Object e = (1, refl)
 even BusinessType e = (2, refl)
+even Direction e = (3, refl)
+even Area e = (4, refl)
 even FirstRow e = never e
 even Count e = never e
 
 -- the field that begins at a cell
 abbrev fieldFrom : ℕ → Field
-fieldFrom n = cond (eqb n 0) Identification (cond (eqb n 2) Object (cond (eqb n 4) BusinessType (cond (eqb n 6) FirstRow Count)))
+fieldFrom n =
+    cond (eqb n 0) Identification (cond (eqb n 2) Object (cond (eqb n 4) BusinessType (cond (eqb n 6) Direction (cond (eqb n 8) Area (cond (eqb n 10) FirstRow Count)))))
 
 field-from : (f : Field) → fieldFrom (cellOf f) ≡ f
 field-from Identification = refl
 field-from Object = refl
 field-from BusinessType = refl
+field-from Direction = refl
+field-from Area = refl
 field-from FirstRow = refl
 field-from Count = refl
 

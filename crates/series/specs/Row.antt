@@ -1,5 +1,7 @@
 -- "A series takes eight u32 numbers, a length here being in bytes between the quotes: start and length of its TimeSeriesIdentification; of its
--- object (InParty in kind 1, ResourceObject in kind 2); of its BusinessType, spaces dropped; its first interval row; its interval count."
+-- object (InParty in kind 1, ResourceObject in kind 2); of its BusinessType, spaces dropped; its first interval row; its interval count." And 02: "A
+-- series row grows from eight numbers to twelve: after the BusinessType pair, start and length of Direction (spaces dropped) and of the area
+-- (ConnectingArea; in kind 1, InArea), 0 and 0 where absent."
 use Prim.Native.Nat.{ℕ, _+_, _*_, _/_}
 use mathlib.Core.Path.{_≡_}
 use mathlib.Core.List.{List}
@@ -7,31 +9,35 @@ use mathlib.Core.Bool.{Bool, true, false}
 use lib.ListN.{getD, set}
 use Rattle.attributes.specs.Attribute.{partOf}
 use Rattle.series.specs.declared.Field.{Field}
-use Rattle.series.specs.declared.Field.the-variants.{Identification, Object, BusinessType, FirstRow, Count}
+use Rattle.series.specs.declared.Field.the-variants.{Identification, Object, BusinessType, Direction, Area, FirstRow, Count}
 
 -- the first cell of each field of a row; a view is start and length, in two cells
 abbrev pub cellOf : Field → ℕ
 cellOf Identification = 0
 cellOf Object = 2
 cellOf BusinessType = 4
-cellOf FirstRow = 6
-cellOf Count = 7
+cellOf Direction = 6
+cellOf Area = 8
+cellOf FirstRow = 10
+cellOf Count = 11
 
 abbrev pub isView : Field → Bool
 isView Identification = true
 isView Object = true
 isView BusinessType = true
+isView Direction = true
+isView Area = true
 isView FirstRow = false
 isView Count = false
 
 -- how many numbers a series takes, and n series
 abbrev pub rowWidth : ℕ
-rowWidth = 8
+rowWidth = 12
 
 abbrev pub cellsOf : ℕ → ℕ
 cellsOf n = rowWidth * n
 
--- "Room for series is the table length divided by 8, rounded down."
+-- "Room becomes the table length divided by 12."
 abbrev pub rowsIn : ℕ → ℕ
 rowsIn n = n / rowWidth
 

@@ -6,17 +6,19 @@ ghost use Prim.Native.Nat.{_≤_, _<_};
 ghost use lib.ListN.{getD};
 ghost use Rattle.series.specs.Row.{cellOf, rowWidth, rowsIn, cellAt, withField, withView, view};
 
-// The fields of a row, in their order. The first three are views: start and length in two cells.
+// The fields of a row, in their order. The first five are views: start and length in two cells.
 pub enum Field {
     Identification,
     Object,
     BusinessType,
+    Direction,
+    Area,
     FirstRow,
     Count,
 }
 
 // How many numbers a series takes.
-pub const WIDTH: usize = 8;
+pub const WIDTH: usize = 12;
 
 // How many rows a table of n cells has room for. Ruled out: a row that runs past the table.
 pub fn rows_in(n: usize) -> usize
@@ -33,8 +35,10 @@ fn cell_of(f: Field) -> usize
         Field::Identification => 0,
         Field::Object => 2,
         Field::BusinessType => 4,
-        Field::FirstRow => 6,
-        Field::Count => 7,
+        Field::Direction => 6,
+        Field::Area => 8,
+        Field::FirstRow => 10,
+        Field::Count => 11,
     }
 }
 

@@ -6,7 +6,7 @@ use lib.ListN.{getD}
 use lib.Dec.{leb, ltb, eqb}
 use Rattle.attributes.specs.Attribute.{partOf}
 use Rattle.elements.specs.Names.{elementNo}
-use Rattle.columns.specs.Columns.{formOf, roleOf, periodForm, seriesRole, periodRole, intervalRole, originalRole, objectRole, businessRole, seriesIdRole, posRole, qtyRole}
+use Rattle.columns.specs.Columns.{formOf, roleOf, periodForm, seriesRole, periodRole, intervalRole, originalRole, objectRole, businessRole, seriesIdRole, posRole, qtyRole, directionRole, areaRole}
 use Rattle.guideline.specs.Kinds.{kindAt, kindOf, takesAnother, hasEnough}
 use Rattle.guideline.specs.Rows.{rowsOf, rowsIn}
 use Rattle.items.specs.declared.Tag.{Tag}
@@ -24,7 +24,7 @@ use Rattle.states.specs.Attributes.{attributesFit, judgeTag}
 use Rattle.states.specs.declared.State.{State}
 use Rattle.states.specs.declared.Room.{Room}
 use Rattle.states.specs.declared.Entry.{Entry}
-use Rattle.states.specs.declared.Entry.the-variants.{Nothing, Series, Identification, Object, BusinessType, Interval, Position, Amount}
+use Rattle.states.specs.declared.Entry.the-variants.{Nothing, Series, Identification, Object, BusinessType, Direction, Area, Interval, Position, Amount}
 use Rattle.states.specs.declared.Step.{Step}
 use Rattle.states.specs.declared.Step.the-variants.{Next, Refused}
 
@@ -192,7 +192,9 @@ entryOf role p =
     (cond (eqb role businessRole) BusinessType
     (cond (eqb role seriesIdRole) Identification
     (cond (eqb role posRole) (Position p)
-    (cond (eqb role qtyRole) Amount Nothing))))))
+    (cond (eqb role qtyRole) Amount
+    (cond (eqb role directionRole) Direction
+    (cond (eqb role areaRole) Area Nothing))))))))
 
 unfoldable pub startedBy : State → ℕ → ℕ → ℕ → Bool → Judged → Step
 startedBy x kind r w empty j =

@@ -1,8 +1,10 @@
 // The reading state, and how each item moves it. It holds no amount.
 use attributes::part;
 use codes::is_listed;
+use columns::AREA_ROLE;
 use columns::BUSINESS_ROLE;
 use columns::BY_LIST;
+use columns::DIRECTION_ROLE;
 use columns::INTERVAL_ROLE;
 use columns::NO_FORM;
 use columns::NO_SCHEME;
@@ -79,6 +81,8 @@ pub enum Entry {
     Identification,
     Object,
     BusinessType,
+    Direction,
+    Area,
     Interval,
     Position(u32),
     Amount,
@@ -248,28 +252,18 @@ fn row_at(rows: &[usize], row: usize) -> usize
 fn entry_of(role: usize, p: u32) -> Entry
     ensures { λ r. ⌜ r ≡ entryOf role p ⌝ }
 {
-    if role == SERIES_ROLE {
-        return Entry::Series;
+    match role {
+        SERIES_ROLE => Entry::Series,
+        INTERVAL_ROLE => Entry::Interval,
+        OBJECT_ROLE => Entry::Object,
+        BUSINESS_ROLE => Entry::BusinessType,
+        SERIES_ID_ROLE => Entry::Identification,
+        POS_ROLE => Entry::Position(p),
+        QTY_ROLE => Entry::Amount,
+        DIRECTION_ROLE => Entry::Direction,
+        AREA_ROLE => Entry::Area,
+        _ => Entry::Nothing,
     }
-    if role == INTERVAL_ROLE {
-        return Entry::Interval;
-    }
-    if role == OBJECT_ROLE {
-        return Entry::Object;
-    }
-    if role == BUSINESS_ROLE {
-        return Entry::BusinessType;
-    }
-    if role == SERIES_ID_ROLE {
-        return Entry::Identification;
-    }
-    if role == POS_ROLE {
-        return Entry::Position(p);
-    }
-    if role == QTY_ROLE {
-        return Entry::Amount;
-    }
-    Entry::Nothing
 }
 
 // How many intervals of a series were started; its first is after `first` others.

@@ -2,12 +2,12 @@
 //! also where the length is 0, and a slice that is written to overlaps no other. So nothing outside this file has to be unsafe to call them.
 #![allow(unsafe_code)]
 
-use lumintayag_sys::{lumintayag_read, lumintayag_read_note};
+use lumintayag_sys::{lumintayag_read_note, lumintayag_read_v2};
 
 /// A longer document is refused with 1.
 pub const DOCUMENT_MOST: usize = 1_048_576;
 /// Numbers that a series takes in the series table.
-pub const SERIES_ROW: usize = 8;
+pub const SERIES_ROW: usize = 12;
 /// Series that are room for every document.
 pub const SERIES_ROOM: usize = 2_558;
 /// Intervals that are room for every document.
@@ -23,7 +23,7 @@ pub(crate) fn read(doc: &[u8], series: &mut [u32], positions: &mut [u32], amount
     let mut answer = [0; ANSWER_NUMBERS];
     // SAFETY: each pointer comes with the length of the slice that it is of, and Rust lends the written ones to nobody else.
     unsafe {
-        lumintayag_read(
+        lumintayag_read_v2(
             doc.as_ptr(),
             doc.len(),
             series.as_mut_ptr(),

@@ -40,7 +40,7 @@
 //!
 //! An [`Amount`] is a Qty, in thousandths. In a Beschaffungsanforderung it is megawatts. In a Kostenblatt it is euros by the series' MeasurementUnit:
 //! per piece (Z01), per megawatt hour (Z02) or per hour (Z03). So two amounts may be held against each other only where kind, BusinessType, Direction
-//! and MeasurementUnit are the same; the last two are not in the tables yet. Quarter hours count from 1, the first of TimePeriodCovered, which need
+//! and MeasurementUnit are the same; the last one is not in the tables yet. Quarter hours count from 1, the first of TimePeriodCovered, which need
 //! not begin at midnight, and [`Series::amount_at`] has no amount past the last one.
 //!
 //! # What is not judged

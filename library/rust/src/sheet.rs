@@ -88,11 +88,13 @@ impl<'a> Sheet<'a> {
     /// Series `index`, counted from 0; `None` past the last one, and for a row that does not belong to the document. The reader leaves no such row.
     pub fn get(&self, index: usize) -> Option<Series<'a>> {
         let row = self.tables.series.get(index.checked_mul(SERIES_ROW)?..)?.first_chunk::<SERIES_ROW>()?;
-        let &[identification, identification_len, object, object_len, business_type, business_type_len, first, count] = row;
+        let &[id, id_len, object, object_len, business_type, business_type_len, direction, direction_len, area, area_len, first, count] = row;
         Some(Series {
-            identification: View::of(self.doc, identification, identification_len)?,
+            identification: View::of(self.doc, id, id_len)?,
             object: View::of(self.doc, object, object_len)?,
             business_type: View::of(self.doc, business_type, business_type_len)?,
+            direction: View::if_there(self.doc, direction, direction_len)?,
+            area: View::if_there(self.doc, area, area_len)?,
             intervals: Rows::of(self.tables, first, count)?,
             covered: self.kind.covered(self.quarters),
         })
@@ -144,6 +146,14 @@ impl<'a> View<'a> {
     fn of(doc: &'a [u8], start: u32, len: u32) -> Option<Self> {
         Some(View { start, text: core::str::from_utf8(part(doc, start, len)?).ok()? })
     }
+
+    /// Of an element that may be absent: 0 and 0 is none, since no value starts with a document.
+    fn if_there(doc: &'a [u8], start: u32, len: u32) -> Option<Option<Self>> {
+        if (start, len) == (0, 0) {
+            return Some(None);
+        }
+        Self::of(doc, start, len).map(Some)
+    }
 }
 
 /// Where it stands, and not what it says.
@@ -181,8 +191,20 @@ impl fmt::Debug for Rows<'_> {
 
 /// A series of a sheet.
 ///
-/// The prices of two series may be held against each other only where kind, BusinessType, Direction and MeasurementUnit are the same. The last two
-/// are not in the tables yet.
+/// The prices of two series may be held against each other only where kind, BusinessType, Direction and MeasurementUnit are the same. The last one
+/// is not in the tables yet.
+///
+/// ```
+/// # #[cfg(feature = "alloc")] {
+/// # let document = include_bytes!(concat!(env!("CARGO_MANIFEST_DIR"), "/../../crates/samples_run/data/two-directions-and-areas.xml")).to_vec();
+/// # let kept = lumintayag::OwnedSheet::read(document)?;
+/// # let sheet = kept.sheet();
+/// let like = |series: &lumintayag::Series| (series.direction(), series.area()) == (Some("A02"), Some("10YDE-EON------1"));
+/// let of_that_area: Vec<&str> = sheet.iter().filter(like).map(|series| series.identification()).collect();
+/// assert_eq!(of_that_area, ["S-1", "S-5"]);
+/// # }
+/// # Ok::<(), lumintayag::Refused>(())
+/// ```
 ///
 /// `Debug` tells where its values stand in the document and how many intervals it has, and nothing of what they hold.
 #[derive(Clone, Copy, Debug, PartialEq, Eq)]
@@ -190,6 +212,8 @@ pub struct Series<'a> {
     identification: View<'a>,
     object: View<'a>,
     business_type: View<'a>,
+    direction: Option<View<'a>>,
+    area: Option<View<'a>>,
     intervals: Rows<'a>,
     /// The last quarter hour that has an amount.
     covered: u32,
@@ -209,6 +233,17 @@ impl<'a> Series<'a> {
     /// BusinessType, without the spaces at its ends.
     pub fn business_type(&self) -> &'a str {
         self.business_type.text
+    }
+
+    /// Direction, without the spaces at its ends: `A01` is up, `A02` is down. `None` where it is absent: it may be in a Kostenblatt, and a
+    /// Beschaffungsanforderung has none.
+    pub fn direction(&self) -> Option<&'a str> {
+        self.direction.map(|view| view.text)
+    }
+
+    /// The area: InArea in a Beschaffungsanforderung; ConnectingArea in a Kostenblatt, where it may be absent.
+    pub fn area(&self) -> Option<&'a str> {
+        self.area.map(|view| view.text)
     }
 
     /// Pos and amount of each interval, in document order.
@@ -322,8 +357,8 @@ impl FusedIterator for ByQuarter<'_> {}
 mod tests {
     use super::*;
 
-    const DOC: &[u8] = "id object A01 \u{E4}".as_bytes();
-    const ROW: [u32; SERIES_ROW] = [0, 2, 3, 6, 10, 3, 1, 2];
+    const DOC: &[u8] = "id object A01 A02 area \u{E4}".as_bytes();
+    const ROW: [u32; SERIES_ROW] = [0, 2, 3, 6, 10, 3, 14, 3, 18, 4, 1, 2];
 
     fn sheet<'a>(kind: Kind, series: &'a [u32], positions: &'a [u32]) -> Sheet<'a> {
         Sheet::new(DOC, kind, 4, Tables { series, positions, amounts: &[10, 20, 30] })
@@ -340,6 +375,7 @@ mod tests {
         let sheet = sheet(Kind::Kostenblatt, &ROW, &[1, 1, 3]);
         let series = sheet.get(0).expect("a row");
         assert_eq!((series.identification(), series.object(), series.business_type()), ("id", "object", "A01"));
+        assert_eq!((series.direction(), series.area()), (Some("A02"), Some("area")));
         assert!(series.intervals().eq([(1, Amount::from_thousandths(20)), (3, Amount::from_thousandths(30))]));
         assert!(series.by_quarter().map(|(_, amount)| amount.thousandths()).eq([20, 20, 30, 30]));
     }
@@ -349,13 +385,24 @@ mod tests {
         assert!(is_there(ROW, &[1, 1, 3]));
         let other = |cell: usize, number| core::array::from_fn(|i| if i == cell { number } else { ROW[i] });
         let len = DOC.len() as u32;
-        let wrong = [(0, len), (1, len + 1), (2, len), (3, u32::MAX), (4, u32::MAX), (5, len), (6, 2), (6, u32::MAX), (7, 0), (7, 3), (7, u32::MAX)];
-        for (cell, number) in wrong {
+        let views = [(0, len), (1, len + 1), (2, len), (3, u32::MAX), (4, u32::MAX), (5, len), (6, len), (7, u32::MAX), (8, u32::MAX), (9, len)];
+        let rows = [(10, 2), (10, u32::MAX), (11, 0), (11, 3), (11, u32::MAX)];
+        for (cell, number) in views.into_iter().chain(rows) {
             assert!(!is_there(other(cell, number), &[1, 1, 3]), "{number} in cell {cell}");
         }
         assert!(!is_there(other(1, len - 1), &[1, 1, 3]), "half a character");
         assert!(!is_there(ROW, &[1, 2, 3]), "a first position that is not 1");
         assert!(!is_there(ROW, &[1, 1]), "fewer positions than amounts");
+    }
+
+    #[test]
+    fn a_direction_and_an_area_may_be_absent() {
+        for absent in [&[6, 7][..], &[8, 9], &[6, 7, 8, 9]] {
+            let row: [u32; SERIES_ROW] = core::array::from_fn(|i| if absent.contains(&i) { 0 } else { ROW[i] });
+            let series = sheet(Kind::Kostenblatt, &row, &[1, 1, 3]).get(0).expect("a row");
+            assert_eq!((series.direction().is_none(), series.area().is_none()), (absent.contains(&6), absent.contains(&8)));
+            assert_eq!((series.identification(), series.intervals().len()), ("id", 2));
+        }
     }
 
     #[test]

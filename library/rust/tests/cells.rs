@@ -3,9 +3,10 @@
 mod common;
 
 use common::two_plants;
+use lumintayag::SERIES_ROW;
 
 extern "C" {
-    fn lumintayag_read(
+    fn lumintayag_read_v2(
         doc: *const u8,
         doc_len: usize,
         series: *mut u32,
@@ -31,14 +32,14 @@ fn expected(numbers: &[u32], len: usize) -> Vec<u32> {
 fn an_answer_of_every_size() {
     let doc = b"<Kostenblatt DtdBDEWNachrichtenVersion=\"1.0\">";
     for len in 0..=12 {
-        let (mut series, mut positions, mut amounts, mut note, mut answer) = ([77; 8], [77; 1], [77; 1], [77; 16], [77; 12]);
+        let (mut series, mut positions, mut amounts, mut note, mut answer) = ([77; SERIES_ROW], [77; 1], [77; 1], [77; 16], [77; 12]);
         // SAFETY: no length is more than that of the array.
         let refusal = unsafe {
-            lumintayag_read(
+            lumintayag_read_v2(
                 doc.as_ptr(),
                 doc.len(),
                 series.as_mut_ptr(),
-                8,
+                series.len(),
                 positions.as_mut_ptr(),
                 1,
                 amounts.as_mut_ptr(),
@@ -51,7 +52,7 @@ fn an_answer_of_every_size() {
         };
         assert_eq!((refusal, answer.to_vec()), (3, expected(&[3, 45, 2, 0, 0, 0, 5], len)));
         assert_eq!(note, [3, 45, 2, 0, 0, 0, 0, 0, 0, 0, 0, 0, 0, 0, 0, 0]);
-        assert!((series, positions, amounts) == ([0; 8], [0], [0]));
+        assert!((series, positions, amounts) == ([0; SERIES_ROW], [0], [0]));
     }
 }
 
@@ -60,14 +61,14 @@ fn a_note_buffer_of_every_size() {
     for doc in [two_plants(), String::new(), "<a".into()] {
         let mut notes = Vec::new();
         for room in 0..=40 {
-            let (mut series, mut positions, mut amounts, mut note, mut answer) = ([77; 16], [77; 5], [77; 5], [77; 40], [77; 7]);
+            let (mut series, mut positions, mut amounts, mut note, mut answer) = ([77; 2 * SERIES_ROW], [77; 5], [77; 5], [77; 40], [77; 7]);
             // SAFETY: no length is more than that of the array.
             let refusal = unsafe {
-                lumintayag_read(
+                lumintayag_read_v2(
                     doc.as_ptr(),
                     doc.len(),
                     series.as_mut_ptr(),
-                    16,
+                    series.len(),
                     positions.as_mut_ptr(),
                     5,
                     amounts.as_mut_ptr(),
@@ -83,7 +84,7 @@ fn a_note_buffer_of_every_size() {
             if room < 16 {
                 assert_eq!(answer, [10, 0, 0, 0, 0, 0, 0]);
                 assert!(note[..room].iter().all(|&b| b == 0));
-                assert!(series == [0; 16] && positions == [0; 5] && amounts == [0; 5]);
+                assert!(series == [0; 2 * SERIES_ROW] && positions == [0; 5] && amounts == [0; 5]);
             } else {
                 assert_ne!(refusal, 10);
                 assert!(note[answer[6] as usize..room].iter().all(|&b| b == 0));

@@ -1,5 +1,8 @@
 //! The crate's numbers are those of the C header.
-use lumintayag::{Kind, Refusal, DOCUMENT_MOST, INTERVALS_ROOM, SERIES_ROOM, SERIES_ROW};
+mod common;
+
+use common::{two_plants, Desk};
+use lumintayag::{Kind, Refusal, Series, DOCUMENT_MOST, INTERVALS_ROOM, SERIES_ROOM, SERIES_ROW};
 
 /// The number that the header defines by a name, also in an enum.
 fn defined(name: &str) -> usize {
@@ -15,6 +18,29 @@ fn sizes() {
     assert_eq!(defined("LUMINTAYAG_SERIES_ROW"), SERIES_ROW);
     assert_eq!(defined("LUMINTAYAG_SERIES_ROOM"), SERIES_ROOM);
     assert_eq!(defined("LUMINTAYAG_INTERVALS_ROOM"), INTERVALS_ROOM);
+}
+
+/// What the cells that the header names show is what the crate shows.
+#[test]
+fn cells_of_a_series_row() {
+    const VIEWS: [&str; 5] = ["IDENTIFICATION", "OBJECT", "BUSINESS_TYPE", "DIRECTION", "AREA"];
+    let (doc, mut desk) = (two_plants(), Desk::large());
+    let sheet = desk.read(doc.as_bytes()).expect("accepted").sheet;
+    let texts = |s: Series<'_>| {
+        [Some(s.identification()), Some(s.object()), Some(s.business_type()), s.direction(), s.area()].map(|text| text.map(String::from))
+    };
+    let told: Vec<_> = sheet.iter().map(|series| (texts(series), series.intervals().len() as u32)).collect();
+    let mut first = 0;
+    for (row, (shown, count)) in desk.series.chunks(SERIES_ROW).zip(told) {
+        for (name, said) in VIEWS.iter().zip(shown) {
+            let cell = defined(&format!("LUMINTAYAG_{name}"));
+            let (start, len) = (row[cell] as usize, row[cell + 1] as usize);
+            assert!(if start == 0 { said.is_none() && len == 0 } else { said.as_deref() == doc.get(start..start + len) }, "{name}");
+        }
+        assert_eq!((row[defined("LUMINTAYAG_FIRST_INTERVAL")], row[defined("LUMINTAYAG_INTERVAL_COUNT")]), (first, count));
+        first += count;
+    }
+    assert_eq!(first, 5);
 }
 
 #[test]

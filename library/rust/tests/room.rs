@@ -2,7 +2,7 @@
 mod common;
 
 use common::*;
-use lumintayag::{Room, DOCUMENT_MOST};
+use lumintayag::{Room, DOCUMENT_MOST, SERIES_ROW};
 
 /// The place of the k-th `tag` of doc, counted from 0.
 fn place(doc: &str, tag: &str, k: usize) -> usize {
@@ -12,14 +12,14 @@ fn place(doc: &str, tag: &str, k: usize) -> usize {
 #[test]
 fn a_series_table_of_every_size() {
     let doc = two_plants();
-    for cells in 0..=40 {
+    for cells in 0..=3 * SERIES_ROW {
         let mut desk = Desk::new(cells, 9, 9);
         let said = verdict(doc.as_bytes(), &mut desk);
-        match cells / 8 {
+        match cells / SERIES_ROW {
             full @ 0..=1 => assert_eq!(said, (4, place(&doc, "<CostTimeSeries>", full)), "{cells} cells"),
             _ => {
                 assert_eq!(said, (0, doc.len()), "{cells} cells");
-                assert!(desk.series[..16].iter().any(|&n| n != 0) && desk.series[16..].iter().all(|&n| n == 0));
+                assert!(desk.series[..2 * SERIES_ROW].iter().any(|&n| n != 0) && desk.series[2 * SERIES_ROW..].iter().all(|&n| n == 0));
             }
         }
     }
@@ -30,7 +30,7 @@ fn interval_tables_of_every_size() {
     let doc = two_plants();
     for positions in 0..=9 {
         for amounts in 0..=9 {
-            let mut desk = Desk::new(19, positions, amounts);
+            let mut desk = Desk::new(2 * SERIES_ROW + 3, positions, amounts);
             let said = verdict(doc.as_bytes(), &mut desk);
             let room = positions.min(amounts);
             if room < 5 {

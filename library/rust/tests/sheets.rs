@@ -2,10 +2,10 @@
 mod common;
 
 use common::*;
-use lumintayag::{Accepted, Kind, Refusal, Series};
+use lumintayag::{Accepted, Kind, Refusal, Series, SERIES_ROW};
 
-fn views(series: Series<'_>) -> (&str, &str, &str) {
-    (series.identification(), series.object(), series.business_type())
+fn views(series: Series<'_>) -> (&str, &str, &str, Option<&str>, Option<&str>) {
+    (series.identification(), series.object(), series.business_type(), series.direction(), series.area())
 }
 
 #[test]
@@ -16,15 +16,37 @@ fn a_kostenblatt_is_shown_row_by_row() {
     assert_eq!((sheet.kind(), sheet.quarters(), sheet.len(), sheet.is_empty()), (Kind::Kostenblatt, 96, 2, false));
     assert!(note.as_bytes().len() >= 5 && note.as_bytes().len() <= 15);
     let (first, second) = (sheet.get(0).expect("a first series"), sheet.get(1).expect("a second series"));
-    assert_eq!(views(first), ("Straße ä", "C0000000017", "A01"));
-    assert_eq!(views(second), ("", "A00000000Z5", "A01"));
+    assert_eq!(views(first), ("Straße ä", "C0000000017", "A01", Some("A02"), Some(AREA)));
+    assert_eq!(views(second), ("", "A00000000Z5", "A01", None, None));
     assert_eq!((sheet.get(2), sheet.get(usize::MAX)), (None, None));
     assert_eq!(sheet.iter().collect::<Vec<_>>(), [first, second]);
     assert!(sheet.into_iter().eq(&sheet));
     let rows = [(1, amount(84_500)), (29, amount(-61_250)), (96, amount(999_999_999_999_999))];
     assert!(first.intervals().eq(rows) && first.intervals().rev().eq(rows.into_iter().rev()));
     assert!(second.intervals().eq([(1, amount(0)), (2, amount(-1))]));
-    assert!(desk.series[16..].iter().chain(&desk.positions[5..]).all(|&n| n == 0) && desk.amounts[5..].iter().all(|&a| a == 0));
+    assert!(desk.series[2 * SERIES_ROW..].iter().chain(&desk.positions[5..]).all(|&n| n == 0) && desk.amounts[5..].iter().all(|&a| a == 0));
+}
+
+#[test]
+fn a_direction_and_an_area_are_those_of_their_own_series() {
+    let rows = [(1, "5")];
+    let bare = |id: &str| plant(id, "C0000000017", &rows);
+    let (up, down) = (placed(&bare("up"), "A01", "10YFLENSBURG---3"), placed(&bare("down"), "  A02", AREA));
+    let direction_alone = placed(&bare("here"), "A02 ", AREA).replace("<ConnectingArea v=\"10YDE-EON------1\" codingScheme=\"A01\"/>", "");
+    let area_alone = placed(&bare("there"), "A01", AREA).replace("<Direction v=\"A01\"/>", "");
+    let doc = kostenblatt(&(up + &down + &bare("none") + &direction_alone + &area_alone + &bare("last")));
+    let mut desk = Desk::large();
+    let sheet = desk.read(doc.as_bytes()).expect("accepted").sheet;
+    let told: Vec<_> = sheet.iter().map(|series| (series.identification(), series.direction(), series.area())).collect();
+    let expected = [
+        ("up", Some("A01"), Some("10YFLENSBURG---3")),
+        ("down", Some("A02"), Some(AREA)),
+        ("none", None, None),
+        ("here", Some("A02"), None),
+        ("there", None, Some(AREA)),
+        ("last", None, None),
+    ];
+    assert_eq!(told, expected);
 }
 
 #[test]
@@ -67,7 +89,7 @@ fn a_beschaffungsanforderung_has_its_quarter_hours() {
         let sheet = desk.read(doc.as_bytes()).expect("accepted").sheet;
         assert_eq!((sheet.kind(), sheet.quarters(), sheet.len()), (Kind::Beschaffungsanforderung, n, 2));
         let b = sheet.get(1).expect("a second series");
-        assert_eq!(views(b), ("b", "11XINVENTED----1", "A02"));
+        assert_eq!(views(b), ("b", "11XINVENTED----1", "A02", None, Some("10YDE-VE-------2")));
         assert!(b.intervals().eq((1..=n).map(|quarter| (quarter, amount(-1_250)))) && b.by_quarter().eq(b.intervals()));
         assert_eq!((b.amount_at(0), b.amount_at(n).is_some(), b.amount_at(n + 1)), (None, true, None));
     }

@@ -13,17 +13,18 @@ fn formatted(value: &dyn Debug) -> String {
 const PRICES: [&str; 3] = ["84848484.848", "-7373737.3", "6262626262.62"];
 const NAMES: [&str; 2] = ["Streng", "geheim"];
 const OBJECTS: [&str; 2] = ["C0000000017", "B1234567890"];
+const DIRECTION: &str = "A02";
 
 fn sheet() -> String {
     let rows = [(1, PRICES[0]), (29, PRICES[1]), (81, PRICES[2])];
-    kostenblatt(&(plant(NAMES[0], OBJECTS[0], &rows) + &plant(NAMES[1], OBJECTS[1], &rows)))
+    kostenblatt(&(placed(&plant(NAMES[0], OBJECTS[0], &rows), DIRECTION, AREA) + &plant(NAMES[1], OBJECTS[1], &rows)))
 }
 
-/// Names, objects, and each four digits of a price, which no count and no place of this sheet has. A price in thousandths has them too.
+/// Names, objects, Direction, area, and each four digits of a price, which no count and no place of this sheet has. A price in thousandths has them too.
 fn secrets() -> Vec<String> {
     let digits = PRICES.map(|price| price.chars().filter(char::is_ascii_digit).collect::<Vec<_>>());
     let fours = digits.iter().flat_map(|price| price.windows(4)).map(|four| four.iter().collect());
-    fours.chain(NAMES.into_iter().chain(OBJECTS).map(String::from)).collect()
+    fours.chain(NAMES.into_iter().chain(OBJECTS).chain([DIRECTION, AREA]).map(String::from)).collect()
 }
 
 /// One text for each public type, with its name.
@@ -84,12 +85,13 @@ fn no_byte_of_a_document_and_no_amount() {
     }
 }
 
-/// No text changes with digits of prices, names or objects.
+/// No text changes with digits of prices, names, objects, Direction or area.
 #[test]
 fn the_same_for_another_sheet_of_the_same_lengths() {
     let doc = sheet();
     let other =
         doc.replace(PRICES[0], "11111111.111").replace(PRICES[2], "0000000009.99").replace(NAMES[0], "Lieber").replace(OBJECTS[1], "A00000000Z5");
+    let other = other.replace(DIRECTION, "A01").replace(AREA, "10YDE-VE-------2");
     assert!(other != doc && other.len() == doc.len());
     assert!(all(&doc, &mut Desk::large(), &mut Desk::large()) == all(&other, &mut Desk::large(), &mut Desk::large()));
 }

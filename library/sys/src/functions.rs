@@ -1,14 +1,14 @@
 //! Also a part of `build.rs` and of `probe.rs`, which ask an archive whether it is the one for these declarations.
 
 /// `LUMINTAYAG_VERSION` of the header: 10000 a + 100 b + c for version a.b.c.
-pub const VERSION: u32 = 100;
+pub const VERSION: u32 = 200;
 
 extern "C" {
     /// The archive's version.
     pub fn lumintayag_version() -> u32;
 
     /// Reads a document. A pointer may be null where its length, which is in elements, is 0; no slice that is written to overlaps another one.
-    pub fn lumintayag_read(
+    pub fn lumintayag_read_v2(
         doc: *const u8,
         doc_len: usize,
         series: *mut u32,

@@ -21,7 +21,9 @@ fn period(period: &str, rows: &str) -> String {
     format!("<Period><TimeInterval v=\"{period}\"/><Resolution v=\"PT15M\"/>{rows}</Period>")
 }
 
-/// A series of kind 2 in a document that covers `covered`.
+pub const AREA: &str = "10YDE-EON------1";
+
+/// A series of kind 2 in a document that covers `covered`, with no Direction and no ConnectingArea.
 pub fn plant_in(covered: &str, id: &str, object: &str, rows: &[(u32, &str)]) -> String {
     let rows = period(covered, &intervals(rows));
     format!(
@@ -33,6 +35,13 @@ pub fn plant_in(covered: &str, id: &str, object: &str, rows: &[(u32, &str)]) -> 
 
 pub fn plant(id: &str, object: &str, rows: &[(u32, &str)]) -> String {
     plant_in(DAY, id, object, rows)
+}
+
+/// A series of kind 2 with a Direction, as it stands between the quotes, and a ConnectingArea.
+pub fn placed(plant: &str, direction: &str, area: &str) -> String {
+    let product = "<Product v=\"8716867000016\"/>";
+    let more = format!("<Direction v=\"{direction}\"/>{product}<ConnectingArea v=\"{area}\" codingScheme=\"A01\"/>");
+    plant.replace(product, &more)
 }
 
 pub fn kostenblatt_in(covered: &str, series: &str) -> String {
@@ -60,12 +69,10 @@ pub fn beschaffungsanforderung(covered: &str, series: &str) -> String {
     format!("<Beschaffungsanforderung DtdBDEWNachrichtenVersion=\"1.0\">{head}{series}</Beschaffungsanforderung>")
 }
 
-/// Two plants, of three and two intervals.
+/// Two plants, of three and two intervals; the first one alone has a Direction and an area.
 pub fn two_plants() -> String {
-    kostenblatt(
-        &(plant("Straße ä", "C0000000017", &[(1, "84.5"), (29, "-61.25"), (96, "999999999999.999")])
-            + &plant("", "A00000000Z5", &[(1, "0"), (2, "-0.001")])),
-    )
+    let first = plant("Straße ä", "C0000000017", &[(1, "84.5"), (29, "-61.25"), (96, "999999999999.999")]);
+    kostenblatt(&(placed(&first, " A02  ", AREA) + &plant("", "A00000000Z5", &[(1, "0"), (2, "-0.001")])))
 }
 
 pub fn amount(thousandths: i64) -> Amount {

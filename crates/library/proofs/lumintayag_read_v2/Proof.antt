@@ -2,10 +2,10 @@ use mathlib.Core.Path.{ap}
 use Rattle.reader.specs.declared.Answer.{Answer}
 use Rattle.library.proofs.Lengths.{note-short}
 use borrow.Author.Needs.{needs}
-use Rattle.library.proofs.lumintayag_read.Statement.{statement}
-use Rattle.library.proofs.lumintayag_read.Tie as tie
-use Rattle.library.proofs.lumintayag_read.Reads as reads
-use Rattle.library.proofs.lumintayag_read.Lts as lts
+use Rattle.library.proofs.lumintayag_read_v2.Statement.{statement}
+use Rattle.library.proofs.lumintayag_read_v2.Tie as tie
+use Rattle.library.proofs.lumintayag_read_v2.Reads as reads
+use Rattle.library.proofs.lumintayag_read_v2.Lts as lts
 use Rattle.library.proofs.put_answer.Reads as put-answer-reads
 use Rattle.reader.proofs.read.Reads as read-reads
 
@@ -39,8 +39,8 @@ returns c =
       puts = rw (← q .answers) (c .before .before .put-answer .ensures);
     }
 
-pub lumintayag-read-spec : {M : Type 1} → statement M
-lumintayag-read-spec =
+pub lumintayag-read-v2-spec : {M : Type 1} → statement M
+lumintayag-read-v2-spec =
     tie.close
     (tie.spec
     read-requires
