@@ -21,7 +21,7 @@ use Rattle.trees.proofs.Made.{both}
 use Rattle.contents.specs.Said.{Said}
 use Rattle.contents.specs.Legal.{hasRole, those, Period, quartersOf, positionOf, valueFits, elementFits, Each, inTurn, countFits, SeriesFits}
 use Rattle.contents.proofs.Tests.{chosen, other, parts-and}
-use Rattle.contents.proofs.Laid.{Layout}
+use Rattle.contents.proofs.Laid.{Layout, seriesAt}
 use Rattle.contents.proofs.Elements.{Within, within-more, beside, no-role, those-beside, each-beside, each-parts, last-those}
 use Rattle.contents.proofs.Shape.{SeriesShape}
 use Rattle.contents.proofs.Walk.{Tally, opened, walked, quartersIn, Passes}
@@ -99,7 +99,7 @@ module _ (kind : ℕ) (room : Room) (rows : List ℕ) (p : ℕ) (L : Layout rows
 
   -- ---- what is known of the rows at each place
 
-  head-plain : (q : ℕ) → (q ≡ 12 → ⊥) → q < p → Plain rows q
+  head-plain : (q : ℕ) → (q ≡ seriesAt L → ⊥) → q < p → Plain rows q
   head-plain q f l =
       record {
         not-series = λ e. f (L .only-series q (short q l) e);
@@ -121,20 +121,20 @@ module _ (kind : ℕ) (room : Room) (rows : List ℕ) (p : ℕ) (L : Layout rows
   abbrev pub Now : Tally → Type 0
   Now y = y .period ≡ p₀
 
-  pub now-kept : (q : ℕ) (s : Said) (y : Tally) → q < length rows → (q ≡ 11 → ⊥) → Now y → Now (opened (getD rows q 0) s y)
+  pub now-kept : (q : ℕ) (s : Said) (y : Tally) → q < length rows → (q ≡ 2 + L .covered → ⊥) → Now y → Now (opened (getD rows q 0) s y)
   now-kept q s y l f i = other _ (y .period) (ne-eqb (formOf (getD rows q 0)) 6 (λ e. f (L .covered-form q l e))) ∙ i
 
   pub now-fits : (q : ℕ) (s : Said) (y : Tally) → Now y → elementFits kind (y .period) (getD rows q 0) s ≡ elementFits kind p₀ (getD rows q 0) s
   now-fits q s y i = ap (λ r. elementFits kind r (getD rows q 0) s) i
 
   abbrev InHead : ℕ → Type 0
-  InHead q = (12 < q) × (q < p)
+  InHead q = (seriesAt L < q) × (q < p)
 
   abbrev InPeriod : ℕ → Type 0
   InPeriod q = (p < q) × (q < length rows)
 
   abbrev InRoot : ℕ → Type 0
-  InRoot q = (1 < q) × (q < 12)
+  InRoot q = (1 < q) × (q < seriesAt L)
 
   -- the values of a series
   head-segment : (c : Trees Said) → Within InHead c → (y : Tally) → Now y → Holds kind room y → Passes kind room rows c y ↔ Segment kind room rows p₀ c y
@@ -204,10 +204,10 @@ module _ (kind : ℕ) (room : Room) (rows : List ℕ) (p : ℕ) (L : Layout rows
     inside : p < length rows
     inside = let s = L .size in omega (arith, s)
 
-    head-role : (n : ℕ) → ((q : ℕ) → q < length rows → roleOf (getD rows q 0) ≡ n → (q ≤ 12) ⊎ (p ≤ q)) → Within (λ q. roleOf (getD rows q 0) ≡ n → ⊥) head
+    head-role : (n : ℕ) → ((q : ℕ) → q < length rows → roleOf (getD rows q 0) ≡ n → (q ≤ seriesAt L) ⊎ (p ≤ q)) → Within (λ q. roleOf (getD rows q 0) ≡ n → ⊥) head
     head-role n g =
         within-more
-        (λ q r e. ⊎-elim (λ (z : q ≤ 12). omega (arith, z, r .0)) (λ (z : p ≤ q). omega (arith, z, r .1)) (g q (short q (r .1)) e))
+        (λ q r e. ⊎-elim (λ (z : q ≤ seriesAt L). omega (arith, z, r .0)) (λ (z : p ≤ q). omega (arith, z, r .1)) (g q (short q (r .1)) e))
         head (sh .heads)
 
     deep-role : (n : ℕ) → ((q : ℕ) → q < length rows → roleOf (getD rows q 0) ≡ n → q ≤ p) → Within (λ q. roleOf (getD rows q 0) ≡ n → ⊥) inner

@@ -26,7 +26,7 @@ use Rattle.trees.specs.Trees.{Trees, none, element, rowsTaken, Stand, Fits, Eac
 use Rattle.contents.specs.Said.{Said}
 use Rattle.contents.specs.Legal.{hasRole, those, inEach, positionOf}
 use Rattle.contents.specs.Shown.{sum, lastOf, saidFor, eachSeries, intervalCounts, RowShows}
-use Rattle.contents.proofs.Laid.{Layout, Valued}
+use Rattle.contents.proofs.Laid.{Layout, seriesAt, Valued}
 use Rattle.contents.proofs.Elements.{in-of, own, those-of, Within, none-in, none-there, within-more}
 use Rattle.contents.proofs.Shape.{in-series-row, series-in, under-root, leaf, elsewhere, comes-once}
 use Rattle.contents.proofs.Walk.{Tally, opened, walked}
@@ -122,8 +122,8 @@ module _ (kind : ℕ) (rows : List ℕ) (p : ℕ) (L : Layout rows p) (W : Value
   -- ---- a series
 
   -- what a series has once
-  one-said : (role k : ℕ) → ((q : ℕ) → q < length rows → roleOf (getD rows q 0) ≡ role → q ≡ k) → 12 < k → k < p → roleOf (getD rows k 0) ≡ role
-      → required (getD rows k 0) ≡ true → (inner : Trees Placed) → Fits rows 12 (rowsTaken inner) → EachConforms rows inner
+  one-said : (role k : ℕ) → ((q : ℕ) → q < length rows → roleOf (getD rows q 0) ≡ role → q ≡ k) → seriesAt L < k → k < p → roleOf (getD rows k 0) ≡ role
+      → required (getD rows k 0) ≡ true → (inner : Trees Placed) → Fits rows (seriesAt L) (rowsTaken inner) → EachConforms rows inner
       → (s : Said) × (those (hasRole role) rows (saying inner) ≡ s ∷ [])
   one-said role k only a b r m inner f c =
       let s = L .size in
@@ -142,7 +142,7 @@ module _ (kind : ℕ) (rows : List ℕ) (p : ℕ) (L : Layout rows p) (W : Value
     pub beyond : (j : ℕ) → cellsOf (y .series + 1) ≤ j → getD t′ j 0 ≡ getD t j 0
     pub row : RowShows doc t′ rows (y .series) s (y .intervals)
 
-  module _ (q : ℕ) (x : Placed) (inner : Trees Placed) (y : Tally) (t : Tables) (e : q ≡ 12) where
+  module _ (q : ℕ) (x : Placed) (inner : Trees Placed) (y : Tally) (t : Tables) (e : q ≡ seriesAt L) where
     is-two : roleOf (getD rows q 0) ≡ 2
     is-two = ap (λ (i : ℕ). roleOf (getD rows i 0)) e ∙ L .series
 
@@ -229,7 +229,7 @@ module _ (kind : ℕ) (rows : List ℕ) (p : ℕ) (L : Layout rows p) (W : Value
     pub not-two : eqb (roleOf (getD rows q 0)) 2 ≡ false
     pub not-eight : eqb (roleOf (getD rows q 0)) 8 ≡ false
 
-  pub untouched : (q : ℕ) (x : Placed) (inner : Trees Placed) (y : Tally) (t : Tables) → (q ≡ 12 → ⊥) → q < length rows → parentOf (getD rows q 0) ≡ 1
+  pub untouched : (q : ℕ) (x : Placed) (inner : Trees Placed) (y : Tally) (t : Tables) → (q ≡ seriesAt L → ⊥) → q < length rows → parentOf (getD rows q 0) ≡ 1
       → Stand rows q (rowsTaken inner) → Untouched q x inner y t
   unfolding tablesAfter
   untouched q x inner y t n l e s =
@@ -259,16 +259,16 @@ module _ (kind : ℕ) (rows : List ℕ) (p : ℕ) (L : Layout rows p) (W : Value
     pub no-series : those (hasRole 2) rows (saying inner) ≡ []
     pub no-series-each : inEach (hasRole 2) rows (saying inner) ≡ []
 
-  pub once-in : (inner : Trees Placed) → Fits rows 12 (rowsTaken inner) → EachConforms rows inner → Once inner
+  pub once-in : (inner : Trees Placed) → Fits rows (seriesAt L) (rowsTaken inner) → EachConforms rows inner → Once inner
   once-in inner f c =
       let w = L .wide in
       let s = L .size in
-      let i = one-said 8 13 (L .only-id) (omega arith) (omega (arith, w)) (L .id) (L .must-id) inner f c in
-      let before : parentOf (getD rows 12 0) < 12 = rw (series-in rows p L) (omega arith) in
+      let i = one-said 8 (L .id-row) (L .only-id) (L .id-in .0) (L .id-in .1) (L .id) (L .must-id) inner f c in
+      let before : parentOf (getD rows (seriesAt L) 0) < seriesAt L = rw (series-in rows p L) (omega arith) in
       let g = rw (← taken-said inner) at f in
       let others : Within (λ q. hasRole 2 (getD rows q 0) ≡ false) (saying inner) =
       within-more (λ q d. ne-eqb (roleOf (getD rows q 0)) 2 (λ e. d .1 (L .only-series q (d .0) e))) (saying inner)
-      (elsewhere rows p L 12 (saying inner) 12 (omega (arith, s)) before (g .stand) (each-said rows inner c)) in
+      (elsewhere rows p L (seriesAt L) (saying inner) (seriesAt L) (omega (arith, s)) before (g .stand) (each-said rows inner c)) in
       record {
         id = i .0;
         id-once = i .1;
@@ -291,7 +291,7 @@ module _ (kind : ℕ) (rows : List ℕ) (p : ℕ) (L : Layout rows p) (W : Value
       (each-plain rows 2 q x inner after (e .bare) (e .not-two)) h in
       rw (e .bare) (rw (e .bare) at k)
 
-  filled-series : (q : ℕ) (x : Placed) (inner after : Trees Placed) (y : Tally) (t : Tables) → q ≡ 12 → (o : Once inner)
+  filled-series : (q : ℕ) (x : Placed) (inner after : Trees Placed) (y : Tally) (t : Tables) → q ≡ seriesAt L → (o : Once inner)
       → Rowed y (tallyOut q x inner y) (t .series) (tablesOut q x inner y t .series) (saying inner)
       → FilledBy after (tallyOut q x inner y) (tablesOut q x inner y t) → FilledBy (element q x inner after) y t
   unfolding filled walked saying eachSeries
@@ -308,7 +308,7 @@ module _ (kind : ℕ) (rows : List ℕ) (p : ℕ) (L : Layout rows p) (W : Value
       })
 
   -- how many series there are with one element more
-  pub more-series : (q : ℕ) (x : Placed) (inner after : Trees Placed) → q ≡ 12 → Once inner → seriesIn (element q x inner after) ≡ suc (seriesIn after)
+  pub more-series : (q : ℕ) (x : Placed) (inner after : Trees Placed) → q ≡ seriesAt L → Once inner → seriesIn (element q x inner after) ≡ suc (seriesIn after)
   more-series q x inner after e o =
       let role = ap (λ (i : ℕ). roleOf (getD rows i 0)) e ∙ L .series in
       let two : eqb (roleOf (getD rows q 0)) 2 ≡ true = rw role in
@@ -338,4 +338,4 @@ module _ (kind : ℕ) (rows : List ℕ) (p : ℕ) (L : Layout rows p) (W : Value
       filled-plain q x inner after y t k
       (series-filled after (tallyIn q x y) (tablesIn q x y t) (s .2) (c .2) (d .3) (g .2) (omega (arith, m, room, u, v))
       (λ j l. ap (λ (z : List ℕ). getD z j 0) (k .cells) ∙ blank j (omega (arith, l, u)))))
-      (eqb-cases q 12)
+      (eqb-cases q (seriesAt L))

@@ -13,7 +13,7 @@ use Rattle.trees.specs.Trees.{Trees, none, element, Conforms}
 use Rattle.contents.specs.Said.{Said}
 use Rattle.contents.specs.Legal.{hasRole, hasForm, those, inEach, Period, periodIn, periodOf, quartersOf, positionOf, elementFits, Each, inTurn, SeriesFits, All}
 use Rattle.contents.proofs.Tests.{chosen, other}
-use Rattle.contents.proofs.Laid.{Layout}
+use Rattle.contents.proofs.Laid.{Layout, seriesAt}
 use Rattle.contents.proofs.Elements.{Within, within-more, beside, none-there, no-role, those-beside, each-beside, each-parts, length-element, within-beside, in-beside, last-those, in-of, last-in, none-in}
 use Rattle.contents.proofs.Shape.{SeriesShape, AllSeries, RootShape, DocumentShape, document-shape}
 use Rattle.contents.proofs.Walk.{Tally, nothing, opened, walked, Passes}
@@ -30,18 +30,18 @@ module _ (kind : ℕ) (room : Room) (rows : List ℕ) (p : ℕ) (L : Layout rows
     fit : y .intervals + length (those (hasRole 4) rows c) ≤ room .intervals
 
   -- what stands in a series has rows after its own
-  in-series : (c : Trees Said) → SeriesShape rows p L c → Within (λ q. (12 < q) × (q < length rows)) c
+  in-series : (c : Trees Said) → SeriesShape rows p L c → Within (λ q. (seriesAt L < q) × (q < length rows)) c
   unfolding Within
   in-series c sh =
       let s = L .size in
       let w = L .wide in
-      subst (Within (λ q. (12 < q) × (q < length rows))) (sym (sh .is))
-      (within-beside (λ q. (12 < q) × (q < length rows)) (sh .head) (element p (sh .tag) (sh .inner) none)
+      subst (Within (λ q. (seriesAt L < q) × (q < length rows))) (sym (sh .is))
+      (within-beside (λ q. (seriesAt L < q) × (q < length rows)) (sh .head) (element p (sh .tag) (sh .inner) none)
       (within-more (λ q r. (r .0, short kind room rows p L p₀ q (r .1))) (sh .head) (sh .heads))
       ((omega (arith, w), omega (arith, s)), within-more (λ q r. (omega (arith, r .0, w), r .1)) (sh .inner) (sh .deep), tt))
 
-  -- one series, at row q, which is 12
-  module _ (q : ℕ) (s : Said) (inner after : Trees Said) (e : q ≡ 12) (sh : SeriesShape rows p L inner) (y : Tally) (i : Now kind room rows p L p₀ y)
+  -- one series, at row q, which is that of a series
+  module _ (q : ℕ) (s : Said) (inner after : Trees Said) (e : q ≡ seriesAt L) (sh : SeriesShape rows p L inner) (y : Tally) (i : Now kind room rows p L p₀ y)
       (fit : y .intervals ≤ room .intervals) where
     abbrev w : ℕ
     w = getD rows q 0
@@ -88,7 +88,7 @@ module _ (kind : ℕ) (room : Room) (rows : List ℕ) (p : ℕ) (L : Layout rows
 
     later-now : Now kind room rows p L p₀ y₂
     later-now =
-        unchanged rows (λ z. z .period) (λ q. (12 < q) × (q < length rows))
+        unchanged rows (λ z. z .period) (λ q. (seriesAt L < q) × (q < length rows))
         (λ q s z r. other _ (z .period) (ne-eqb (formOf (getD rows q 0)) 6 (λ e. let u = L .covered-form q (r .1) e in omega (arith, u, r .0))))
         inner (in-series inner sh) y₁
         ∙ fresh .now
@@ -171,7 +171,7 @@ module _ (kind : ℕ) (room : Room) (rows : List ℕ) (p : ℕ) (L : Layout rows
         all-passes after (a .2) (y₂ q s inner after (a .0) (a .1) y i f) (later-now q s inner after (a .0) (a .1) y i f) (omega (arith, m, c, v)) (omega (arith, n, d, x)) more,
       )
 
-  in-all : (c : Trees Said) → AllSeries rows p L c → Within (λ q. (11 < q) × (q < length rows)) c
+  in-all : (c : Trees Said) → AllSeries rows p L c → Within (λ q. (1 + L .heads < q) × (q < length rows)) c
   unfolding AllSeries Within
   in-all none a = tt
   in-all (element q s inner after) a =
@@ -243,7 +243,7 @@ module _ (kind : ℕ) (room : Room) (rows : List ℕ) (p : ℕ) (L : Layout rows
           ∙ ap (λ l. those (hasForm 6) rows head ++ l) none-later
           ∙ append-nil (those (hasForm 6) rows head)
 
-  head-role : (n : ℕ) → ((q : ℕ) → q < length rows → roleOf (getD rows q 0) ≡ n → 12 ≤ q) → Within (λ q. roleOf (getD rows q 0) ≡ n → ⊥) head
+  head-role : (n : ℕ) → ((q : ℕ) → q < length rows → roleOf (getD rows q 0) ≡ n → seriesAt L ≤ q) → Within (λ q. roleOf (getD rows q 0) ≡ n → ⊥) head
   head-role n g =
       let w = L .wide in
       within-more

@@ -28,7 +28,7 @@ use Rattle.contents.specs.Said.{Said, bytes}
 use Rattle.contents.specs.Legal.{hasRole, those, positionOf}
 use Rattle.contents.specs.Shown.{lastOf, roleShown, partShown, saidFor}
 use Rattle.contents.proofs.Lists.{last-append, none-both}
-use Rattle.contents.proofs.Laid.{Layout, Valued}
+use Rattle.contents.proofs.Laid.{Layout, seriesAt, Valued}
 use Rattle.contents.proofs.Elements.{own, mapped-parts}
 use Rattle.contents.proofs.Shape.{later}
 use Rattle.contents.proofs.Walk.{Tally, opened, walked}
@@ -199,10 +199,10 @@ module _ (kind : ℕ) (doc : List ℕ) where
 -- ---- the elements in a series
 
 module _ (kind : ℕ) (rows : List ℕ) (p : ℕ) (L : Layout rows p) (W : Valued rows) (doc : List ℕ) where
-  pub no-series : (h q : ℕ) → 12 ≤ h → h < q → q < length rows → roleOf (getD rows q 0) ≡ 2 → ⊥
+  pub no-series : (h q : ℕ) → seriesAt L ≤ h → h < q → q < length rows → roleOf (getD rows q 0) ≡ 2 → ⊥
   no-series h q a b l e = let d = L .only-series q l e in omega (arith, a, b, d)
 
-  pub inside : (kids : Trees Placed) (h i : ℕ) (y : Tally) (t : Tables) → 12 ≤ h → h < length rows → Stand rows h (rowsTaken kids) → EachConforms rows kids
+  pub inside : (kids : Trees Placed) (h i : ℕ) (y : Tally) (t : Tables) → seriesAt L ≤ h → h < length rows → Stand rows h (rowsTaken kids) → EachConforms rows kids
       → Stands doc kids → HasValues rows kids → y .series ≡ suc i → cellsOf (i + 1) ≤ length (t .series)
       → Effect doc i y (t .series) (walked rows (saying kids) y) (filled kind rows kids y t .series)
       (saidFor rows (saying kids))

@@ -25,7 +25,7 @@ use Rattle.trees.specs.Trees.{Trees, none, element, rowsTaken, Stand, Fits, Eac
 use Rattle.contents.specs.Said.{Said, bytes}
 use Rattle.contents.specs.Legal.{hasRole, those, positionOf, All, isAmong, Apart, identifications}
 use Rattle.contents.proofs.Lists.{zero-all, all-both, joined, all-change}
-use Rattle.contents.proofs.Laid.{Layout, Valued}
+use Rattle.contents.proofs.Laid.{Layout, seriesAt, Valued}
 use Rattle.contents.proofs.Elements.{own, mapped-parts}
 use Rattle.contents.proofs.Shape.{later, document-shape}
 use Rattle.contents.proofs.Walk.{Tally, nothing, opened, walked}
@@ -153,7 +153,7 @@ ids-parts rows q x inner after = mapped-parts rows valueBytes (hasRole 8) q (sai
 module _ (kind : ℕ) (rows : List ℕ) (p : ℕ) (L : Layout rows p) (W : Valued rows) (doc : List ℕ) where
   -- ---- in a series
 
-  inside-unused : (kids : Trees Placed) (h i : ℕ) (y : Tally) (t : Tables) → 12 ≤ h → h < length rows → Stand rows h (rowsTaken kids) → EachConforms rows kids
+  inside-unused : (kids : Trees Placed) (h i : ℕ) (y : Tally) (t : Tables) → seriesAt L ≤ h → h < length rows → Stand rows h (rowsTaken kids) → EachConforms rows kids
       → Stands doc kids → HasValues rows kids → y .series ≡ suc i → cellsOf (i + 1) ≤ length (t .series)
       → Unused doc kind rows kids y t ↔ All (NotUsed doc (t .series) i) (identifications rows (saying kids))
   unfolding Unused rowsTaken Stand EachConforms Stands HasValues saying identifications those All tablesAfter
@@ -185,7 +185,7 @@ module _ (kind : ℕ) (rows : List ℕ) (p : ℕ) (L : Layout rows p) (W : Value
       (λ z. ((λ u. sym (keep z) ∙ u), (λ u. keep z ∙ u)))
       (λ z. ((λ u. sym (keep₂ z ∙ keep z) ∙ u), (λ u. keep₂ z ∙ keep z ∙ u)))
 
-  within-unused : (q : ℕ) (x : Placed) (inner : Trees Placed) (y : Tally) (t : Tables) (past : List (List ℕ)) (id : Said) → q ≡ 12 → q < length rows
+  within-unused : (q : ℕ) (x : Placed) (inner : Trees Placed) (y : Tally) (t : Tables) (past : List (List ℕ)) (id : Said) → q ≡ seriesAt L → q < length rows
       → Fits rows q (rowsTaken inner) → EachConforms rows inner → Stands doc inner → HasValues rows inner → cellsOf (y .series + 1) ≤ length (t .series)
       → those (hasRole 8) rows (saying inner) ≡ id ∷ [] → Knows doc (t .series) (y .series) past
       → Unused doc kind rows inner (opened (getD rows q 0) (saidOf x) y) (tablesWith kind rows q x (opened (getD rows q 0) (saidOf x) y) t) ↔ (isAmong (valueBytes id) past ≡ false)
@@ -284,7 +284,7 @@ module _ (kind : ℕ) (rows : List ℕ) (p : ℕ) (L : Layout rows p) (W : Value
       (beside-unused after y₁ t₁ past (s .2) (c .2) (d .3) (g .2) (omega (arith, more, room, u, v))
       (λ j l. ap (λ (z : List ℕ). getD z j 0) (b .cells) ∙ blank j (omega (arith, l, u)))
       (λ z. ap (λ (l : List ℕ). used doc l (y₁ .series) z) (b .cells) ∙ ap (λ (m : ℕ). used doc (t .series) m z) (b .series) ∙ k z)))
-      (eqb-cases q 12)
+      (eqb-cases q (seriesAt L))
 
 module _ (kind : ℕ) (rows : List ℕ) (p : ℕ) (L : Layout rows p) (W : Valued rows) (doc : List ℕ) (ns np na : ℕ) where
   root-unused : (x : Placed) (inner : Trees Placed) → Conforms rows 0 (element 1 x inner none) → Stands doc (element 1 x inner none)
