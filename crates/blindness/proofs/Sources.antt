@@ -9,7 +9,7 @@ use Rattle.tags.specs.Known.{absent}
 use Rattle.tags.specs.declared.Span.{Span}
 use Rattle.prolog.specs.Prolog.{begin}
 use Rattle.prolog.specs.declared.Begin.{Begin}
-use Rattle.prolog.specs.declared.Begin.the-variants.{From, Unreadable}
+use Rattle.prolog.specs.declared.Begin.the-variants.{From, Misdeclared}
 use Rattle.states.specs.Moves.{begun}
 use Rattle.states.specs.declared.State.{State}
 use Rattle.states.specs.declared.Room.{Room}
@@ -48,7 +48,7 @@ unsourced na = replicate na absent
 
 unfoldable pub sourcesFrom : List ℕ → ℕ → ℕ → ℕ → Begin → List Span
 sourcesFrom doc ns np na (From n) = sourcesIn doc (roomOf ns np na) (itemsFrom doc n) begun (zeros ns) (unsourced na)
-sourcesFrom doc ns np na (Unreadable p) = unsourced na
+sourcesFrom doc ns np na (Misdeclared p) = unsourced na
 
 -- for tables of these lengths; on every refusal no cell has a source
 unfoldable pub sourceTable : List ℕ → ℕ → ℕ → ℕ → ℕ → List Span

@@ -11,7 +11,7 @@ use Rattle.trims.specs.Trim.{dropped}
 use Rattle.numbers.specs.Amount.{amountOf}
 use Rattle.prolog.specs.Prolog.{begin}
 use Rattle.prolog.specs.declared.Begin.{Begin}
-use Rattle.prolog.specs.declared.Begin.the-variants.{From, Unreadable}
+use Rattle.prolog.specs.declared.Begin.the-variants.{From, Misdeclared}
 use Rattle.reader.specs.Items.{Placed, itemsFrom}
 use Rattle.reader.specs.Rows.{spanOf, quoted, thousandthsOf}
 use Rattle.reader.specs.Answer.{readOf}
@@ -28,7 +28,7 @@ qtyValues (x ∷ xs) = let rest = qtyValues xs in cond (namedQty (x .item) (x .r
 
 unfoldable pub qtyValuesAfter : List ℕ → Begin → List Span
 qtyValuesAfter doc (From n) = qtyValues (itemsFrom doc n)
-qtyValuesAfter doc (Unreadable p) = []
+qtyValuesAfter doc (Misdeclared p) = []
 
 -- the sources of the amounts of a document that is accepted; on every refusal there are none
 unfoldable pub sourcesOf : List ℕ → ℕ → ℕ → ℕ → ℕ → List Span

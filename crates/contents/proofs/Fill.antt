@@ -5,7 +5,7 @@ use mathlib.Core.List.{List, [], _∷_, _++_}
 use mathlib.Core.Bool.{Bool, true, false}
 use lib.ListN.{getD, drop}
 use Rattle.items.specs.declared.Item.{Item}
-use Rattle.items.specs.declared.Item.the-variants.{Start, Empty, End, Text, Comment, Refused}
+use Rattle.items.specs.declared.Item.the-variants.{Start, Empty, End, Text, Comment, Unreadable}
 use Rattle.columns.specs.Columns.{roleOf}
 use Rattle.times.specs.Periods.{quarterHours}
 use Rattle.states.specs.Moves.{entryOf}
@@ -15,18 +15,18 @@ use Rattle.reader.specs.Rows.{spanOf, usedBefore}
 use Rattle.reader.specs.Reading.{Tables, tablesAfter}
 use Rattle.trees.specs.Trees.{Sign, Opens, Closes, Trees, none, element}
 use Rattle.contents.specs.Said.{Said, Absent}
-use Rattle.contents.specs.Spelled.{saidBy, elementIn}
+use Rattle.contents.specs.Spelled.{saidOfTag, elementIn}
 use Rattle.contents.specs.Legal.{positionOf}
 use Rattle.contents.proofs.Walk.{Tally, opened, walked}
 
 -- what a placed item says
 unfoldable pub saidByItem : Item → List ℕ → Said
-saidByItem (Start t) s = saidBy t s
-saidByItem (Empty t) s = saidBy t s
+saidByItem (Start t) s = saidOfTag t s
+saidByItem (Empty t) s = saidOfTag t s
 saidByItem (End n e) s = record { v = Absent; scheme = Absent; version = Absent; others = false; passable = true }
 saidByItem (Text w e) s = record { v = Absent; scheme = Absent; version = Absent; others = false; passable = true }
 saidByItem (Comment e) s = record { v = Absent; scheme = Absent; version = Absent; others = false; passable = true }
-saidByItem (Refused p) s = record { v = Absent; scheme = Absent; version = Absent; others = false; passable = true }
+saidByItem (Unreadable p) s = record { v = Absent; scheme = Absent; version = Absent; others = false; passable = true }
 
 abbrev pub saidOf : Placed → Said
 saidOf x = saidByItem (x .item) (x .rest)
@@ -38,7 +38,7 @@ placedBy x (Empty t) = Opens x (elementIn 1 (t .name) (x .rest)) ∷ Closes (ele
 placedBy x (End n e) = Closes (elementIn 2 n (x .rest)) ∷ []
 placedBy x (Text w e) = []
 placedBy x (Comment e) = []
-placedBy x (Refused p) = []
+placedBy x (Unreadable p) = []
 
 unfoldable pub placedSigns : List Placed → List (Sign Placed)
 placedSigns [] = []
@@ -94,7 +94,7 @@ isTag (Empty t) = true
 isTag (End n e) = false
 isTag (Text w e) = false
 isTag (Comment e) = false
-isTag (Refused p) = false
+isTag (Unreadable p) = false
 
 unfoldable pub Stands : List ℕ → Trees Placed → Type 0
 Stands doc none = Unit {0}

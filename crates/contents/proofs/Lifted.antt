@@ -10,7 +10,7 @@ use Rattle.structure.specs.declared.Due.the-variants.{Row, NotDue}
 use Rattle.guideline.specs.Rows.{rowsOf}
 use Rattle.items.specs.Item.{item, itemEnd}
 use Rattle.items.specs.declared.Item.{Item}
-use Rattle.items.specs.declared.Item.the-variants.{Start, Empty, End, Text, Comment, Refused}
+use Rattle.items.specs.declared.Item.the-variants.{Start, Empty, End, Text, Comment, Unreadable}
 use Rattle.reader.specs.Items.{Placed, itemsAfter, itemsFrom}
 use Rattle.trees.specs.Trees.{Sign, Opens, Closes, Trees, none, element, rowsTaken, spell, EachConforms, Conforms}
 use Rattle.trees.specs.Cursor.{onRow, follows}
@@ -47,7 +47,7 @@ by-said x (Empty t) e = rw e refl
 by-said x (End n f) e = refl
 by-said x (Text w f) e = refl
 by-said x (Comment f) e = refl
-by-said x (Refused p) e = refl
+by-said x (Unreadable p) e = refl
 
 pub signs-said : (xs : List Placed) → signsOf xs ≡ map relabelled (placedSigns xs)
 unfolding signsOf placedSigns
@@ -119,7 +119,7 @@ labels-by doc x (Empty t) e h s l = (rw e refl, h, l)
 labels-by doc x (End n f) e h s l = l
 labels-by doc x (Text w f) e h s l = l
 labels-by doc x (Comment f) e h s l = l
-labels-by doc x (Refused p) e h s l = l
+labels-by doc x (Unreadable p) e h s l = l
 
 signs-labels : (doc : List ℕ) (xs : List Placed) → Standing doc xs → Labels doc (placedSigns xs)
 unfolding placedSigns

@@ -27,14 +27,14 @@ use Rattle.rules.specs.Rules.{refused, periodFits, judgePeriodBy, judgePeriod, 
 use Rattle.rules.specs.declared.Held.{Held}
 use Rattle.rules.specs.declared.Judged.{Judged}
 use Rattle.states.specs.Attributes.{attributesFit, there, agree, asksV, asksScheme, noOthers, valueOf, schemeRefusal, least, alsoScheme, judgeTag}
-use Rattle.states.specs.Moves.{heldOf, cutShort, tooMany, noRoom, halfOriginals, startJudged, placed, oneSeries, oneInterval, oneOriginal, lastPos, covering, kept, entered, entryOf, closedAt, endRefusal}
+use Rattle.states.specs.Moves.{heldOf, cutShort, tooMany, noRoom, halfOriginals, startJudged, atRow, oneSeries, oneInterval, oneOriginal, lastPos, covering, kept, entered, entryOf, closedAt, endRefusal}
 use Rattle.states.specs.declared.State.{State}
 use Rattle.states.specs.declared.Room.{Room}
 use Rattle.states.proofs.Judgements.{Passed, passed-judged, judged-passed, series-room, interval-room}
 use Rattle.states.proofs.Judgements.{one-more}
 use Rattle.trees.proofs.Made.{both}
 use Rattle.contents.specs.Said.{Said, bytes}
-use Rattle.contents.specs.Spelled.{saidBy}
+use Rattle.contents.specs.Spelled.{saidOfTag}
 use Rattle.contents.specs.Legal.{periodBy, quartersOf, positionBy, positionOf, sayings, attributesAgree, schemeFits, valueFits, elementFits}
 use Rattle.contents.proofs.Laid.{Layout}
 use Rattle.contents.proofs.Walk.{Tally, quartersIn, opened, Taken, Ended}
@@ -55,8 +55,8 @@ opposite false e = absurd (zero-not-one (cc))
 
 -- ---- the attributes of a tag, by where they stand and by what they are
 
-attributes-same : (w : ℕ) (t : Tag) (s : List ℕ) → attributesFit w t ≡ attributesAgree w (saidBy t s)
-unfolding attributesFit attributesAgree saidBy
+attributes-same : (w : ℕ) (t : Tag) (s : List ℕ) → attributesFit w t ≡ attributesAgree w (saidOfTag t s)
+unfolding attributesFit attributesAgree saidOfTag
 attributes-same w t s =
     rw (given-there (t .v) s, given-there (t .coding) s, given-there (t .version) s)
     (chained (agree (asksV w) (there (t .v))) (agree (asksScheme w) (there (t .coding))) (agree (eqb (roleOf w) 1) (there (t .version)))
@@ -71,8 +71,8 @@ judgedSaid w h u =
     (alsoScheme (cond (schemeFits w u) 0 7) (judge (formOf w) h (sayings w u))))
 
 scheme-same : (w : ℕ) (t : Tag) (s : List ℕ) → agree (asksScheme w) (there (t .coding)) ≡ true
-    → schemeRefusal w (t .coding) s ≡ cond (schemeFits w (saidBy t s)) 0 7
-unfolding schemeRefusal schemeFits saidBy asksScheme
+    → schemeRefusal w (t .coding) s ≡ cond (schemeFits w (saidOfTag t s)) 0 7
+unfolding schemeRefusal schemeFits saidOfTag asksScheme
 scheme-same w t s h =
     ⊎-elim
     (λ y. rw (y .1))
@@ -80,12 +80,12 @@ scheme-same w t s h =
     (eqb-cases (schemeOf w) 0)
 
 value-same : (w : ℕ) (t : Tag) (s : List ℕ) → agree (asksV w) (there (t .v)) ≡ true → eqb (formOf w) 0 ≡ false
-    → says (valueOf w (t .v) s) ≡ sayings w (saidBy t s)
-unfolding valueOf sayings saidBy asksV
+    → says (valueOf w (t .v) s) ≡ sayings w (saidOfTag t s)
+unfolding valueOf sayings saidOfTag asksV
 value-same w t s h e = rw (there-bytes (t .v) s (asked-there (asksV w) (there (t .v)) h (rw e)))
 
-tag-judged : (w : ℕ) (t : Tag) (h : Held) (s : List ℕ) → attributesFit w t ≡ true → judgeTag w t h s ≡ judgedSaid w h (saidBy t s)
-unfolding judgeTag judgedSaid attributesFit saidBy
+tag-judged : (w : ℕ) (t : Tag) (h : Held) (s : List ℕ) → attributesFit w t ≡ true → judgeTag w t h s ≡ judgedSaid w h (saidOfTag t s)
+unfolding judgeTag judgedSaid attributesFit saidOfTag
 tag-judged w t h s f =
     let a = both-true (agree (asksV w) (there (t .v))) f in
     let b = both-true (agree (asksScheme w) (there (t .coding))) (a .1) in
@@ -295,29 +295,29 @@ module _ (kind k₀ r : ℕ) (o : Bool) (y : Tally) (q w : ℕ) (u : Said) (j : 
   after = entered (stateOf k₀ r o y) kind q w j within
 
   after-series : roleOf w ≡ 2 → (formOf w ≡ 6 → ⊥) → y .series < 4294967295 → after ≡ stateOf kind q within (opened w u y)
-  unfolding entered placed kept oneSeries stateOf
+  unfolding entered atRow kept oneSeries stateOf
   after-series e f l = rw (e, ne-eqb (formOf w) 6 f, one-more (y .series) l)
 
   after-period : roleOf w ≡ 3 → (formOf w ≡ 6 → ⊥) → after ≡ stateOf kind q within (opened w u y)
-  unfolding entered placed kept lastPos stateOf
+  unfolding entered atRow kept lastPos stateOf
   after-period e f = rw (e, ne-eqb (formOf w) 6 f)
 
   after-interval : roleOf w ≡ 4 → (formOf w ≡ 6 → ⊥) → y .intervals < 4294967295 → after ≡ stateOf kind q within (opened w u y)
-  unfolding entered placed kept oneInterval stateOf
+  unfolding entered atRow kept oneInterval stateOf
   after-interval e f l = rw (e, ne-eqb (formOf w) 6 f, one-more (y .intervals) l)
 
   after-original : roleOf w ≡ 5 → (formOf w ≡ 6 → ⊥) → y .originals < 4294967295 → after ≡ stateOf kind q within (opened w u y)
-  unfolding entered placed kept oneOriginal stateOf
+  unfolding entered atRow kept oneOriginal stateOf
   after-original e f l = rw (e, ne-eqb (formOf w) 6 f, one-more (y .originals) l)
 
   after-pos : roleOf w ≡ 9 → (formOf w ≡ 6 → ⊥) → j .first ≡ positionOf u → after ≡ stateOf kind q within (opened w u y)
-  unfolding entered placed kept lastPos stateOf
+  unfolding entered atRow kept lastPos stateOf
   after-pos e f l = rw (e, ne-eqb (formOf w) 6 f, l)
 
   after-covered : formOf w ≡ 6 → Alone (roleOf w)
       → (j .first ≡ periodBy (interval (says (bytes (u .v)))) .start) × (j .second ≡ periodBy (interval (says (bytes (u .v)))) .end)
       → after ≡ stateOf kind q within (opened w u y)
-  unfolding entered placed kept covering stateOf
+  unfolding entered atRow kept covering stateOf
   after-covered e a l =
       rw (
         ne-eqb (roleOf w) 2 (a .series),
@@ -332,7 +332,7 @@ module _ (kind k₀ r : ℕ) (o : Bool) (y : Tally) (q w : ℕ) (u : Said) (j : 
 
   after-other : eqb (roleOf w) 2 ≡ false → eqb (roleOf w) 3 ≡ false → eqb (roleOf w) 4 ≡ false → eqb (roleOf w) 5 ≡ false → eqb (roleOf w) 9 ≡ false
       → eqb (formOf w) 6 ≡ false → after ≡ stateOf kind q within (opened w u y)
-  unfolding entered placed kept stateOf
+  unfolding entered atRow kept stateOf
   after-other a b c d e f = rw (a, b, c, d, e, f)
 
   after-opened : (formOf w ≡ 6 → Alone (roleOf w)) → (roleOf w ≡ 9 → j .first ≡ positionOf u)
@@ -396,7 +396,7 @@ module _ (kind : ℕ) (rows : List ℕ) (p : ℕ) (L : Layout rows p) (room : Ro
     row = getD rows q 0
 
     abbrev said : Said
-    said = saidBy tag s
+    said = saidOfTag tag s
 
     abbrev verdict : Judged
     verdict = startJudged (stateOf k₀ r o y) kind rows q tag s empty room

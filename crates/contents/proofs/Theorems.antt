@@ -17,7 +17,7 @@ use Rattle.elements.specs.Names.{names, numberIn, elementNo}
 use Rattle.structure.specs.Rows.{nameOf}
 use Rattle.prolog.specs.Prolog.{begin}
 use Rattle.prolog.specs.declared.Begin.{Begin}
-use Rattle.prolog.specs.declared.Begin.the-variants.{From, Unreadable}
+use Rattle.prolog.specs.declared.Begin.the-variants.{From, Misdeclared}
 use Rattle.guideline.specs.Kinds.{kindOf}
 use Rattle.guideline.specs.Rows.{rowsOf}
 use Rattle.states.specs.Moves.{begun}
@@ -30,10 +30,10 @@ use Rattle.trees.specs.Trees.{Sign, Opens, Trees, none, spell, Conforms}
 use Rattle.trees.specs.Cursor.{rowAfter, openAfter}
 use Rattle.trees.proofs.Theorems.{one-tree}
 use Rattle.contents.specs.Said.{Said}
-use Rattle.contents.specs.Spelled.{signsOf, Spells, Alike}
+use Rattle.contents.specs.Spelled.{signsOf, Spells, SpellAlike}
 use Rattle.contents.specs.Legal.{periodOf, quartersOf, Legal, HasRoom}
 use Rattle.contents.specs.Shown.{sum, eachSeries, intervalCounts, Shows, RowShows, Tells, SameButPlaces}
-use Rattle.series.specs.Row.{isView, cellsOf, rowsIn, fieldAt, view}
+use Rattle.series.specs.Row.{isView, cellsOf, roomFor, fieldAt, view}
 use Rattle.series.specs.declared.Field.{Field}
 use Rattle.series.specs.declared.Field.the-variants.{Identification, Object, BusinessType, Direction, Area, FirstRow, Count}
 use Rattle.series.proofs.Rows.{rows-fit}
@@ -61,11 +61,11 @@ unfolding roomOf
 room-cells ns np na n m a b =
     ⊎-elim
     (λ (y : (np ≤ na) × (leb np na ≡ true)).
-    let c : n ≤ rowsIn ns = rw (y .1) at a in
+    let c : n ≤ roomFor ns = rw (y .1) at a in
     let d : m ≤ np = rw (y .1) at b in
     (rows-fit n ns c, d, omega (arith, d, y .0)))
     (λ (y : (na < np) × (leb np na ≡ false)).
-    let c : n ≤ rowsIn ns = rw (y .1) at a in
+    let c : n ≤ roomFor ns = rw (y .1) at a in
     let d : m ≤ na = rw (y .1) at b in
     (rows-fit n ns c, omega (arith, d, y .0), d))
     (leb-cases np na)
@@ -98,7 +98,7 @@ module _ (doc : List ℕ) (ns np na nb : ℕ) (wide : 16 ≤ nb) (small : length
   accepted-from : (b : Begin) → begin doc ≡ b → readInto doc (blank ns np na) .found .refusal ≡ 0 → (n : ℕ) × (begin doc ≡ From n) × (read n .found .refusal ≡ 0)
   unfolding readInto readAfter refusedAt
   accepted-from (From n) e z = (n, e, ap (λ (o : Out). o .found .refusal) (sym (into n e)) ∙ z)
-  accepted-from (Unreadable p) e z = let u : _≡_ {A = ℕ} 2 0 = rw e at z in absurd (omega (arith, u))
+  accepted-from (Misdeclared p) e z = let u : _≡_ {A = ℕ} 2 0 = rw e at z in absurd (omega (arith, u))
 
   -- ---- accepted documents spell legal contents
 
@@ -241,7 +241,7 @@ one-content doc kind other c d s u g h =
 
 -- ---- what may differ
 
-alike-spells : (x y : List ℕ) → Alike x y → (kind : ℕ) (c : Trees Said) → Spells x kind c → Spells y kind c
+alike-spells : (x y : List ℕ) → SpellAlike x y → (kind : ℕ) (c : Trees Said) → Spells x kind c → Spells y kind c
 alike-spells x y a kind c s =
     record {
       from = a .other-from;
@@ -286,7 +286,7 @@ module _ (x y : List ℕ) (o u : Outcome) (kind : ℕ) (c : Trees Said) (t : Tel
       }
 
 -- "white text, comments, quotes, attribute order and the choice between an empty tag and a start with an end change nothing but places"
-pub nothing-but-places : (x y : List ℕ) (ns np na nb : ℕ) → 16 ≤ nb → length x ≤ 1048576 → length y ≤ 1048576 → Alike x y
+pub nothing-but-places : (x y : List ℕ) (ns np na nb : ℕ) → 16 ≤ nb → length x ≤ 1048576 → length y ≤ 1048576 → SpellAlike x y
     → readOf x ns np na nb .answer .refusal ≡ 0 → SameButPlaces x (readOf x ns np na nb) y (readOf y ns np na nb)
 nothing-but-places x y ns np na nb w a b l z =
     let g = accepted-legal x ns np na nb w a z in

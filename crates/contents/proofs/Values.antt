@@ -9,7 +9,7 @@ use Rattle.lists.proofs.Cases.{zero-not-one}
 use Rattle.attributes.specs.Attribute.{partOf}
 use Rattle.tags.specs.declared.Span.{Span}
 use Rattle.items.specs.declared.Item.{Item}
-use Rattle.items.specs.declared.Item.the-variants.{Start, Empty, End, Text, Comment, Refused}
+use Rattle.items.specs.declared.Item.the-variants.{Start, Empty, End, Text, Comment, Unreadable}
 use Rattle.columns.specs.Columns.{rootRole}
 use Rattle.states.specs.Attributes.{there, agree, asksV, asksScheme, noOthers}
 use Rattle.reader.specs.Items.{Placed}
@@ -17,22 +17,22 @@ use Rattle.reader.specs.Rows.{spanOf, quoted}
 use Rattle.trees.specs.Trees.{Trees, none, element}
 use Rattle.trees.proofs.Made.{both}
 use Rattle.contents.specs.Said.{Absent, Given, Said, given, bytes}
-use Rattle.contents.specs.Spelled.{valueIn, saidBy}
+use Rattle.contents.specs.Spelled.{valueGiven, saidOfTag}
 use Rattle.contents.specs.Legal.{hasRole, Period, attributesAgree, elementFits, Each}
 use Rattle.contents.proofs.Fill.{saidByItem, saidOf, saying}
 
 -- ---- the attributes of a tag
 
-pub given-there : (x : Span) (s : List ℕ) → given (valueIn x s) ≡ there x
-unfolding valueIn given
+pub given-there : (x : Span) (s : List ℕ) → given (valueGiven x s) ≡ there x
+unfolding valueGiven given
 given-there x s = by (there x)
   where
     by : (t : Bool) → given (cond t (Given (partOf s (x .start) (x .len))) Absent) ≡ t
     by true = refl
     by false = refl
 
-pub there-bytes : (x : Span) (s : List ℕ) → there x ≡ true → bytes (valueIn x s) ≡ partOf s (x .start) (x .len)
-unfolding valueIn bytes
+pub there-bytes : (x : Span) (s : List ℕ) → there x ≡ true → bytes (valueGiven x s) ≡ partOf s (x .start) (x .len)
+unfolding valueGiven bytes
 there-bytes x s e = rw e
 
 -- what a row asks for is there
@@ -51,13 +51,13 @@ unfolding there
 not-there e = zero-not-one (cc)
 
 item-bytes : (i : Item) (s : List ℕ) → there (spanOf i) ≡ true → bytes (saidByItem i s .v) ≡ quoted (spanOf i) s
-unfolding spanOf saidByItem saidBy
+unfolding spanOf saidByItem saidOfTag
 item-bytes (Start t) s e = there-bytes (t .v) s e ∙ as-quoted (t .v) s
 item-bytes (Empty t) s e = there-bytes (t .v) s e ∙ as-quoted (t .v) s
 item-bytes (End n f) s e = absurd (not-there e)
 item-bytes (Text w f) s e = absurd (not-there e)
 item-bytes (Comment f) s e = absurd (not-there e)
-item-bytes (Refused q) s e = absurd (not-there e)
+item-bytes (Unreadable q) s e = absurd (not-there e)
 
 pub said-bytes : (x : Placed) → there (spanOf (x .item)) ≡ true → bytes (saidOf x .v) ≡ quoted (spanOf (x .item)) (x .rest)
 said-bytes x e = item-bytes (x .item) (x .rest) e
@@ -80,13 +80,13 @@ asked-given w s e a =
     asked-there (asksV w) (given (s .v)) k a
 
 given-item : (x : Item) (s : List ℕ) → given (saidByItem x s .v) ≡ true → there (spanOf x) ≡ true
-unfolding saidByItem saidBy given spanOf
+unfolding saidByItem saidOfTag given spanOf
 given-item (Start t) s e = sym (given-there (t .v) s) ∙ e
 given-item (Empty t) s e = sym (given-there (t .v) s) ∙ e
 given-item (End n e) s h = absurd (zero-not-one (cc))
 given-item (Text w e) s h = absurd (zero-not-one (cc))
 given-item (Comment e) s h = absurd (zero-not-one (cc))
-given-item (Refused p) s h = absurd (zero-not-one (cc))
+given-item (Unreadable p) s h = absurd (zero-not-one (cc))
 
 pub each-given : (kind : ℕ) (q : Period) (rows : List ℕ) (kids : Trees Placed) → Each (elementFits kind q) rows (saying kids) → HasValues rows kids
 unfolding Each HasValues saying elementFits

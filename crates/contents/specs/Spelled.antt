@@ -8,7 +8,7 @@ use Rattle.elements.specs.Names.{elementNo}
 use Rattle.tags.specs.declared.Span.{Span}
 use Rattle.items.specs.declared.Tag.{Tag}
 use Rattle.items.specs.declared.Item.{Item}
-use Rattle.items.specs.declared.Item.the-variants.{Start, Empty, End, Text, Comment, Refused}
+use Rattle.items.specs.declared.Item.the-variants.{Start, Empty, End, Text, Comment, Unreadable}
 use Rattle.prolog.specs.Prolog.{begin}
 use Rattle.prolog.specs.declared.Begin.the-variants.{From}
 use Rattle.guideline.specs.Rows.{rowsOf}
@@ -18,24 +18,24 @@ use Rattle.trees.specs.Trees.{Sign, Opens, Closes, Trees, spell}
 use Rattle.contents.specs.Said.{Value, Absent, Given, Said}
 
 -- the value of an attribute of a tag; s is the part of the document that begins with the tag
-unfoldable pub valueIn : Span → List ℕ → Value
-valueIn x s = cond (there x) (Given (partOf s (x .start) (x .len))) Absent
+unfoldable pub valueGiven : Span → List ℕ → Value
+valueGiven x s = cond (there x) (Given (partOf s (x .start) (x .len))) Absent
 
-unfoldable pub saidBy : Tag → List ℕ → Said
-saidBy t s =
-    record { v = valueIn (t .v) s; scheme = valueIn (t .coding) s; version = valueIn (t .version) s; others = t .others; passable = t .passable }
+unfoldable pub saidOfTag : Tag → List ℕ → Said
+saidOfTag t s =
+    record { v = valueGiven (t .v) s; scheme = valueGiven (t .coding) s; version = valueGiven (t .version) s; others = t .others; passable = t .passable }
 
 unfoldable pub elementIn : ℕ → ℕ → List ℕ → ℕ
 elementIn from len s = elementNo (partOf s from len)
 
 -- "An empty tag is a start and an end in one item."; white text and comments say nothing
 unfoldable pub signsBy : Item → List ℕ → List (Sign Said)
-signsBy (Start t) s = Opens (saidBy t s) (elementIn 1 (t .name) s) ∷ []
-signsBy (Empty t) s = Opens (saidBy t s) (elementIn 1 (t .name) s) ∷ Closes (elementIn 1 (t .name) s) ∷ []
+signsBy (Start t) s = Opens (saidOfTag t s) (elementIn 1 (t .name) s) ∷ []
+signsBy (Empty t) s = Opens (saidOfTag t s) (elementIn 1 (t .name) s) ∷ Closes (elementIn 1 (t .name) s) ∷ []
 signsBy (End n e) s = Closes (elementIn 2 n s) ∷ []
 signsBy (Text white e) s = []
 signsBy (Comment e) s = []
-signsBy (Refused p) s = []
+signsBy (Unreadable p) s = []
 
 unfoldable pub signsOf : List Placed → List (Sign Said)
 signsOf [] = []
@@ -48,7 +48,7 @@ allowed (Empty t) = true
 allowed (End n e) = true
 allowed (Text white e) = white
 allowed (Comment e) = true
-allowed (Refused p) = false
+allowed (Unreadable p) = false
 
 unfoldable pub AllAllowed : List Placed → Type 0
 AllAllowed [] = Unit {0}
@@ -63,7 +63,7 @@ pub record Spells (doc : List ℕ) (kind : ℕ) (c : Trees Said) : Type 0 where
 
 -- The tags of two documents say the same: they differ in white text, in comments, in quotes, in the order of attributes, in white space in tags, or in an empty
 -- tag that stands for a start tag and its end.
-pub record Alike (x y : List ℕ) : Type 0 where
+pub record SpellAlike (x y : List ℕ) : Type 0 where
   pub from : ℕ
   pub begins : begin x ≡ From from
   pub items : AllAllowed (itemsFrom x from)

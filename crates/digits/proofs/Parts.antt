@@ -16,8 +16,8 @@ use Rattle.characters.specs.Says.{allChars}
 use Rattle.attributes.specs.Names.{nameStart, nameByte, white}
 use Rattle.attributes.specs.Attribute.{partOf}
 use Rattle.attributes.proofs.Short.{byte-drop}
-use Rattle.tags.specs.Known.{absent, noneKnown, noted}
-use Rattle.tags.specs.Tail.{Attr, Ends, closed, torn, ends, keep, twice}
+use Rattle.tags.specs.Known.{absent, noneKnown, withAttribute}
+use Rattle.tags.specs.Tail.{Attr, Ends, closed, torn, ends, keptOf, twice}
 use Rattle.tags.specs.declared.Span.{Span}
 use Rattle.tags.specs.declared.Known.{Known}
 use Rattle.items.specs.Comment.{commentTo, comment}
@@ -25,7 +25,7 @@ use Rattle.items.specs.Text.{textTo, textItem}
 use Rattle.items.specs.Item.{tagOf, tagItem, startTag, endTag, endName, endClose, commentItem, commentTag, item}
 use Rattle.items.specs.declared.Tag.{Tag}
 use Rattle.items.specs.declared.Item.the-variants.{End}
-use Rattle.digits.specs.Items.{InSpan, Stands, Apart, IsTag, ValuesLaid, TagLaid, Laid, valueIn, PartsSame}
+use Rattle.digits.specs.Items.{InSpan, Stands, Disjoint, IsTag, ValuesLaid, TagLaid, Laid, valueIn, PartsSame}
 use Rattle.trims.proofs.Low.{by-test}
 use Rattle.digits.proofs.Near.{part-near}
 use Rattle.digits.proofs.Spans.{Within, ends-ordered}
@@ -54,8 +54,8 @@ module _ (n from : ℕ) (k : Known) (name : List ℕ) (a : Span) (low : 1 + n �
   apart : (x : Span) → Stands n (suc from) x → (i : ℕ) → InSpan i a → InSpan i x → ⊥
   apart x s i p q = let e = ended n (suc from) x s i q in omega (arith, p .0, e)
 
-  noted-kept : Kept n (suc (a .start + a .len)) (noted k name a)
-  unfolding noted
+  noted-kept : Kept n (suc (a .start + a .len)) (withAttribute k name a)
+  unfolding withAttribute
   noted-kept =
       by-cond P (same name (text "v"))
       (record { v = new; coding = old (k .coding) (r .coding); version = old (k .version) (r .version); v-coding = apart (k .coding) (r .coding); v-version = apart (k .version) (r .version) })
@@ -68,8 +68,8 @@ module _ (n from : ℕ) (k : Known) (name : List ℕ) (a : Span) (low : 1 + n �
       P : Known → Type 0
       P = Kept n (suc (a .start + a .len))
 
-keep-kept : (n from to : ℕ) (k : Known) (more : List Attr) → 1 + n ≤ from → from < to → Within from to more → Kept n (suc from) k → Kept n to (keep k more)
-unfolding keep Within
+keep-kept : (n from to : ℕ) (k : Known) (more : List Attr) → 1 + n ≤ from → from < to → Within from to more → Kept n (suc from) k → Kept n to (keptOf k more)
+unfolding keptOf Within
 keep-kept n from to k [] l h w r =
     record {
       v = stands-on n (suc from) to (k .v) h (r .v);
@@ -79,7 +79,7 @@ keep-kept n from to k [] l h w r =
       v-version = r .v-version;
     }
 keep-kept n from to k (a ∷ more) l h w r =
-    keep-kept n (a .value .start + a .value .len) to (noted k (a .name) (a .value)) more (omega (arith, w .0)) (w .1) (w .2)
+    keep-kept n (a .value .start + a .value .len) to (withAttribute k (a .name) (a .value)) more (omega (arith, w .0)) (w .1) (w .2)
     (noted-kept n from k (a .name) (a .value) l (w .0) r)
 
 none-kept : (n to : ℕ) → Kept n to noneKnown
@@ -87,7 +87,7 @@ unfolding noneKnown absent
 none-kept n to =
     record { v = inl (refl, refl); coding = inl (refl, refl); version = inl (refl, refl); v-coding = off; v-version = off }
   where
-    off : Apart (record { start = 0; len = 0 }) (record { start = 0; len = 0 })
+    off : Disjoint (record { start = 0; len = 0 }) (record { start = 0; len = 0 })
     off i p q = omega (arith, p .1)
 
 -- a name has a byte
@@ -114,7 +114,7 @@ module _ (before : ℕ) (s : List ℕ) where
   ends-laid n torn z q = tt
   ends-laid n (closed more empty e) z q = by-cond Laid (twice more) tt (by-cond Laid empty laid laid)
     where
-      laid : TagLaid (tagOf n (keep noneKnown more) e)
+      laid : TagLaid (tagOf n (keptOf noneKnown more) e)
       laid =
           let o = ends-ordered (drop (1 + n) s) 0 (1 + n) more empty e q in
           let k = keep-kept n (1 + n + 0) e noneKnown more (omega arith) (o .end) (o .values) (none-kept n _) in
@@ -166,7 +166,7 @@ value-same t x s s′ stands long h = part-near s s′ (x .start) (x .len) long 
 
 module _ (t : Tag) (laid : TagLaid t) (s s′ : List ℕ) (long : length s ≡ length s′)
     (h : (i : ℕ) → i < t .len → (byte s i ≡ byte s′ i) ⊎ InSpan i (t .v)) where
-  other : (x : Span) → Stands (t .name) (t .len) x → Apart (t .v) x → valueIn s x ≡ valueIn s′ x
+  other : (x : Span) → Stands (t .name) (t .len) x → Disjoint (t .v) x → valueIn s x ≡ valueIn s′ x
   other x stands apart = value-same t x s s′ stands long (λ i p q. ⊎-elim (λ e. e) (λ e. absurd (apart i e q)) (h i p))
 
   behind : (i : ℕ) → i < 1 + t .name → InSpan i (t .v) → ⊥

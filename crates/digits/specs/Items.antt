@@ -10,7 +10,7 @@ use Rattle.tags.specs.declared.Span.{Span}
 use Rattle.items.specs.Item.{itemEnd}
 use Rattle.items.specs.declared.Tag.{Tag}
 use Rattle.items.specs.declared.Item.{Item}
-use Rattle.items.specs.declared.Item.the-variants.{Start, Empty, End, Text, Comment, Refused}
+use Rattle.items.specs.declared.Item.the-variants.{Start, Empty, End, Text, Comment, Unreadable}
 
 abbrev pub InSpan : ℕ → Span → Type 0
 InSpan i x = (x .start ≤ i) × (i < x .start + x .len)
@@ -22,7 +22,7 @@ InV (Empty t) i = InSpan i (t .v)
 InV (End n e) i = ⊥
 InV (Text w e) i = ⊥
 InV (Comment e) i = ⊥
-InV (Refused p) i = ⊥
+InV (Unreadable p) i = ⊥
 
 -- a value's bytes
 abbrev pub valueIn : List ℕ → Span → List ℕ
@@ -35,7 +35,7 @@ JoinsV R (Empty t) s s′ = R (valueIn s (t .v)) (valueIn s′ (t .v))
 JoinsV R (End n e) s s′ = Unit {0}
 JoinsV R (Text w e) s s′ = Unit {0}
 JoinsV R (Comment e) s s′ = Unit {0}
-JoinsV R (Refused p) s s′ = Unit {0}
+JoinsV R (Unreadable p) s s′ = Unit {0}
 
 -- s and s′ are as long as each other; in the item x at their front, and in the byte behind it, they differ in its `v` alone, and there as R says
 pub record SameButV (R : List ℕ → List ℕ → Type 0) (x : Item) (s s′ : List ℕ) : Type 0 where
@@ -48,8 +48,8 @@ abbrev pub Stands : ℕ → ℕ → Span → Type 0
 Stands name len x = ((x .start ≡ 0) × (x .len ≡ 0)) ⊎ ((3 + name < x .start) × (x .start + x .len < len))
 
 -- two values that share no place
-abbrev pub Apart : Span → Span → Type 0
-Apart x y = (i : ℕ) → InSpan i x → InSpan i y → ⊥
+abbrev pub Disjoint : Span → Span → Type 0
+Disjoint x y = (i : ℕ) → InSpan i x → InSpan i y → ⊥
 
 -- the item is this tag
 abbrev pub IsTag : Item → Tag → Type 0
@@ -60,8 +60,8 @@ pub record ValuesLaid (name len : ℕ) (x y z : Span) : Type 0 where
   pub v : Stands name len x
   pub coding : Stands name len y
   pub version : Stands name len z
-  pub v-coding : Apart x y
-  pub v-version : Apart x z
+  pub v-coding : Disjoint x y
+  pub v-version : Disjoint x z
 
 -- where the parts of a tag stand
 pub record TagLaid (t : Tag) : Type 0 where
@@ -75,7 +75,7 @@ Laid (Empty t) = TagLaid t
 Laid (End n e) = 2 + n < e
 Laid (Text w e) = Unit {0}
 Laid (Comment e) = Unit {0}
-Laid (Refused p) = Unit {0}
+Laid (Unreadable p) = Unit {0}
 
 -- what a tag says in s and in s′ is the same, its `v` left aside
 pub record PartsSame (t : Tag) (s s′ : List ℕ) : Type 0 where

@@ -42,8 +42,8 @@ pub enum Item {
     // whether it is white space only, and how many bytes it takes
     Text(bool, usize),
     Comment(usize),
-    // unreadable: its place
-    Refused(usize),
+    // its place
+    Unreadable(usize),
 }
 
 // How far a comment reaches, or that it is unreadable.
@@ -73,11 +73,11 @@ fn comment_tag(before: usize, s: &[u8]) -> Item
         if byte_at(s, 3) == 0x2D {
             return match comment_at(rest(s, 4)) {
                 Reach::Upto(e) => Item::Comment(4 + e),
-                Reach::Unread => Item::Refused(before),
+                Reach::Unread => Item::Unreadable(before),
             };
         }
     }
-    Item::Refused(before)
+    Item::Unreadable(before)
 }
 
 fn any_text(before: usize, s: &[u8]) -> Item
@@ -86,7 +86,7 @@ fn any_text(before: usize, s: &[u8]) -> Item
 {
     let n = first_at(b"<", s);
     if n == 0 {
-        return Item::Refused(before);
+        return Item::Unreadable(before);
     }
     if white_len(s) == n {
         return Item::Text(true, n);
@@ -94,14 +94,14 @@ fn any_text(before: usize, s: &[u8]) -> Item
     let t = front(s, n);
     if all_chars(t) {
         if first_at(b"&", t) < n {
-            return Item::Refused(before);
+            return Item::Unreadable(before);
         }
         if first_at(b"]]>", t) < n {
-            return Item::Refused(before);
+            return Item::Unreadable(before);
         }
         return Item::Text(false, n);
     }
-    Item::Refused(before)
+    Item::Unreadable(before)
 }
 
 // White space up to a tag, which nearly every text is, is told in one walk.
@@ -156,7 +156,7 @@ fn start_tag(before: usize, s: &[u8]) -> Item
         match tail_at(s, b) {
             Tail::Shut(k, empty, e) => {
                 if is_repeated(k, s, b) {
-                    return Item::Refused(before);
+                    return Item::Unreadable(before);
                 }
                 let t = tag_of(n, k, e);
                 if empty {
@@ -164,10 +164,10 @@ fn start_tag(before: usize, s: &[u8]) -> Item
                 }
                 return Item::Start(t);
             }
-            Tail::Breaks => return Item::Refused(before),
+            Tail::Breaks => return Item::Unreadable(before),
         }
     }
-    Item::Refused(before)
+    Item::Unreadable(before)
 }
 
 fn end_tag(before: usize, s: &[u8]) -> Item
@@ -182,7 +182,7 @@ fn end_tag(before: usize, s: &[u8]) -> Item
             return Item::End(n, e + 1);
         }
     }
-    Item::Refused(before)
+    Item::Unreadable(before)
 }
 
 // The item at the front of s, the part of the document after its first `before` bytes.

@@ -110,7 +110,7 @@ fn show_item(before: usize, s: &[u8]) -> usize
             show_comment(n);
             n
         }
-        Item::Refused(place) => {
+        Item::Unreadable(place) => {
             show_refused(place);
             0
         }
@@ -137,7 +137,7 @@ fn show_document(doc: &[u8]) {
             show_number(at);
             show_items(doc, at);
         }
-        Begin::Unreadable(at) => {
+        Begin::Misdeclared(at) => {
             lines::print_text(b"unreadable");
             show_number(at);
             show_items(doc, at);

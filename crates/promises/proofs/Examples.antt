@@ -11,15 +11,15 @@ use Rattle.characters.specs.Utf8.{seqLen, control, single, charAt}
 use Rattle.characters.specs.Says.{saidBy, saidAt, saysAfter, says}
 use Rattle.attributes.specs.Names.{nameStart, nameByte, white}
 use Rattle.attributes.specs.Attribute.{quote, fit, valueNext, valueOver, value, openingFrom, opening, attributeEnd, attributeQuote, attributeName, attribute, pieceAfter, piece, partOf}
-use Rattle.tags.specs.Known.{absent, noneKnown, oneMore as anotherKnown, noted as notedKnown}
-use Rattle.tags.specs.Tail.{onto, endsAfter, ends, keep, named, twice}
+use Rattle.tags.specs.Known.{absent, noneKnown, upToTwo as anotherKnown, withAttribute as notedKnown}
+use Rattle.tags.specs.Tail.{onto, endsAfter, ends, keptOf, named, twice}
 use Rattle.items.specs.Item.{endClose, endName, endTag, tagOf, tagItem, startTag, item}
 use Rattle.prolog.specs.Prolog.{markLen, beginAfter, begin}
 use Rattle.pictures.specs.Picture.{capital, capitalOrDigit, firstThree, digit, takes, held, fitsOf}
-use Rattle.pictures.specs.Number.{numberOf, numberAt}
-use Rattle.trims.specs.Trim.{space, dropLead, keep as keepEnd, dropTrail, dropped}
-use Rattle.numbers.specs.Digits.{digits, numberFrom, ended as nothingAfter, onlyDigits}
-use Rattle.numbers.specs.Amount.{minus, unsigned, fractionForm, unsignedForm, amountForm, filled, thousandths, signed, amountOf}
+use Rattle.pictures.specs.Number.{shownNumber, numberAt}
+use Rattle.trims.specs.Trim.{space, dropLead, keptBefore as keepEnd, dropTrail, dropped}
+use Rattle.numbers.specs.Digits.{digits, numberFrom, nothingLeft as nothingAfter, onlyDigits}
+use Rattle.numbers.specs.Amount.{minus, unsigned, fractionForm, unsignedForm, writtenAmount, filled, thousandths, signed, amountOf}
 use Rattle.numbers.specs.Number.{numberForm, atMostNine, numberWithin, numberOf as countOf}
 use Rattle.codes.specs.Lists.{lists, codesOf, listed}
 use Rattle.forms.specs.Forms.{identification, marketPartner, resourceObject, quarterHour, fixedVersion}
@@ -28,14 +28,14 @@ use Rattle.times.specs.Times.{minuteOn, minuteAt, isMinute, dateTime, between, 
 use Rattle.times.specs.Sundays.{changes, marchSunday, octoberSunday}
 use Rattle.times.specs.Midnight.{yearOf, inSummer, startOfDay}
 use Rattle.times.specs.Periods.{costPeriod, quarterHours, deliveryDay, dayPeriod}
-use Rattle.rules.specs.Rules.{versionBy, version, amountBy, amount, judgeIntervalBy, judgeInterval, positionFits, judgePositionBy, judgePosition, judge, unless, formRefusal, periodFits, judgePeriodBy, judgePeriod}
+use Rattle.rules.specs.Rules.{versionBy, isVersion, amountBy, amount, judgeIntervalBy, judgeInterval, positionFits, judgePositionBy, judgePosition, judge, unless, formRefusal, periodFits, judgePeriodBy, judgePeriod}
 use Rattle.elements.specs.Names.{names, numberIn, elementNo}
 use Rattle.structure.specs.Rows.{nameOf, parentOf, required, repeated, nextIn, endsIn, startOf, endAt, endOf, endsAtOnce, closesDocument, overOf}
 use Rattle.columns.specs.Columns.{collapsed, formOf, schemeOf, roleOf}
 use Rattle.guideline.specs.Kinds.{noKind, kindOne, kindTwo, kindAt, withinMost, takesAnother, kindOf, hasEnough}
 use Rattle.guideline.specs.Rows.{beschaffungsanforderung, kostenblatt, rowsOf}
 use Rattle.states.specs.Attributes.{valueOf, schemeRefusal, least, alsoScheme, there, agree, asksV, asksScheme, noOthers, attributesFit, judgeTag}
-use Rattle.states.specs.Moves.{oneMore, oneSeries, oneInterval, oneOriginal, lastPos, covering, closedAt, endRefusal, endedAt as tagEnded, ended, begun, heldOf, cutShort, tooMany, noRoom, halfOriginals, valuesJudged, judgedAt, startJudged, placed, kept, entered, entryOf, startedBy, startedAt, started, countRefusal, moved, rootKind, kindTold, step}
+use Rattle.states.specs.Moves.{oneMore, oneSeries, oneInterval, oneOriginal, lastPos, covering, closedAt, endRefusal, afterEndAt as tagEnded, afterEnd, begun, heldOf, cutShort, tooMany, noRoom, halfOriginals, valuesJudged, judgedAt, startJudged, atRow, kept, entered, entryOf, startedBy, startedAt, started, countRefusal, moved, rootKind, kindTold, step}
 use Rattle.notes.specs.Note.{groupsIn, flat, wrote, left}
 use Rattle.reader.specs.Items.{itemsAfter, itemsFrom}
 use Rattle.series.specs.Row.{withView, view}
@@ -55,17 +55,17 @@ use Rattle.promises.proofs.Answers.{accepted-whole}
 computed : (allPass examples ≡ true) × (readOf sheet 25 4 4 16 ≡ sheetOutcome)
 unfolding byte run same begins walk seqLen control single charAt saidBy saidAt saysAfter says nameStart nameByte white quote fit valueNext valueOver
     value openingFrom opening attributeEnd attributeQuote attributeName attribute pieceAfter piece partOf absent noneKnown anotherKnown
-    notedKnown onto endsAfter ends keep named twice endClose endName endTag tagOf tagItem startTag item markLen beginAfter begin capital
-    capitalOrDigit firstThree digit takes fitsOf numberOf numberAt space dropLead keepEnd dropTrail dropped digits numberFrom nothingAfter
-    onlyDigits minus unsigned fractionForm unsignedForm amountForm filled thousandths signed amountOf numberForm atMostNine numberWithin countOf
+    notedKnown onto endsAfter ends keptOf named twice endClose endName endTag tagOf tagItem startTag item markLen beginAfter begin capital
+    capitalOrDigit firstThree digit takes fitsOf shownNumber numberAt space dropLead keepEnd dropTrail dropped digits numberFrom nothingAfter
+    onlyDigits minus unsigned fractionForm unsignedForm writtenAmount filled thousandths signed amountOf numberForm atMostNine numberWithin countOf
     lists codesOf listed held identification marketPartner resourceObject quarterHour fixedVersion leap monthDays realDate daysBefore leapDay
     dayNumber dayOf minuteOn minuteAt isMinute dateTime between interval costPeriod quarterHours changes marchSunday
-    octoberSunday yearOf inSummer startOfDay deliveryDay dayPeriod versionBy version amountBy
+    octoberSunday yearOf inSummer startOfDay deliveryDay dayPeriod versionBy isVersion amountBy
     amount judgeIntervalBy judgeInterval positionFits judgePositionBy judgePosition judge unless formRefusal periodFits judgePeriodBy
     judgePeriod names numberIn elementNo nameOf parentOf required repeated nextIn endsIn startOf endAt endOf endsAtOnce closesDocument overOf
     collapsed formOf schemeOf roleOf noKind kindOne kindTwo kindAt withinMost takesAnother kindOf hasEnough beschaffungsanforderung kostenblatt rowsOf valueOf schemeRefusal least
     alsoScheme there agree asksV asksScheme noOthers attributesFit judgeTag oneMore oneSeries oneInterval oneOriginal lastPos covering closedAt
-    endRefusal tagEnded ended begun heldOf cutShort tooMany noRoom halfOriginals valuesJudged judgedAt startJudged placed kept entered entryOf
+    endRefusal tagEnded afterEnd begun heldOf cutShort tooMany noRoom halfOriginals valuesJudged judgedAt startJudged atRow kept entered entryOf
     startedBy startedAt started countRefusal moved rootKind kindTold step groupsIn flat wrote left itemsAfter itemsFrom quoted
     withView view thousandthsOf used usedIn usedWith spanOf broughtBy fieldAfter seriesWith positionsWith
     amountsWith seriesAfter positionsAfter amountsAfter usedBefore acceptedAt blank roomOf refusedAt

@@ -11,8 +11,7 @@ use lib.Seq.{drop-drop}
 use Rattle.lists.proofs.Cases.{never}
 use Rattle.items.specs.Item.{item, itemEnd}
 use Rattle.items.specs.declared.Item.{Item}
-use Rattle.items.specs.declared.Item.the-variants.{Start, Empty, End, Text, Comment}
-use Rattle.items.specs.declared.Item.the-variants.{Refused as Unreadable}
+use Rattle.items.specs.declared.Item.the-variants.{Start, Empty, End, Text, Comment, Unreadable}
 use Rattle.items.proofs.Promises.{Placed as At, item-placed}
 use Rattle.guideline.specs.Rows.{everyRow, rowsIn}
 use Rattle.guideline.proofs.Each.{rows-in}

@@ -5,7 +5,7 @@ use mathlib.Core.Bool.{Bool, true, false}
 use lib.ListN.{drop}
 use Rattle.items.specs.Item.{item, itemEnd}
 use Rattle.items.specs.declared.Item.{Item}
-use Rattle.items.specs.declared.Item.the-variants.{Start, Empty, End, Text, Comment, Refused}
+use Rattle.items.specs.declared.Item.the-variants.{Start, Empty, End, Text, Comment, Unreadable}
 
 -- an item, its place, and the part of the document that begins with it
 pub record Placed : Type 0 where
@@ -32,4 +32,4 @@ passed (Empty t) = false
 passed (End n e) = false
 passed (Text white e) = white
 passed (Comment e) = true
-passed (Refused p) = false
+passed (Unreadable p) = false

@@ -11,7 +11,7 @@ use Rattle.characters.specs.Says.{says}
 use Rattle.attributes.specs.Attribute.{partOf}
 use Rattle.tags.specs.declared.Span.{Span}
 use Rattle.items.specs.declared.Item.{Item}
-use Rattle.items.specs.declared.Item.the-variants.{Start, Empty, End, Text, Comment, Refused}
+use Rattle.items.specs.declared.Item.the-variants.{Start, Empty, End, Text, Comment, Unreadable}
 use Rattle.trims.specs.Trim.{space, dropped}
 use Rattle.numbers.specs.Amount.{amountOf}
 use Rattle.numbers.specs.declared.Amount.the-variants.{Thousandths, NotAmount}
@@ -33,7 +33,7 @@ spanOf (Empty t) = t .v
 spanOf (End n e) = record { start = 0; len = 0 }
 spanOf (Text w e) = record { start = 0; len = 0 }
 spanOf (Comment e) = record { start = 0; len = 0 }
-spanOf (Refused p) = record { start = 0; len = 0 }
+spanOf (Unreadable p) = record { start = 0; len = 0 }
 
 -- the bytes between its quotes; s is the part of the document that begins with the item
 unfoldable pub quoted : Span → List ℕ → List ℕ

@@ -63,7 +63,7 @@ fn item_len(item: Item) -> usize
         Item::End(_, n) => n,
         Item::Text(_, n) => n,
         Item::Comment(n) => n,
-        Item::Refused(_) => 1,
+        Item::Unreadable(_) => 1,
     }
 }
 
@@ -77,7 +77,7 @@ fn is_passed(item: Item) -> bool
         Item::End(_, _) => false,
         Item::Text(white, _) => white,
         Item::Comment(_) => true,
-        Item::Refused(_) => false,
+        Item::Unreadable(_) => false,
     }
 }
 
@@ -184,7 +184,7 @@ fn read_items(
     while at < doc.len() {
         let s = rest(doc, at);
         let item = item_at(at, s);
-        if let Item::Refused(p) = item {
+        if let Item::Unreadable(p) = item {
             return refused_at(2, p as u32, st);
         }
         if is_passed(item) {
@@ -211,7 +211,7 @@ fn read_all(doc: &[u8], series: &mut [u32], positions: &mut [u32], amounts: &mut
 {
     match first_item(doc) {
         Begin::From(n) => read_items(doc, n, series, positions, amounts),
-        Begin::Unreadable(p) => refused_at(2, p as u32, State::begin()),
+        Begin::Misdeclared(p) => refused_at(2, p as u32, State::begin()),
     }
 }
 

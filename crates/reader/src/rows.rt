@@ -65,7 +65,7 @@ pub(crate) fn span_of(item: Item) -> Span
         Item::End(_, _) => Span { start: 0, len: 0 },
         Item::Text(_, _) => Span { start: 0, len: 0 },
         Item::Comment(_) => Span { start: 0, len: 0 },
-        Item::Refused(_) => Span { start: 0, len: 0 },
+        Item::Unreadable(_) => Span { start: 0, len: 0 },
     }
 }
 

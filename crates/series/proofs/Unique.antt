@@ -4,9 +4,9 @@ use mathlib.Core.Path.{_≡_}
 use mathlib.Core.List.{List}
 use Rattle.lists.proofs.Unique.{one}
 use Rattle.series.specs.declared.Field.{Field}
-use Rattle.series.specs.Row.{rowsIn, withField, withView, view}
+use Rattle.series.specs.Row.{roomFor, withField, withView, view}
 
-pub rows-in-one : (n : ℕ) {r r′ : ℕ} → r ≡ rowsIn n → r′ ≡ rowsIn n → r ≡ r′
+pub rows-in-one : (n : ℕ) {r r′ : ℕ} → r ≡ roomFor n → r′ ≡ roomFor n → r ≡ r′
 rows-in-one n = one
 
 pub set-field-one : (t : List ℕ) (row : ℕ) (f : Field) (n : ℕ) {r r′ : List ℕ} → r ≡ withField t row f n → r′ ≡ withField t row f n → r ≡ r′

@@ -38,8 +38,8 @@ abbrev pub cellsOf : ℕ → ℕ
 cellsOf n = rowWidth * n
 
 -- "Room becomes the table length divided by 12."
-abbrev pub rowsIn : ℕ → ℕ
-rowsIn n = n / rowWidth
+abbrev pub roomFor : ℕ → ℕ
+roomFor n = n / rowWidth
 
 -- the cell where a field of row i begins, rows being counted from 0
 abbrev pub cellAt : ℕ → Field → ℕ

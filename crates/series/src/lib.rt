@@ -4,7 +4,7 @@ use tables::set_number;
 ghost use mathlib.Core.Path.{_≡_};
 ghost use Prim.Native.Nat.{_≤_, _<_};
 ghost use lib.ListN.{getD};
-ghost use Rattle.series.specs.Row.{cellOf, rowWidth, rowsIn, cellAt, withField, withView, view};
+ghost use Rattle.series.specs.Row.{cellOf, rowWidth, roomFor, cellAt, withField, withView, view};
 
 // The fields of a row, in their order. The first five are views: start and length in two cells.
 pub enum Field {
@@ -22,7 +22,7 @@ pub const WIDTH: usize = 12;
 
 // How many rows a table of n cells has room for. Ruled out: a row that runs past the table.
 pub fn rows_in(n: usize) -> usize
-    ensures { λ r. ⌜ r ≡ rowsIn n ⌝ }
+    ensures { λ r. ⌜ r ≡ roomFor n ⌝ }
 {
     n / WIDTH
 }

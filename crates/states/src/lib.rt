@@ -47,7 +47,7 @@ ghost use lib.ListN.{getD};
 ghost use Rattle.columns.specs.Columns.{roleOf, rootRole};
 ghost use Rattle.states.specs.Attributes.{there, agree, asksV, asksScheme, noOthers, attributesFit, valueOf, schemeRefusal, least, judgeTag};
 ghost use Rattle.states.specs.Act.{actOf, nameIn};
-ghost use Rattle.states.specs.Moves.{oneMore, cutShort, begun, heldOf, tooMany, noRoom, halfOriginals, valuesJudged, startJudged, entered, entryOf, started, closedAt, countRefusal, endRefusal, ended, moved, kindTold, stepBy};
+ghost use Rattle.states.specs.Moves.{oneMore, cutShort, begun, heldOf, tooMany, noRoom, halfOriginals, valuesJudged, startJudged, entered, entryOf, started, closedAt, countRefusal, endRefusal, afterEnd, moved, kindTold, stepBy};
 
 pub struct State {
     // 0 before the root
@@ -336,7 +336,7 @@ fn act_of(item: Item) -> Act
             Act::Refuses(3)
         }
         Item::Comment(_) => Act::Passes,
-        Item::Refused(_) => Act::Refuses(2),
+        Item::Unreadable(_) => Act::Refuses(2),
     }
 }
 
@@ -350,7 +350,7 @@ fn name_in(item: Item, s: &[u8]) -> &[u8]
         Item::End(n, _) => part(s, 2, n),
         Item::Text(_, _) => part(s, 0, 0),
         Item::Comment(_) => part(s, 0, 0),
-        Item::Refused(_) => part(s, 0, 0),
+        Item::Unreadable(_) => part(s, 0, 0),
     }
 }
 
@@ -578,7 +578,7 @@ impl State {
 
     // An end tag whose name has the number `name`.
     fn ended(self, rows: &[usize], name: usize) -> Step
-        ensures { λ r. ⌜ r ≡ ended self (now (rows .entry)) name ⌝ }
+        ensures { λ r. ⌜ r ≡ afterEnd self (now (rows .entry)) name ⌝ }
     {
         match end_after(rows, self.row, self.inside, name) {
             Due::Row(r) => {
@@ -616,7 +616,7 @@ impl State {
                 Item::End(_, _) => 0,
                 Item::Text(_, _) => 0,
                 Item::Comment(_) => 0,
-                Item::Refused(_) => 0,
+                Item::Unreadable(_) => 0,
             };
         }
         self.kind

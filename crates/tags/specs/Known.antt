@@ -20,16 +20,16 @@ unfoldable pub noneKnown : Known
 noneKnown = record { v = absent; coding = absent; version = absent; others = false; passable = true; many = 0 }
 
 -- none, one, or more than one
-unfoldable pub oneMore : ℕ → ℕ
-oneMore many = cond (ltb many 2) (many + 1) many
+unfoldable pub upToTwo : ℕ → ℕ
+upToTwo many = cond (ltb many 2) (many + 1) many
 
 -- the attribute's name is one of the guideline's, or another
-unfoldable pub noted : Known → List ℕ → Span → Known
-noted k name value =
+unfoldable pub withAttribute : Known → List ℕ → Span → Known
+withAttribute k name value =
     cond (same name (text "v"))
-    (record { v = value; coding = k .coding; version = k .version; others = k .others; passable = k .passable; many = oneMore (k .many) })
+    (record { v = value; coding = k .coding; version = k .version; others = k .others; passable = k .passable; many = upToTwo (k .many) })
     (cond (same name (text "codingScheme"))
-    (record { v = k .v; coding = value; version = k .version; others = k .others; passable = k .passable; many = oneMore (k .many) })
+    (record { v = k .v; coding = value; version = k .version; others = k .others; passable = k .passable; many = upToTwo (k .many) })
     (cond (same name (text "DtdBDEWNachrichtenVersion"))
-    (record { v = k .v; coding = k .coding; version = value; others = k .others; passable = k .passable; many = oneMore (k .many) })
-    (record { v = k .v; coding = k .coding; version = k .version; others = true; passable = cond (passedOver name) (k .passable) false; many = oneMore (k .many) })))
+    (record { v = k .v; coding = k .coding; version = value; others = k .others; passable = k .passable; many = upToTwo (k .many) })
+    (record { v = k .v; coding = k .coding; version = k .version; others = true; passable = cond (passedOver name) (k .passable) false; many = upToTwo (k .many) })))

@@ -12,7 +12,7 @@ ghost use Prim.Native.Nat.{_+_, _≤_};
 ghost use lib.ListN.{length};
 ghost use Rattle.slices.specs.Same.{same};
 ghost use Rattle.slices.specs.Text.{text};
-ghost use Rattle.tags.specs.Known.{passedOver, oneMore, noted, noneKnown};
+ghost use Rattle.tags.specs.Known.{passedOver, upToTwo, withAttribute, noneKnown};
 ghost use Rattle.tags.specs.First.{vUse, firstKnown};
 ghost use Rattle.tags.specs.Tail.{ends, tail, tailUse, tailValue};
 
@@ -47,7 +47,7 @@ pub struct Known {
 }
 
 fn one_more(many: usize) -> usize
-    ensures { λ r. ⌜ r ≡ oneMore many ⌝ }
+    ensures { λ r. ⌜ r ≡ upToTwo many ⌝ }
 {
     if many < 2 { many + 1 } else { many }
 }
@@ -81,7 +81,7 @@ impl Known {
 
     // `v` and no other.
     fn only_v(value: Span) -> Known
-        ensures { λ r. ⌜ r ≡ noted noneKnown (text "v") value ⌝ }
+        ensures { λ r. ⌜ r ≡ withAttribute noneKnown (text "v") value ⌝ }
     {
         let absent = Span { start: 0, len: 0 };
         Known {
@@ -96,7 +96,7 @@ impl Known {
 
     // Ruled out: a value kept under another name; an attribute `vv` or `V` taken for `v`; `xsi` passed over.
     pub fn noted(mut self, name: &[u8], value: Span) -> Known
-        ensures { λ r. ⌜ r ≡ noted self (now (name .entry)) value ⌝ }
+        ensures { λ r. ⌜ r ≡ withAttribute self (now (name .entry)) value ⌝ }
     {
         self.many = one_more(self.many);
         if is_v(name) {

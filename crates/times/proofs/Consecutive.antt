@@ -9,7 +9,7 @@ use borrow.Author.Tests.{leb-true, le-leb, ltb-true, ltb-false, eqb-true, eqb-fa
 use Rattle.lists.proofs.Cases.{by-cond}
 use Rattle.times.specs.Calendar.{leap, monthDays, realDate, daysBefore, leapDay, dayNumber}
 use Rattle.lists.proofs.Below.{every, below}
-use Rattle.times.specs.After.{Date, after, isReal, dateNumber}
+use Rattle.times.specs.After.{Date, dayAfter, isReal, dateNumber}
 
 pub first-day : dayNumber 2000 1 1 ≡ 0
 unfolding leap daysBefore leapDay dayNumber
@@ -161,8 +161,8 @@ within-year y m p q =
 by-date : (P : Date → Type 0) (x : Date) → isReal x ≡ true
     → (Real (x .year) (x .month) (x .day) → x .day < monthDays (x .year) (x .month) → P (record { year = x .year; month = x .month; day = x .day + 1 }))
     → (Real (x .year) (x .month) (x .day) → x .day ≡ monthDays (x .year) (x .month) → x .month < 12 → P (record { year = x .year; month = x .month + 1; day = 1 }))
-    → (Real (x .year) (x .month) (x .day) → x .month ≡ 12 → x .day ≡ 31 → P (record { year = x .year + 1; month = 1; day = 1 })) → P (after x)
-unfolding after
+    → (Real (x .year) (x .month) (x .day) → x .month ≡ 12 → x .day ≡ 31 → P (record { year = x .year + 1; month = 1; day = 1 })) → P (dayAfter x)
+unfolding dayAfter
 by-date P x r same-month next first = go (ltb (x .day) (monthDays (x .year) (x .month))) (ltb (x .month) 12) refl refl (real (x .year) (x .month) (x .day) r)
   where
     go : (t u : Bool) → ltb (x .day) (monthDays (x .year) (x .month)) ≡ t → ltb (x .month) 12 ≡ u → Real (x .year) (x .month) (x .day)
@@ -177,7 +177,7 @@ by-date P x r same-month next first = go (ltb (x .day) (monthDays (x .year) (x .
         let n = ap (monthDays (x .year)) e ∙ december (x .year) in
         first a e (omega (arith, l, a .day-to, n))
 
-pub consecutive : (x : Date) → isReal x ≡ true → dateNumber (after x) ≡ dateNumber x + 1
+pub consecutive : (x : Date) → isReal x ≡ true → dateNumber (dayAfter x) ≡ dateNumber x + 1
 consecutive x r =
     by-date (λ z. dateNumber z ≡ dateNumber x + 1) x r
     (λ a l. next-day (x .year) (x .month) (x .day) (a .day-from))
@@ -185,7 +185,7 @@ consecutive x r =
     (λ a e f. rw (e, f) (next-year (x .year) (a .since)))
 
 -- every real date but the last of 2099 has a real date after it
-pub after-real : (x : Date) → isReal x ≡ true → (x .year ≡ 2099 → x .month ≡ 12 → x .day ≡ 31 → ⊥) → isReal (after x) ≡ true
+pub after-real : (x : Date) → isReal x ≡ true → (x .year ≡ 2099 → x .month ≡ 12 → x .day ≡ 31 → ⊥) → isReal (dayAfter x) ≡ true
 after-real x r other =
     by-date (λ z. isReal z ≡ true) x r
     (λ a l. told (a .since) (a .until) (a .month-from) (a .month-to) (omega arith) (omega (arith, l)))
