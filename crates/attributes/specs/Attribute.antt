@@ -70,10 +70,6 @@ pieceAfter s w =
 unfoldable pub piece : List ℕ → Piece
 piece s = pieceAfter s (run white s)
 
--- the n bytes from at on
-unfoldable pub partOf : List ℕ → ℕ → ℕ → List ℕ
-partOf s at n = take n (drop at s)
-
 -- how far a value and a piece reach
 abbrev pub valueEnd : Value → ℕ
 valueEnd (Long m) = m

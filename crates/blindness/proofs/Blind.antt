@@ -15,9 +15,9 @@ use Rattle.lists.specs.Zeros.{zeros}
 use Rattle.slices.specs.Text.{text}
 use Rattle.lists.proofs.Cases.{bool-cases, leb-cases, ltb-cases}
 use Rattle.characters.specs.Says.{says, saysAfter}
-use Rattle.attributes.specs.Attribute.{partOf}
+use Rattle.slices.specs.Part.{partOf}
 use Rattle.tags.specs.Known.{absent}
-use Rattle.tags.specs.declared.Span.{Span}
+use Rattle.slices.specs.declared.Span.{Span}
 use Rattle.trims.specs.Trim.{dropLead, dropTrail, dropped}
 use Rattle.numbers.specs.Digits.{digits}
 use Rattle.numbers.specs.Amount.{minus, unsigned, unsignedForm, writtenAmount, amountOf}

@@ -12,7 +12,7 @@ use Rattle.lists.proofs.Cases.{bool-cases, by-cond, eqb-cases, zero-not-one}
 use Rattle.slices.specs.Same.{same}
 use Rattle.slices.proofs.Sames.{same-equal}
 use Rattle.slices.specs.Text.{text}
-use Rattle.attributes.specs.Attribute.{partOf}
+use Rattle.slices.specs.Part.{partOf}
 use Rattle.elements.specs.Names.{names, numberIn, elementNo}
 use Rattle.items.specs.declared.Tag.{Tag}
 use Rattle.items.specs.declared.Item.{Item}

@@ -11,7 +11,8 @@ use Rattle.slices.specs.Same.{same, begins}
 use Rattle.slices.specs.Text.{text}
 use Rattle.characters.specs.Utf8.{seqLen, control, single, charAt}
 use Rattle.attributes.specs.Names.{nameStart, nameByte, white}
-use Rattle.attributes.specs.Attribute.{quote, fit, valueNext, valueOver, value, openingFrom, opening, attributeEnd, attributeQuote, attributeName, attribute, pieceAfter, piece, partOf}
+use Rattle.slices.specs.Part.{partOf}
+use Rattle.attributes.specs.Attribute.{quote, fit, valueNext, valueOver, value, openingFrom, opening, attributeEnd, attributeQuote, attributeName, attribute, pieceAfter, piece}
 use Rattle.tags.specs.Known.{absent, noneKnown, upToTwo, withAttribute}
 use Rattle.tags.specs.Tail.{onto, endsAfter, ends, keptOf, named, twice}
 use Rattle.items.specs.Item.{tagOf, tagItem, startTag, item}

@@ -9,7 +9,7 @@ use lib.ListN.{drop}
 use Rattle.lists.proofs.Cases.{bool-cases, by-cond, leb-cases, ltb-cases, never}
 use Rattle.slices.specs.Bytes.{byte}
 use Rattle.slices.specs.Text.{text}
-use Rattle.tags.specs.declared.Span.{Span}
+use Rattle.slices.specs.declared.Span.{Span}
 use Rattle.items.specs.Item.{item, itemEnd}
 use Rattle.items.specs.declared.Item.{Item}
 use Rattle.items.specs.declared.Item.the-variants.{Start, Empty, End, Text, Comment, Unreadable}

@@ -11,7 +11,7 @@ use lib.ListN.{length, getD, set, length-set}
 use lib.Seq.{getD-set-same, getD-set-other}
 use Rattle.lists.proofs.Cases.{bool-cases, zero-not-one}
 use Rattle.tags.specs.Known.{absent}
-use Rattle.tags.specs.declared.Span.{Span}
+use Rattle.slices.specs.declared.Span.{Span}
 use Rattle.items.specs.Item.{item, itemEnd}
 use Rattle.items.specs.declared.Item.{Item}
 use Rattle.structure.specs.Rows.{overOf}

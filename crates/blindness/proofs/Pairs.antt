@@ -9,7 +9,7 @@ use Rattle.lists.proofs.Cases.{bool-cases, eqb-cases, never, zero-not-one}
 use Rattle.slices.specs.Bytes.{byte}
 use Rattle.slices.specs.Same.{same}
 use Rattle.slices.proofs.Sames.{same-equal}
-use Rattle.attributes.specs.Attribute.{partOf}
+use Rattle.slices.specs.Part.{partOf}
 use Rattle.items.specs.Item.{item, itemEnd}
 use Rattle.items.specs.declared.Tag.{Tag}
 use Rattle.items.specs.declared.Item.{Item}

@@ -6,7 +6,7 @@ use mathlib.Core.List.{List, [], _∷_, map}
 use lib.IntN.{ℤ}
 use lib.ListN.{length, drop, set}
 use Rattle.lists.proofs.Cases.{past-cond, zero-not-one}
-use Rattle.tags.specs.declared.Span.{Span}
+use Rattle.slices.specs.declared.Span.{Span}
 use Rattle.items.specs.declared.Item.{Item}
 use Rattle.states.specs.Moves.{step}
 use Rattle.states.specs.declared.State.{State}

@@ -6,7 +6,7 @@ use lib.ListN.{set, replicate}
 use lib.Dec.{eqb}
 use Rattle.lists.specs.Zeros.{zeros}
 use Rattle.tags.specs.Known.{absent}
-use Rattle.tags.specs.declared.Span.{Span}
+use Rattle.slices.specs.declared.Span.{Span}
 use Rattle.prolog.specs.Prolog.{begin}
 use Rattle.prolog.specs.declared.Begin.{Begin}
 use Rattle.prolog.specs.declared.Begin.the-variants.{From, Misdeclared}

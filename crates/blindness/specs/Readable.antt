@@ -9,7 +9,7 @@ use lib.ListN.{length}
 use Rattle.slices.specs.Bytes.{byte}
 use Rattle.slices.specs.Same.{same}
 use Rattle.slices.specs.Text.{text}
-use Rattle.attributes.specs.Attribute.{partOf}
+use Rattle.slices.specs.Part.{partOf}
 use Rattle.items.specs.Item.{itemRefusal}
 use Rattle.items.specs.declared.Item.{Item}
 use Rattle.items.specs.declared.Item.the-variants.{Start, Empty, End, Text, Comment, Unreadable}

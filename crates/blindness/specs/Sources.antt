@@ -6,7 +6,7 @@ use mathlib.Core.Bool.{cond}
 use lib.IntN.{ℤ}
 use lib.Dec.{eqb}
 use Rattle.characters.specs.Says.{says}
-use Rattle.tags.specs.declared.Span.{Span}
+use Rattle.slices.specs.declared.Span.{Span}
 use Rattle.trims.specs.Trim.{dropped}
 use Rattle.numbers.specs.Amount.{amountOf}
 use Rattle.prolog.specs.Prolog.{begin}

@@ -14,7 +14,7 @@ use borrow.Author.Tests.{ne-eqb, eqb-false}
 use Rattle.lists.proofs.Cases.{eqb-cases}
 use Rattle.characters.specs.Says.{says}
 use Rattle.trims.specs.Trim.{dropped}
-use Rattle.tags.specs.declared.Span.{Span}
+use Rattle.slices.specs.declared.Span.{Span}
 use Rattle.numbers.specs.Amount.{amountOf}
 use Rattle.structure.specs.Rows.{parentOf}
 use Rattle.columns.specs.Columns.{roleOf}

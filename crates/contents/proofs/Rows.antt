@@ -11,7 +11,7 @@ use lib.ListN.{length, getD, take, length-set}
 use lib.Seq.{getD-set-same, getD-set-other}
 use borrow.Author.Tests.{ne-eqb}
 use Rattle.lists.proofs.Cases.{eqb-cases}
-use Rattle.tags.specs.declared.Span.{Span}
+use Rattle.slices.specs.declared.Span.{Span}
 use Rattle.structure.specs.Rows.{parentOf, required}
 use Rattle.columns.specs.Columns.{roleOf}
 use Rattle.states.specs.Moves.{entryOf}

@@ -11,7 +11,7 @@ use lib.ListN.{length, getD, length-replicate}
 use borrow.Author.Tests.{eq-eqb, ne-eqb, eqb-false}
 use Rattle.lists.proofs.Cases.{eqb-cases, past-cond}
 use Rattle.slices.specs.Same.{same}
-use Rattle.tags.specs.declared.Span.{Span}
+use Rattle.slices.specs.declared.Span.{Span}
 use Rattle.columns.specs.Columns.{roleOf}
 use Rattle.states.specs.Attributes.{there}
 use Rattle.states.specs.Moves.{entryOf}

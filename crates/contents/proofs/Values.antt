@@ -6,8 +6,8 @@ use mathlib.Core.List.{List}
 use mathlib.Core.Bool.{Bool, true, false, cond, _&&_}
 use lib.ListN.{getD}
 use Rattle.lists.proofs.Cases.{zero-not-one}
-use Rattle.attributes.specs.Attribute.{partOf}
-use Rattle.tags.specs.declared.Span.{Span}
+use Rattle.slices.specs.Part.{partOf}
+use Rattle.slices.specs.declared.Span.{Span}
 use Rattle.items.specs.declared.Item.{Item}
 use Rattle.items.specs.declared.Item.the-variants.{Start, Empty, End, Text, Comment, Unreadable}
 use Rattle.columns.specs.Columns.{rootRole}

@@ -8,10 +8,10 @@ use native.Mathlib.Omega.{arith}
 use lib.ListN.{length, take, drop}
 use lib.Seq.{take-take, drop-drop}
 use Rattle.slices.specs.Run.{run}
-use Rattle.attributes.specs.Attribute.{partOf}
+use Rattle.slices.specs.Part.{partOf}
 use Rattle.trims.specs.Trim.{space, dropped}
 use Rattle.trims.proofs.Trails.{part-place}
-use Rattle.tags.specs.declared.Span.{Span}
+use Rattle.slices.specs.declared.Span.{Span}
 use Rattle.states.specs.Attributes.{there}
 use Rattle.reader.specs.Items.{Placed}
 use Rattle.series.specs.Row.{cellAt, withView, view}

@@ -14,7 +14,8 @@ use Rattle.slices.specs.Run.{run}
 use Rattle.slices.specs.Same.{same, begins}
 use Rattle.slices.specs.Text.{text}
 use Rattle.attributes.specs.Names.{nameStart, white}
-use Rattle.attributes.specs.Attribute.{attribute, pieceAfter, piece, partOf}
+use Rattle.slices.specs.Part.{partOf}
+use Rattle.attributes.specs.Attribute.{attribute, pieceAfter, piece}
 use Rattle.attributes.specs.declared.Piece.{Piece}
 use Rattle.attributes.specs.declared.Piece.the-variants.{Attribute, Close, CloseEmpty, Torn}
 use Rattle.attributes.proofs.Short.{byte-drop}

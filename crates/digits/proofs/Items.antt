@@ -16,11 +16,11 @@ use Rattle.slices.specs.Text.{text}
 use Rattle.slices.proofs.Firsts.{first-by}
 use Rattle.characters.specs.Says.{allChars}
 use Rattle.attributes.specs.Names.{nameStart, nameByte, white}
-use Rattle.attributes.specs.Attribute.{partOf}
+use Rattle.slices.specs.Part.{partOf}
 use Rattle.attributes.proofs.Short.{byte-drop}
 use Rattle.tags.specs.Known.{absent, noneKnown, withAttribute}
 use Rattle.tags.specs.Tail.{Attr, Ends, closed, torn, ends, keptOf, twice}
-use Rattle.tags.specs.declared.Span.{Span}
+use Rattle.slices.specs.declared.Span.{Span}
 use Rattle.tags.specs.declared.Known.{Known}
 use Rattle.items.specs.Comment.{commentTo, comment}
 use Rattle.items.specs.Text.{textTo, textItem}

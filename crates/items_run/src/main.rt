@@ -8,7 +8,7 @@ ghost use lib.ListN.{length};
 use items::Item;
 use items::Tag;
 use prolog::Begin;
-use tags::Span;
+use slices::Span;
 
 fn show_number(n: usize) {
     lines::print_text(b" ");

@@ -11,7 +11,8 @@ use Rattle.slices.specs.Run.{run}
 use Rattle.slices.specs.Same.{same, begins}
 use Rattle.slices.specs.Text.{text}
 use Rattle.attributes.specs.Names.{white}
-use Rattle.attributes.specs.Attribute.{piece, partOf}
+use Rattle.slices.specs.Part.{partOf}
+use Rattle.attributes.specs.Attribute.{piece}
 use Rattle.attributes.specs.declared.Piece.{Piece}
 use Rattle.attributes.specs.declared.Piece.the-variants.{Attribute, Close, CloseEmpty, Torn}
 use Rattle.prolog.specs.declared.Begin.{Begin}

@@ -1,11 +1,11 @@
 // Where the items of a document begin: after the byte order mark and the XML declaration.
 use attributes::Piece;
-use attributes::part;
 use attributes::piece_at;
 use attributes::white_len;
 use slices::begins_with;
 use slices::byte_at;
 use slices::is_same;
+use slices::part;
 use slices::rest;
 ghost use mathlib.Core.Path.{_≡_};
 ghost use Prim.Native.Nat.{_+_, _≤_};

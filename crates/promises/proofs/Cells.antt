@@ -9,7 +9,7 @@ use lib.ListN.{length, set, replicate, length-set, getD-replicate, List·getD-eq
 use lib.Seq.{getD-set-other}
 use Rattle.lists.proofs.Cases.{ltb-cases}
 use Rattle.slices.specs.Run.{run}
-use Rattle.tags.specs.declared.Span.{Span}
+use Rattle.slices.specs.declared.Span.{Span}
 use Rattle.trims.specs.Trim.{space, dropped}
 use Rattle.states.specs.declared.State.{State}
 use Rattle.states.specs.declared.Room.{Room}

@@ -10,7 +10,8 @@ use Rattle.slices.specs.Walk.{walk}
 use Rattle.characters.specs.Utf8.{seqLen, control, single, charAt}
 use Rattle.characters.specs.Says.{saidBy, saidAt, saysAfter, says}
 use Rattle.attributes.specs.Names.{nameStart, nameByte, white}
-use Rattle.attributes.specs.Attribute.{quote, fit, valueNext, valueOver, value, openingFrom, opening, attributeEnd, attributeQuote, attributeName, attribute, pieceAfter, piece, partOf}
+use Rattle.slices.specs.Part.{partOf}
+use Rattle.attributes.specs.Attribute.{quote, fit, valueNext, valueOver, value, openingFrom, opening, attributeEnd, attributeQuote, attributeName, attribute, pieceAfter, piece}
 use Rattle.tags.specs.Known.{absent, noneKnown, upToTwo as anotherKnown, withAttribute as notedKnown}
 use Rattle.tags.specs.Tail.{onto, endsAfter, ends, keptOf, named, twice}
 use Rattle.items.specs.Item.{endClose, endName, endTag, tagOf, tagItem, startTag, item}

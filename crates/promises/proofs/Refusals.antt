@@ -8,7 +8,7 @@ use lib.Dec.{leb, eqb}
 use lib.ListN.{getD}
 use Rattle.lists.proofs.Cases.{by-cond, leb-cases, zero-not-one}
 use Rattle.characters.specs.Says.{says}
-use Rattle.attributes.specs.Attribute.{partOf}
+use Rattle.slices.specs.Part.{partOf}
 use Rattle.trims.specs.Trim.{dropped}
 use Rattle.codes.specs.Lists.{listed, codesOf}
 use Rattle.forms.specs.Forms.{fixedVersion, quarterHour}
@@ -24,7 +24,7 @@ use Rattle.rules.specs.Rules.{unless, isVersion, formRefusal, periodFits, judge
 use Rattle.rules.specs.declared.Held.{Held}
 use Rattle.rules.specs.declared.Judged.{Judged}
 use Rattle.items.specs.declared.Tag.{Tag}
-use Rattle.tags.specs.declared.Span.{Span}
+use Rattle.slices.specs.declared.Span.{Span}
 use Rattle.states.specs.Attributes.{attributesFit, valueOf, schemeRefusal, least, alsoScheme, judgeTag}
 use Rattle.states.specs.Moves.{heldOf, cutShort, tooMany, noRoom, halfOriginals, valuesJudged, judgedAt, startJudged, countRefusal, endRefusal}
 use Rattle.states.specs.declared.State.{State}

@@ -10,7 +10,7 @@ use lib.ListN.{getD, length}
 use Rattle.lists.proofs.Cases.{by-cond, bool-cases, eqb-cases, zero-not-one}
 use Rattle.slices.specs.Same.{same}
 use Rattle.slices.specs.Text.{text}
-use Rattle.attributes.specs.Attribute.{partOf}
+use Rattle.slices.specs.Part.{partOf}
 use Rattle.elements.specs.Names.{names, numberIn, elementNo}
 use Rattle.structure.specs.Rows.{nameOf, startOf, endOf}
 use Rattle.structure.specs.declared.Due.{Due}

@@ -7,7 +7,7 @@ use mathlib.Core.Bool.{Bool, true, false, cond}
 use lib.Dec.{eqb, ltb}
 use lib.ListN.{length}
 use Rattle.slices.specs.Text.{text}
-use Rattle.attributes.specs.Attribute.{partOf}
+use Rattle.slices.specs.Part.{partOf}
 use Rattle.elements.specs.Names.{elementNo}
 use Rattle.guideline.specs.Kinds.{kindOf}
 use Rattle.prolog.specs.Prolog.{begin}

@@ -9,8 +9,8 @@ use Rattle.lists.proofs.Cases.{by-cond}
 use Rattle.slices.specs.Run.{run}
 use Rattle.trims.proofs.Trails.{lead-run}
 use Rattle.trims.specs.Trim.{space, dropLead, keptBefore, dropTrail, dropped}
-use Rattle.tags.specs.declared.Span.{Span}
-use Rattle.attributes.specs.Attribute.{partOf}
+use Rattle.slices.specs.declared.Span.{Span}
+use Rattle.slices.specs.Part.{partOf}
 use Rattle.items.specs.Item.{itemValue}
 use Rattle.items.specs.declared.Item.{Item}
 use Rattle.items.specs.declared.Item.the-variants.{Start, Empty, End, Text, Comment, Unreadable}

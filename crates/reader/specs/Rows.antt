@@ -8,8 +8,8 @@ use lib.ListN.{length, set}
 use Rattle.slices.specs.Run.{run}
 use Rattle.slices.specs.Same.{same}
 use Rattle.characters.specs.Says.{says}
-use Rattle.attributes.specs.Attribute.{partOf}
-use Rattle.tags.specs.declared.Span.{Span}
+use Rattle.slices.specs.Part.{partOf}
+use Rattle.slices.specs.declared.Span.{Span}
 use Rattle.items.specs.declared.Item.{Item}
 use Rattle.items.specs.declared.Item.the-variants.{Start, Empty, End, Text, Comment, Unreadable}
 use Rattle.trims.specs.Trim.{space, dropped}

@@ -1,5 +1,4 @@
 // What an item brings into the lent tables.
-use attributes::part;
 use items::Item;
 use numbers::Amount;
 use numbers::amount_of;
@@ -7,13 +6,14 @@ use series::Field;
 use series::set_field;
 use series::set_view;
 use series::view_of;
+use slices::Span;
 use slices::is_same;
+use slices::part;
 use states::Entry;
 use states::State;
 use states::count_of;
 use tables::set_amount;
 use tables::set_number;
-use tags::Span;
 use trims::leading_spaces;
 use trims::trimmed;
 ghost use mathlib.Core.Path.{_≡_};

@@ -10,7 +10,7 @@ use lib.Dec.{eqb}
 use lib.ListN.{length, getD, set, length-set}
 use lib.Seq.{getD-set-same, getD-set-other}
 use Rattle.lists.proofs.Cases.{eqb-cases, ltb-cases, never}
-use Rattle.attributes.specs.Attribute.{partOf}
+use Rattle.slices.specs.Part.{partOf}
 use Rattle.series.specs.declared.Field.{Field}
 use Rattle.series.specs.declared.Field.the-variants.{Identification, Object, BusinessType, Direction, Area, FirstRow, Count}
 use Rattle.series.specs.Row.{cellOf, isView, rowWidth, cellsOf, roomFor, cellAt, withView, view}

@@ -1,5 +1,5 @@
 // The row of a series in the series table: which cell holds what, and for how many rows a table has room.
-use attributes::part;
+use slices::part;
 use tables::set_number;
 ghost use mathlib.Core.Path.{_≡_};
 ghost use Prim.Native.Nat.{_≤_, _<_};

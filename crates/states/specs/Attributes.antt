@@ -4,8 +4,8 @@ use mathlib.Core.List.{List}
 use mathlib.Core.Bool.{Bool, true, false, cond}
 use lib.Dec.{leb, eqb}
 use Rattle.characters.specs.Says.{says}
-use Rattle.attributes.specs.Attribute.{partOf}
-use Rattle.tags.specs.declared.Span.{Span}
+use Rattle.slices.specs.Part.{partOf}
+use Rattle.slices.specs.declared.Span.{Span}
 use Rattle.items.specs.declared.Tag.{Tag}
 use Rattle.trims.specs.Trim.{dropped}
 use Rattle.codes.specs.Lists.{listed, codesOf}

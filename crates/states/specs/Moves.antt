@@ -4,7 +4,7 @@ use mathlib.Core.List.{List}
 use mathlib.Core.Bool.{Bool, true, false, cond, not}
 use lib.ListN.{getD}
 use lib.Dec.{leb, ltb, eqb}
-use Rattle.attributes.specs.Attribute.{partOf}
+use Rattle.slices.specs.Part.{partOf}
 use Rattle.elements.specs.Names.{elementNo}
 use Rattle.columns.specs.Columns.{formOf, roleOf, periodForm, seriesRole, periodRole, intervalRole, originalRole, objectRole, businessRole, seriesIdRole, posRole, qtyRole, directionRole, areaRole}
 use Rattle.guideline.specs.Kinds.{kindAt, kindOf, takesAnother, hasEnough}

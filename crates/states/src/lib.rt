@@ -1,5 +1,4 @@
 // The reading state, and how each item moves it. It holds no amount.
-use attributes::part;
 use codes::is_listed;
 use columns::AREA_ROLE;
 use columns::BUSINESS_ROLE;
@@ -33,11 +32,12 @@ use items::Tag;
 use rules::Held;
 use rules::Judged;
 use rules::judge_value;
+use slices::Span;
+use slices::part;
 use structure::Due;
 use structure::end_after;
 use structure::ends_at_once;
 use structure::start_after;
-use tags::Span;
 use times::quarter_hours;
 use trims::trimmed;
 ghost use mathlib.Core.Path.{_≡_};

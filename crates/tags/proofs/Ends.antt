@@ -14,7 +14,8 @@ use Rattle.lists.proofs.Cases.{by-cond, eqb-cases, ltb-cases}
 use Rattle.slices.specs.Same.{same}
 use Rattle.slices.specs.Text.{text}
 use Rattle.slices.specs.Bytes.{byte}
-use Rattle.attributes.specs.Attribute.{piece, partOf}
+use Rattle.slices.specs.Part.{partOf}
+use Rattle.attributes.specs.Attribute.{piece}
 use Rattle.attributes.specs.Short.{vLen}
 use Rattle.attributes.proofs.Short.{byte-drop, v-inside, v-piece, v-name, close-piece, empty-piece}
 use Rattle.attributes.specs.declared.Piece.{Piece}
@@ -22,7 +23,7 @@ use Rattle.attributes.specs.declared.Piece.the-variants.{Attribute, Close, Clos
 use Rattle.tags.specs.Known.{withAttribute, noneKnown, absent}
 use Rattle.tags.specs.First.{vUse, firstKnown}
 use Rattle.tags.specs.Tail.{Attr, Ends, closed, torn, onto, endsAfter, ends, keptOf, tail}
-use Rattle.tags.specs.declared.Span.{Span}
+use Rattle.slices.specs.declared.Span.{Span}
 use Rattle.tags.specs.declared.Known.{Known}
 use Rattle.tags.specs.declared.Tail.the-variants.{Shut}
 

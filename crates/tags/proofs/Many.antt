@@ -10,7 +10,7 @@ use Rattle.slices.specs.Same.{same}
 use Rattle.slices.specs.Text.{text}
 use Rattle.tags.specs.Known.{noneKnown, withAttribute, upToTwo}
 use Rattle.tags.specs.Tail.{Attr, keptOf, named, twice}
-use Rattle.tags.specs.declared.Span.{Span}
+use Rattle.slices.specs.declared.Span.{Span}
 use Rattle.tags.specs.declared.Known.{Known}
 
 noted-many : (k : Known) (n : List ℕ) (v : Span) → (withAttribute k n v) .many ≡ upToTwo (k .many)

@@ -6,7 +6,7 @@ use mathlib.Core.List.{List}
 use Rattle.lists.proofs.Unique.{one}
 use Rattle.tags.specs.Known.{withAttribute, noneKnown}
 use Rattle.tags.specs.Tail.{ends, tail}
-use Rattle.tags.specs.declared.Span.{Span}
+use Rattle.slices.specs.declared.Span.{Span}
 use Rattle.tags.specs.declared.Known.{Known}
 use Rattle.tags.specs.declared.Tail.{Tail}
 

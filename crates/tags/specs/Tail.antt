@@ -4,10 +4,11 @@ use mathlib.Core.List.{List, [], _∷_}
 use mathlib.Core.Bool.{Bool, true, false, cond}
 use lib.ListN.{drop}
 use Rattle.slices.specs.Same.{same}
-use Rattle.attributes.specs.Attribute.{piece, partOf}
+use Rattle.slices.specs.Part.{partOf}
+use Rattle.attributes.specs.Attribute.{piece}
 use Rattle.tags.specs.Known.{withAttribute}
 use Rattle.attributes.specs.declared.Piece.the-variants.{Attribute, Close, CloseEmpty, Torn}
-use Rattle.tags.specs.declared.Span.{Span}
+use Rattle.slices.specs.declared.Span.{Span}
 use Rattle.tags.specs.declared.Known.{Known}
 use Rattle.tags.specs.declared.Tail.{Tail}
 use Rattle.tags.specs.declared.Tail.the-variants.{Shut, Breaks}

@@ -1,11 +1,12 @@
 // A tag after its name: what is kept of its attributes, and where it ends.
 use attributes::Piece;
-use attributes::part;
 use attributes::piece_at;
 use attributes::v_len;
+use slices::Span;
 use slices::begins_with;
 use slices::byte_at;
 use slices::is_same;
+use slices::part;
 use slices::rest;
 ghost use mathlib.Core.Path.{_≡_};
 ghost use Prim.Native.Nat.{_+_, _≤_};
@@ -26,12 +27,6 @@ fn is_passed_over(name: &[u8]) -> bool
         return true;
     }
     begins_with(b"xsi:", name)
-}
-
-// Where a value stands, counted from the first byte of its tag; a start of 0 says that it is not there.
-pub struct Span {
-    pub start: usize,
-    pub len: usize,
 }
 
 // What is kept of a tag's attributes while it is read.

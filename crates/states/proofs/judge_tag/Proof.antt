@@ -5,7 +5,7 @@ use Rattle.states.proofs.judge_tag.Statement.{statement}
 use Rattle.states.proofs.judge_tag.Tie as tie
 use Rattle.states.proofs.judge_tag.Reads as reads
 use Rattle.states.proofs.judge_tag.Lts as lts
-use Rattle.attributes.proofs.part.Reads as part-reads
+use Rattle.slices.proofs.part.Reads as part-reads
 use Rattle.forms.proofs.is_version_fixed.Reads as is-version-fixed-reads
 use Rattle.columns.proofs.form_of.Reads as form-of-reads
 use Rattle.rules.proofs.judge_value.Reads as judge-value-reads

@@ -4,7 +4,7 @@ use Rattle.states.proofs.name_in.Statement.{statement}
 use Rattle.states.proofs.name_in.Tie as tie
 use Rattle.states.proofs.name_in.Reads as reads
 use Rattle.states.proofs.name_in.Lts as lts
-use Rattle.attributes.proofs.part.Reads as part-reads
+use Rattle.slices.proofs.part.Reads as part-reads
 
 enum-known-item : tie.Need-enum-known-item
 enum-known-item c = search needs

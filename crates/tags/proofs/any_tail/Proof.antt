@@ -9,7 +9,7 @@ use Rattle.tags.proofs.any_tail.Statement.{statement}
 use Rattle.tags.proofs.any_tail.Tie as tie
 use Rattle.tags.proofs.any_tail.Reads as reads
 use Rattle.tags.proofs.any_tail.Lts as lts
-use Rattle.attributes.proofs.part.Reads as part-reads
+use Rattle.slices.proofs.part.Reads as part-reads
 use Rattle.attributes.proofs.piece_at.Reads as piece-at-reads
 use Rattle.slices.proofs.rest.Reads as rest-reads
 use Rattle.tags.proofs.Known.noted.Reads as noted-reads
