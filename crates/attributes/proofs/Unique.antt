@@ -7,7 +7,6 @@ use mathlib.Core.Bool.{Bool}
 use Rattle.lists.proofs.Unique.{one}
 use Rattle.slices.specs.Run.{run}
 use Rattle.attributes.specs.Names.{nameStart, nameByte, white}
-use Rattle.slices.specs.Part.{partOf}
 use Rattle.attributes.specs.Attribute.{piece}
 use Rattle.attributes.specs.Short.{vLen}
 use Rattle.attributes.specs.declared.Piece.{Piece}

@@ -10,7 +10,6 @@ ghost use lib.ListN.{length};
 ghost use Rattle.slices.specs.Run.{run};
 ghost use Rattle.attributes.specs.Names.{nameStart, nameByte, white};
 ghost use Rattle.attributes.specs.Short.{common, opensV, vLen};
-ghost use Rattle.slices.specs.Part.{partOf};
 ghost use Rattle.attributes.specs.Attribute.{quote, fit, plain, value, valueEnd, opening, attribute, piece, pieceUse, pieceValue};
 
 // Whether a name may begin with the byte.

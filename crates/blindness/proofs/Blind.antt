@@ -32,7 +32,7 @@ use Rattle.numbers.specs.Alike.{Alike}
 use Rattle.digits.proofs.Chars.{digits-unseen}
 use Rattle.reader.specs.Items.{itemsAfter, itemsFrom}
 use Rattle.reader.specs.Rows.{quoted, thousandthsOf}
-use Rattle.reader.specs.Reading.{tab, Tables, Out, blank, roomOf, refusedAt, readAfter, readInto, orBlank, readSheet}
+use Rattle.reader.specs.Reading.{Tables, Out, blank, roomOf, refusedAt, readAfter, readInto, orBlank, readSheet}
 use Rattle.reader.specs.declared.Answer.{Answer}
 use Rattle.reader.specs.Answer.{answerOf, told, noted, unnoted, readOf}
 use Rattle.blindness.specs.Readable.{DifferInQty}

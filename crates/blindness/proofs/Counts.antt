@@ -5,9 +5,9 @@ use mathlib.Core.List.{List, [], _∷_}
 use mathlib.Core.Bool.{Bool, true, false, cond, not}
 use mathlib.Core.Logic.{⊎-elim}
 use native.Mathlib.Omega.{arith}
-use lib.Dec.{eqb, ltb}
+use lib.Dec.{eqb}
 use lib.ListN.{length, getD}
-use borrow.Author.Tests.{eq-eqb, ne-eqb, lt-ltb, eqb-true, not-true}
+use borrow.Author.Tests.{eq-eqb, ne-eqb, eqb-true, not-true}
 use Rattle.lists.proofs.Cases.{bool-cases, by-cond, eqb-cases, zero-not-one}
 use Rattle.slices.specs.Same.{same}
 use Rattle.slices.proofs.Sames.{same-equal}
@@ -27,7 +27,7 @@ use Rattle.guideline.specs.Rows.{beschaffungsanforderung, kostenblatt, rowsOf}
 use Rattle.guideline.proofs.Each.{of-table}
 use Rattle.guideline.proofs.Roots.{no-start, no-end}
 use Rattle.rules.specs.declared.Judged.{Judged}
-use Rattle.states.specs.Moves.{begun, oneMore, cutShort, startJudged, atRow, oneSeries, oneInterval, oneOriginal, lastPos, covering, kept, entered, entryOf, startedBy, startedAt, started, closedAt, endRefusal, afterEndAt, afterEnd, moved, rootKind, kindTold, step}
+use Rattle.states.specs.Moves.{begun, cutShort, startJudged, atRow, oneSeries, oneInterval, oneOriginal, lastPos, covering, kept, entered, entryOf, startedBy, startedAt, started, closedAt, endRefusal, afterEndAt, afterEnd, moved, rootKind, kindTold, step}
 use Rattle.states.specs.declared.State.{State}
 use Rattle.states.specs.declared.Room.{Room}
 use Rattle.states.specs.declared.Entry.{Entry}

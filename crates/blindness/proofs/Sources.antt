@@ -4,6 +4,7 @@ use mathlib.Core.List.{List, [], _∷_}
 use mathlib.Core.Bool.{cond}
 use lib.ListN.{set, replicate}
 use lib.Dec.{eqb}
+use Rattle.items.specs.Parts.{spanOf}
 use Rattle.lists.specs.Zeros.{zeros}
 use Rattle.tags.specs.Known.{absent}
 use Rattle.slices.specs.declared.Span.{Span}
@@ -17,7 +18,7 @@ use Rattle.states.specs.declared.Entry.{Entry}
 use Rattle.states.specs.declared.Entry.the-variants.{Nothing, Series, Identification, Object, BusinessType, Direction, Area, Interval, Position, Amount}
 use Rattle.states.specs.declared.Step.the-variants.{Next, Refused}
 use Rattle.reader.specs.Items.{Placed, itemsFrom}
-use Rattle.reader.specs.Rows.{spanOf, seriesAfter}
+use Rattle.reader.specs.Rows.{seriesAfter}
 use Rattle.reader.specs.Reading.{stepOf, roomOf}
 use Rattle.reader.specs.Answer.{readOf}
 

@@ -12,6 +12,7 @@ use Rattle.slices.specs.Same.{same}
 use Rattle.slices.specs.Text.{text}
 use Rattle.slices.specs.Part.{partOf}
 use Rattle.elements.specs.Names.{names, numberIn, elementNo}
+use Rattle.items.specs.Parts.{spanOf}
 use Rattle.items.specs.declared.Tag.{Tag}
 use Rattle.items.specs.declared.Item.{Item}
 use Rattle.items.specs.declared.Item.the-variants.{Start, Empty, End, Text, Comment, Unreadable}
@@ -31,7 +32,7 @@ use Rattle.states.specs.declared.Entry.{Entry}
 use Rattle.states.specs.declared.Entry.the-variants.{Amount}
 use Rattle.states.specs.declared.Step.{Step}
 use Rattle.states.specs.declared.Step.the-variants.{Next, Refused}
-use Rattle.reader.specs.Rows.{spanOf, quoted}
+use Rattle.reader.specs.Rows.{quoted}
 use Rattle.characters.specs.Says.{says}
 use Rattle.trims.specs.Trim.{dropped}
 use Rattle.rules.specs.Rules.{judge}

@@ -5,6 +5,7 @@ use mathlib.Core.List.{List, [], _∷_}
 use mathlib.Core.Bool.{cond}
 use lib.IntN.{ℤ}
 use lib.Dec.{eqb}
+use Rattle.items.specs.Parts.{spanOf}
 use Rattle.characters.specs.Says.{says}
 use Rattle.slices.specs.declared.Span.{Span}
 use Rattle.trims.specs.Trim.{dropped}
@@ -13,7 +14,7 @@ use Rattle.prolog.specs.Prolog.{begin}
 use Rattle.prolog.specs.declared.Begin.{Begin}
 use Rattle.prolog.specs.declared.Begin.the-variants.{From, Misdeclared}
 use Rattle.reader.specs.Items.{Placed, itemsFrom}
-use Rattle.reader.specs.Rows.{spanOf, quoted, thousandthsOf}
+use Rattle.reader.specs.Rows.{quoted, thousandthsOf}
 use Rattle.reader.specs.Answer.{readOf}
 use Rattle.blindness.specs.Readable.{namedQty}
 

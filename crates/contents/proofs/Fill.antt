@@ -4,6 +4,7 @@ use mathlib.Core.Path.{_≡_}
 use mathlib.Core.List.{List, [], _∷_, _++_}
 use mathlib.Core.Bool.{Bool, true, false}
 use lib.ListN.{getD, drop}
+use Rattle.items.specs.Parts.{spanOf}
 use Rattle.items.specs.declared.Item.{Item}
 use Rattle.items.specs.declared.Item.the-variants.{Start, Empty, End, Text, Comment, Unreadable}
 use Rattle.columns.specs.Columns.{roleOf}
@@ -11,7 +12,7 @@ use Rattle.times.specs.Periods.{quarterHours}
 use Rattle.states.specs.Moves.{entryOf}
 use Rattle.states.specs.declared.State.{State}
 use Rattle.reader.specs.Items.{Placed}
-use Rattle.reader.specs.Rows.{spanOf, usedBefore}
+use Rattle.reader.specs.Rows.{usedBefore}
 use Rattle.reader.specs.Reading.{Tables, tablesAfter}
 use Rattle.trees.specs.Trees.{Sign, Opens, Closes, Trees, none, element}
 use Rattle.contents.specs.Said.{Said, Absent}

@@ -11,6 +11,7 @@ use lib.IntN.{ℤ}
 use lib.ListN.{length, getD, set, length-append}
 use lib.Seq.{sets}
 use borrow.Author.Tests.{ne-eqb, eqb-false}
+use Rattle.items.specs.Parts.{spanOf}
 use Rattle.lists.proofs.Cases.{eqb-cases}
 use Rattle.characters.specs.Says.{says}
 use Rattle.trims.specs.Trim.{dropped}
@@ -22,7 +23,7 @@ use Rattle.states.specs.Attributes.{there}
 use Rattle.states.specs.Moves.{entryOf}
 use Rattle.states.specs.declared.State.{State}
 use Rattle.reader.specs.Items.{Placed}
-use Rattle.reader.specs.Rows.{broughtBy, spanOf, quoted, thousandthsOf, positionsWith, amountsWith, positionsAfter, amountsAfter}
+use Rattle.reader.specs.Rows.{broughtBy, quoted, thousandthsOf, positionsWith, amountsWith, positionsAfter, amountsAfter}
 use Rattle.reader.specs.Reading.{Tables, tablesAfter}
 use Rattle.trees.specs.Trees.{Trees, none, element, rowsTaken, Stand, Fits, EachConforms}
 use Rattle.lists.proofs.Stores.{sets-more}

@@ -8,12 +8,12 @@ use mathlib.Core.Logic.{⊎-elim}
 use native.Mathlib.Omega.{arith}
 use lib.ListN.{length, getD}
 use Rattle.lists.proofs.Cases.{zero-not-one}
+use Rattle.items.specs.Parts.{passed}
 use Rattle.items.specs.declared.Tag.{Tag}
 use Rattle.items.specs.declared.Item.{Item}
 use Rattle.items.specs.declared.Item.the-variants.{Start, Empty, End, Text, Comment, Unreadable}
 use Rattle.structure.specs.Rows.{startOf, endOf, overOf, endsAtOnce}
 use Rattle.structure.specs.declared.Due.{Due}
-use Rattle.structure.specs.declared.Due.the-variants.{Row, NotDue}
 use Rattle.guideline.specs.Kinds.{isKind, kindOf}
 use Rattle.guideline.proofs.Each.{kind-told}
 use Rattle.guideline.proofs.Roots.{no-start, no-end as none-ends, not-over as none-over}
@@ -25,7 +25,7 @@ use Rattle.states.specs.declared.Entry.{Entry}
 use Rattle.states.specs.declared.Entry.the-variants.{Nothing}
 use Rattle.states.specs.declared.Step.{Step}
 use Rattle.states.specs.declared.Step.the-variants.{Next, Refused}
-use Rattle.reader.specs.Items.{Placed, passed}
+use Rattle.reader.specs.Items.{Placed}
 use Rattle.reader.specs.Rows.{broughtBy, usedWith, usedBefore}
 use Rattle.reader.specs.Reading.{Tables, Out, refusedAt, acceptedAt, withoutUsed, stepOf, tablesAfter, readItems}
 use Rattle.reader.specs.Reading.{endedAt as overAt}

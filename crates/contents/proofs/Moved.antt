@@ -9,6 +9,7 @@ use lib.Dec.{eqb}
 use lib.ListN.{getD}
 use borrow.Author.Tests.{ne-eqb}
 use Rattle.lists.proofs.Cases.{bool-cases, eqb-cases}
+use Rattle.items.specs.Parts.{spanOf}
 use Rattle.items.specs.declared.Tag.{Tag}
 use Rattle.items.specs.declared.Item.{Item}
 use Rattle.items.specs.declared.Item.the-variants.{Text}
@@ -26,7 +27,7 @@ use Rattle.states.specs.declared.Entry.the-variants.{Nothing, Series, Identific
 use Rattle.states.specs.declared.Step.{Step}
 use Rattle.states.specs.declared.Step.the-variants.{Next, Refused}
 use Rattle.reader.specs.Items.{Placed}
-use Rattle.reader.specs.Rows.{broughtBy, spanOf, fieldAfter, seriesWith, positionsWith, amountsWith, seriesAfter, positionsAfter, amountsAfter, usedWith, usedBefore}
+use Rattle.reader.specs.Rows.{broughtBy, fieldAfter, seriesWith, positionsWith, amountsWith, seriesAfter, positionsAfter, amountsAfter, usedWith, usedBefore}
 use Rattle.reader.specs.Reading.{Tables, withoutUsed, tablesAfter}
 use Rattle.contents.specs.Said.{Said}
 use Rattle.contents.specs.Spelled.{saidOfTag}

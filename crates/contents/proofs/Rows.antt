@@ -10,6 +10,7 @@ use lib.Dec.{eqb}
 use lib.ListN.{length, getD, take, length-set}
 use lib.Seq.{getD-set-same, getD-set-other}
 use borrow.Author.Tests.{ne-eqb}
+use Rattle.items.specs.Parts.{spanOf}
 use Rattle.lists.proofs.Cases.{eqb-cases}
 use Rattle.slices.specs.declared.Span.{Span}
 use Rattle.structure.specs.Rows.{parentOf, required}
@@ -20,7 +21,7 @@ use Rattle.reader.specs.Items.{Placed}
 use Rattle.series.specs.Row.{cellsOf, cellAt, withField}
 use Rattle.series.specs.declared.Field.the-variants.{FirstRow, Count}
 use Rattle.series.proofs.Rows.{view-as, view-low, view-none}
-use Rattle.reader.specs.Rows.{broughtBy, spanOf, fieldAfter, seriesWith, seriesAfter}
+use Rattle.reader.specs.Rows.{broughtBy, fieldAfter, seriesWith, seriesAfter}
 use Rattle.reader.specs.Reading.{Tables, tablesAfter}
 use Rattle.trees.specs.Trees.{Trees, none, element, rowsTaken, Stand, Fits, EachConforms}
 use Rattle.contents.specs.Said.{Said}

@@ -2,14 +2,15 @@
 -- Assumes nothing.
 use Prim.Native.Nat.{ℕ, suc, _+_, _-_, _≤_, _<_}
 use mathlib.Core.Path.{_≡_, refl, sym, ap, subst, _∙_}
-use mathlib.Core.List.{List, [], _∷_, _++_, map}
+use mathlib.Core.List.{List, [], _++_, map}
 use mathlib.Core.Bool.{true, false}
 use mathlib.Core.Logic.{_⊎_, ⊎-elim}
 use native.Mathlib.Omega.{arith}
-use lib.ListN.{length, getD, set, drop, length-set}
+use lib.ListN.{length, getD, drop, length-set}
 use lib.Dec.{eqb}
 use lib.Seq.{getD-set-same, getD-set-other}
 use borrow.Author.Tests.{eq-eqb, ne-eqb}
+use Rattle.items.specs.Parts.{spanOf}
 use Rattle.lists.proofs.Cases.{zero-not-one}
 use Rattle.slices.specs.Run.{run}
 use Rattle.trims.specs.Trim.{space, dropped}
@@ -21,7 +22,7 @@ use Rattle.series.specs.Row.{cellOf, isView, cellsOf, cellAt, fieldAt, withFiel
 use Rattle.series.specs.declared.Field.{Field}
 use Rattle.series.specs.declared.Field.the-variants.{Identification, Object, BusinessType, Direction, Area, FirstRow, Count}
 use Rattle.series.proofs.Rows.{view-set, view-as, view-low, views-apart}
-use Rattle.reader.specs.Rows.{broughtBy, spanOf, quoted, fieldAfter, seriesWith, seriesAfter}
+use Rattle.reader.specs.Rows.{broughtBy, quoted, fieldAfter, seriesWith, seriesAfter}
 use Rattle.reader.specs.Reading.{Tables, tablesAfter}
 use Rattle.trees.specs.Trees.{Trees, none, element, rowsTaken, Stand, EachConforms}
 use Rattle.contents.specs.Said.{Said, bytes}

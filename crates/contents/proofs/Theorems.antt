@@ -1,9 +1,9 @@
 -- A document is accepted exactly where it spells a legal content; answer and tables are those of the content, and no other content is spelled.
 -- Assumes nothing.
-use Prim.Native.Nat.{ℕ, _+_, _≤_, _<_}
+use Prim.Native.Nat.{ℕ, _≤_, _<_}
 use mathlib.Core.Path.{_≡_, refl, sym, ap, subst, _∙_}
 use mathlib.Core.List.{List, _∷_, map}
-use mathlib.Core.Logic.{_⊎_, inl, inr, ⊎-elim}
+use mathlib.Core.Logic.{_⊎_, ⊎-elim}
 use mathlib.Core.Bool.{true, false}
 use native.Mathlib.Omega.{arith}
 use native.Mathlib.Nat.{zero-add}
@@ -12,8 +12,6 @@ use lib.ListN.{length, getD, length-replicate, take}
 use lib.IntN.{pos}
 use borrow.Author.Tests.{le-ltb}
 use Rattle.lists.proofs.Cases.{leb-cases, never}
-use Rattle.slices.specs.Same.{same}
-use Rattle.elements.specs.Names.{names, numberIn, elementNo}
 use Rattle.structure.specs.Rows.{nameOf}
 use Rattle.prolog.specs.Prolog.{begin}
 use Rattle.prolog.specs.declared.Begin.{Begin}

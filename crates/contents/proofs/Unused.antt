@@ -9,6 +9,7 @@ use native.Mathlib.Omega.{arith}
 use lib.Dec.{eqb}
 use lib.ListN.{length, getD, length-replicate}
 use borrow.Author.Tests.{eq-eqb, ne-eqb, eqb-false}
+use Rattle.items.specs.Parts.{spanOf}
 use Rattle.lists.proofs.Cases.{eqb-cases, past-cond}
 use Rattle.slices.specs.Same.{same}
 use Rattle.slices.specs.declared.Span.{Span}
@@ -19,7 +20,7 @@ use Rattle.reader.specs.Items.{Placed}
 use Rattle.series.specs.Row.{cellsOf, cellAt, view}
 use Rattle.series.specs.declared.Field.the-variants.{Identification}
 use Rattle.series.proofs.Rows.{view-as}
-use Rattle.reader.specs.Rows.{broughtBy, spanOf, used, usedIn, usedWith, usedBefore}
+use Rattle.reader.specs.Rows.{broughtBy, used, usedIn, usedWith, usedBefore}
 use Rattle.reader.specs.Reading.{Tables, blank, tablesAfter}
 use Rattle.trees.specs.Trees.{Trees, none, element, rowsTaken, Stand, Fits, EachConforms, Conforms}
 use Rattle.contents.specs.Said.{Said, bytes}

@@ -8,12 +8,13 @@ use lib.ListN.{getD}
 use Rattle.lists.proofs.Cases.{zero-not-one}
 use Rattle.slices.specs.Part.{partOf}
 use Rattle.slices.specs.declared.Span.{Span}
+use Rattle.items.specs.Parts.{spanOf}
 use Rattle.items.specs.declared.Item.{Item}
 use Rattle.items.specs.declared.Item.the-variants.{Start, Empty, End, Text, Comment, Unreadable}
 use Rattle.columns.specs.Columns.{rootRole}
 use Rattle.states.specs.Attributes.{there, agree, asksV, asksScheme, noOthers}
 use Rattle.reader.specs.Items.{Placed}
-use Rattle.reader.specs.Rows.{spanOf, quoted}
+use Rattle.reader.specs.Rows.{quoted}
 use Rattle.trees.specs.Trees.{Trees, none, element}
 use Rattle.trees.proofs.Made.{both}
 use Rattle.contents.specs.Said.{Absent, Given, Said, given, bytes}

@@ -8,6 +8,7 @@ use slices::Span;
 use slices::byte_at;
 use slices::first_at;
 use slices::front;
+use slices::part;
 use slices::rest;
 use tags::Known;
 use tags::Tail;
@@ -21,6 +22,7 @@ ghost use Rattle.tags.specs.Tail.{ends, twiceIn};
 ghost use Rattle.items.specs.Comment.{comment};
 ghost use Rattle.items.specs.Text.{textItem};
 ghost use Rattle.items.specs.Item.{tagOf, startTag, endTag, commentTag, item, itemEnd, itemValue, readEnd};
+ghost use Rattle.items.specs.Parts.{nameIn, spanOf, passed};
 
 // A start or empty tag: `<` and the name, whose length is `name`; the values of the attributes that the guideline knows; whether it
 // has others, and whether all of those may be passed over on a root; how many bytes it takes.
@@ -203,4 +205,62 @@ pub fn item_at(before: usize, s: &[u8]) -> Item
         return start_tag(before, s);
     }
     text_at(before, s)
+}
+
+// How many bytes the item takes; an unreadable one is passed by no loop, and tells 1.
+// Ruled out: the bytes of its name alone.
+pub fn item_len(item: Item) -> usize
+    ensures { λ r. ⌜ r ≡ itemEnd item ⌝ }
+{
+    match item {
+        Item::Start(t) => t.len,
+        Item::Empty(t) => t.len,
+        Item::End(_, n) => n,
+        Item::Text(_, n) => n,
+        Item::Comment(n) => n,
+        Item::Unreadable(_) => 1,
+    }
+}
+
+// The name of a tag, and of any other item none.
+// Ruled out: a name with its `/`; the name of a start tag for its end tag's place.
+pub fn name_in(item: Item, s: &[u8]) -> &[u8]
+    ensures { λ r. ⌜ now r ≡ nameIn item (now (s .entry)) ⌝ }
+{
+    match item {
+        Item::Start(t) => part(s, 1, t.name),
+        Item::Empty(t) => part(s, 1, t.name),
+        Item::End(n, _) => part(s, 2, n),
+        Item::Text(_, _) => part(s, 0, 0),
+        Item::Comment(_) => part(s, 0, 0),
+        Item::Unreadable(_) => part(s, 0, 0),
+    }
+}
+
+// Where the value of `v` stands in the item. Ruled out: another attribute's value.
+pub fn span_of(item: Item) -> Span
+    ensures { λ r. ⌜ r ≡ spanOf item ⌝ }
+{
+    match item {
+        Item::Start(t) => t.v,
+        Item::Empty(t) => t.v,
+        Item::End(_, _) => Span { start: 0, len: 0 },
+        Item::Text(_, _) => Span { start: 0, len: 0 },
+        Item::Comment(_) => Span { start: 0, len: 0 },
+        Item::Unreadable(_) => Span { start: 0, len: 0 },
+    }
+}
+
+// Whether the item moves nothing: white text, or a comment. Ruled out: true for any other text.
+pub fn is_passed(item: Item) -> bool
+    ensures { λ r. ⌜ r ≡ passed item ⌝ }
+{
+    match item {
+        Item::Start(_) => false,
+        Item::Empty(_) => false,
+        Item::End(_, _) => false,
+        Item::Text(white, _) => white,
+        Item::Comment(_) => true,
+        Item::Unreadable(_) => false,
+    }
 }

@@ -10,6 +10,7 @@ use lib.Dec.{leb, eqb}
 use lib.ListN.{length, drop, length-drop}
 use borrow.Author.Tests.{lt-ltb, le-ltb, ne-eqb}
 use Rattle.lists.proofs.Cases.{by-cond, bool-cases, leb-cases, ltb-cases, eqb-cases}
+use Rattle.items.specs.Parts.{spanOf}
 use Rattle.items.specs.Item.{item, itemEnd}
 use Rattle.prolog.specs.Prolog.{begin}
 use Rattle.prolog.specs.declared.Begin.{Begin}
@@ -24,7 +25,7 @@ use Rattle.states.specs.declared.Entry.{Entry}
 use Rattle.states.specs.declared.Step.{Step}
 use Rattle.states.specs.declared.Step.the-variants.{Next, Refused}
 use Rattle.reader.specs.Items.{Placed, placed, itemsAfter, itemsFrom}
-use Rattle.reader.specs.Rows.{spanOf, usedBefore}
+use Rattle.reader.specs.Rows.{usedBefore}
 use Rattle.reader.specs.Reading.{Tables, Out, blank, roomIn, refusedAt, acceptedAt, endedAt, withoutUsed, stepOf, tablesAfter, readItems, itemsRead, readAfter, readInto, orBlank, readSheet}
 use Rattle.reader.proofs.Ran.{read-next, read-stop, items-over}
 use Rattle.states.proofs.Judgements.{one-more}

@@ -12,6 +12,7 @@ use borrow.Author.Tests.{lt-ltb, ne-eqb}
 use Rattle.lists.proofs.Cases.{by-cond, leb-cases, ltb-cases}
 use Rattle.slices.specs.Same.{same, begins}
 use Rattle.slices.proofs.Sames.{sames-long}
+use Rattle.items.specs.Parts.{spanOf}
 use Rattle.items.specs.Item.{item, itemEnd}
 use Rattle.prolog.specs.Prolog.{markLen, begin}
 use Rattle.prolog.specs.declared.Begin.{Begin}
@@ -26,7 +27,7 @@ use Rattle.states.specs.declared.Entry.{Entry}
 use Rattle.states.specs.declared.Step.{Step}
 use Rattle.states.specs.declared.Step.the-variants.{Next, Refused}
 use Rattle.reader.specs.Items.{Placed, placed, itemsAfter, itemsFrom}
-use Rattle.reader.specs.Rows.{spanOf, usedBefore}
+use Rattle.reader.specs.Rows.{usedBefore}
 use Rattle.reader.specs.Reading.{Tables, Out, blank, roomOf, roomIn, refusedAt, acceptedAt, endedAt, withoutUsed, stepOf, tablesAfter, readItems, itemsRead, readAfter, readInto, orBlank, readSheet}
 use Rattle.reader.proofs.Ran.{read-next, read-stop, items-over}
 use Rattle.contents.proofs.Theorems.{room-cells}

@@ -20,7 +20,7 @@ use Rattle.numbers.specs.declared.Number.{Number}
 use Rattle.numbers.specs.declared.Number.the-variants.{Is, NotNumber}
 use Rattle.columns.specs.Columns.{formOf, schemeOf, roleOf}
 use Rattle.guideline.specs.Kinds.{kindAt, hasEnough}
-use Rattle.rules.specs.Rules.{unless, isVersion, formRefusal, periodFits, judgePeriodBy, judgePeriod, judgeIntervalBy, judgeInterval, positionFits, judgePositionBy, judgePosition, judge}
+use Rattle.rules.specs.Rules.{unless, formRefusal, periodFits, judgePeriodBy, judgePeriod, judgeIntervalBy, judgeInterval, positionFits, judgePositionBy, judgePosition, judge}
 use Rattle.rules.specs.declared.Held.{Held}
 use Rattle.rules.specs.declared.Judged.{Judged}
 use Rattle.items.specs.declared.Tag.{Tag}

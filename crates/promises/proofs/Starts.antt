@@ -4,12 +4,10 @@ use mathlib.Core.Path.{_≡_, refl, sym, ap, _∙_}
 use mathlib.Core.List.{List}
 use mathlib.Core.Bool.{Bool, true, false, cond, not}
 use mathlib.Core.Logic.{⊎-elim}
-use native.Mathlib.Omega.{arith}
 use lib.Dec.{eqb}
 use lib.ListN.{getD, length}
-use Rattle.lists.proofs.Cases.{by-cond, bool-cases, eqb-cases, zero-not-one}
+use Rattle.lists.proofs.Cases.{by-cond, bool-cases, eqb-cases}
 use Rattle.slices.specs.Same.{same}
-use Rattle.slices.specs.Text.{text}
 use Rattle.slices.specs.Part.{partOf}
 use Rattle.elements.specs.Names.{names, numberIn, elementNo}
 use Rattle.structure.specs.Rows.{nameOf, startOf, endOf}

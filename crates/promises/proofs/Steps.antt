@@ -31,7 +31,7 @@ use Rattle.states.specs.declared.Step.{Step}
 use Rattle.states.specs.declared.Step.the-variants.{Next, Refused}
 use Rattle.states.proofs.Judgements.{judged-passed, series-room, interval-room}
 use Rattle.promises.proofs.Refusals.{Given, start-given, end-given}
-use Rattle.promises.proofs.Marks.{Mark, due-within, end-back, counted, forSeries, forInterval, seriesRow, intervalRow, table, due-known, end-known}
+use Rattle.promises.proofs.Marks.{due-within, end-back, counted, forSeries, forInterval, seriesRow, intervalRow, table, due-known, end-known}
 
 -- a row of the kind that is not before the first with this role
 abbrev Past : ℕ → ℕ → ℕ → Type 0

@@ -11,10 +11,11 @@ use Rattle.trims.proofs.Trails.{lead-run}
 use Rattle.trims.specs.Trim.{space, dropLead, keptBefore, dropTrail, dropped}
 use Rattle.slices.specs.declared.Span.{Span}
 use Rattle.slices.specs.Part.{partOf}
+use Rattle.items.specs.Parts.{spanOf}
 use Rattle.items.specs.Item.{itemValue}
 use Rattle.items.specs.declared.Item.{Item}
 use Rattle.items.specs.declared.Item.the-variants.{Start, Empty, End, Text, Comment, Unreadable}
-use Rattle.reader.specs.Rows.{spanOf, quoted}
+use Rattle.reader.specs.Rows.{quoted}
 
 keep-le : (c : ℕ) (l : List ℕ) → length (keptBefore c l) ≤ suc (length l)
 unfolding keptBefore

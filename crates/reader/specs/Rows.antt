@@ -10,8 +10,6 @@ use Rattle.slices.specs.Same.{same}
 use Rattle.characters.specs.Says.{says}
 use Rattle.slices.specs.Part.{partOf}
 use Rattle.slices.specs.declared.Span.{Span}
-use Rattle.items.specs.declared.Item.{Item}
-use Rattle.items.specs.declared.Item.the-variants.{Start, Empty, End, Text, Comment, Unreadable}
 use Rattle.trims.specs.Trim.{space, dropped}
 use Rattle.numbers.specs.Amount.{amountOf}
 use Rattle.numbers.specs.declared.Amount.the-variants.{Thousandths, NotAmount}
@@ -25,15 +23,6 @@ use Rattle.states.specs.declared.Entry.the-variants.{Nothing, Series, Interval,
 use Rattle.states.specs.declared.Entry.the-variants.{Identification as BringsIdentification, Object as BringsObject, BusinessType as BringsBusinessType, Direction as BringsDirection, Area as BringsArea}
 use Rattle.reader.specs.declared.rows.Brought.{Brought}
 use Rattle.reader.specs.declared.rows.Brought.the-variants.{NoCell, InRow, AtPosition, AtAmount}
-
--- where the value of `v` stands in the item
-unfoldable pub spanOf : Item → Span
-spanOf (Start t) = t .v
-spanOf (Empty t) = t .v
-spanOf (End n e) = record { start = 0; len = 0 }
-spanOf (Text w e) = record { start = 0; len = 0 }
-spanOf (Comment e) = record { start = 0; len = 0 }
-spanOf (Unreadable p) = record { start = 0; len = 0 }
 
 -- the bytes between its quotes; s is the part of the document that begins with the item
 unfoldable pub quoted : Span → List ℕ → List ℕ

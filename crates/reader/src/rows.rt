@@ -1,5 +1,6 @@
 // What an item brings into the lent tables.
 use items::Item;
+use items::span_of;
 use numbers::Amount;
 use numbers::amount_of;
 use series::Field;
@@ -24,11 +25,12 @@ ghost use Rattle.slices.specs.Run.{run};
 ghost use Rattle.slices.specs.Same.{same};
 ghost use Rattle.characters.specs.Says.{says};
 ghost use Rattle.trims.specs.Trim.{space, dropped};
+ghost use Rattle.items.specs.Parts.{spanOf};
 ghost use Rattle.items.specs.Item.{itemValue};
 ghost use Rattle.numbers.specs.Amount.{amountOf};
 ghost use Rattle.series.specs.declared.Field.the-variants.{Identification};
 ghost use Rattle.series.specs.Row.{withView, view};
-ghost use Rattle.reader.specs.Rows.{broughtBy, spanOf, quoted, fieldAfter, thousandthsOf, used, usedIn, usedBefore};
+ghost use Rattle.reader.specs.Rows.{broughtBy, quoted, fieldAfter, thousandthsOf, used, usedIn, usedBefore};
 ghost use Rattle.reader.specs.Reading.{tab, tablesAfter};
 
 // What an item brings, by where it goes: a field of its series' row, or the position or the amount of its interval's.
@@ -53,19 +55,6 @@ fn brought_by(entry: Entry) -> Brought
         Entry::Interval => Brought::InRow(Field::Count),
         Entry::Position(p) => Brought::AtPosition(p),
         Entry::Amount => Brought::AtAmount,
-    }
-}
-
-pub(crate) fn span_of(item: Item) -> Span
-    ensures { λ r. ⌜ r ≡ spanOf item ⌝ }
-{
-    match item {
-        Item::Start(t) => t.v,
-        Item::Empty(t) => t.v,
-        Item::End(_, _) => Span { start: 0, len: 0 },
-        Item::Text(_, _) => Span { start: 0, len: 0 },
-        Item::Comment(_) => Span { start: 0, len: 0 },
-        Item::Unreadable(_) => Span { start: 0, len: 0 },
     }
 }
 

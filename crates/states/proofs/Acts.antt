@@ -6,9 +6,10 @@ use mathlib.Core.Bool.{true, false}
 use Rattle.elements.specs.Names.{elementNo}
 use Rattle.guideline.specs.Rows.{everyRow}
 use Rattle.guideline.proofs.Each.{rows-in}
+use Rattle.items.specs.Parts.{nameIn}
 use Rattle.items.specs.declared.Item.{Item}
 use Rattle.items.specs.declared.Item.the-variants.{Start, Empty, End, Text, Comment, Unreadable}
-use Rattle.states.specs.Act.{actOf, nameIn}
+use Rattle.states.specs.Act.{actOf}
 use Rattle.states.specs.Moves.{started, afterEnd, moved, kindTold, stepBy, step}
 use Rattle.states.specs.declared.State.{State}
 use Rattle.states.specs.declared.Room.{Room}

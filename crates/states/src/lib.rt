@@ -29,6 +29,7 @@ use guideline::rows_of;
 use guideline::takes_another;
 use items::Item;
 use items::Tag;
+use items::name_in;
 use rules::Held;
 use rules::Judged;
 use rules::judge_value;
@@ -44,9 +45,10 @@ ghost use mathlib.Core.Path.{_≡_};
 ghost use Prim.Native.Nat.{_-_};
 ghost use lib.Dec.{eqb};
 ghost use lib.ListN.{getD};
+ghost use Rattle.items.specs.Parts.{nameIn};
 ghost use Rattle.columns.specs.Columns.{roleOf, rootRole};
 ghost use Rattle.states.specs.Attributes.{there, agree, asksV, asksScheme, noOthers, attributesFit, valueOf, schemeRefusal, least, judgeTag};
-ghost use Rattle.states.specs.Act.{actOf, nameIn};
+ghost use Rattle.states.specs.Act.{actOf};
 ghost use Rattle.states.specs.Moves.{oneMore, cutShort, begun, heldOf, tooMany, noRoom, halfOriginals, valuesJudged, startJudged, entered, entryOf, started, closedAt, countRefusal, endRefusal, afterEnd, moved, kindTold, stepBy};
 
 pub struct State {
@@ -337,20 +339,6 @@ fn act_of(item: Item) -> Act
         }
         Item::Comment(_) => Act::Passes,
         Item::Unreadable(_) => Act::Refuses(2),
-    }
-}
-
-// The name of a tag, and of any other item none.
-fn name_in(item: Item, s: &[u8]) -> &[u8]
-    ensures { λ r. ⌜ now r ≡ nameIn item (now (s .entry)) ⌝ }
-{
-    match item {
-        Item::Start(t) => part(s, 1, t.name),
-        Item::Empty(t) => part(s, 1, t.name),
-        Item::End(n, _) => part(s, 2, n),
-        Item::Text(_, _) => part(s, 0, 0),
-        Item::Comment(_) => part(s, 0, 0),
-        Item::Unreadable(_) => part(s, 0, 0),
     }
 }
 
