@@ -33,7 +33,7 @@ use Rattle.states.specs.declared.Room.{Room}
 use Rattle.states.proofs.Judgements.{Passed, passed-judged, judged-passed, series-room, interval-room}
 use Rattle.states.proofs.Judgements.{one-more}
 use Rattle.trees.proofs.Made.{both}
-use Rattle.contents.specs.Said.{Said, bytes}
+use Rattle.contents.specs.Said.{TagSaid, bytes}
 use Rattle.contents.specs.Spelled.{saidOfTag}
 use Rattle.contents.specs.Legal.{periodBy, quartersOf, positionBy, positionOf, sayings, attributesAgree, schemeFits, valueFits, elementFits}
 use Rattle.contents.proofs.Laid.{Layout}
@@ -64,7 +64,7 @@ attributes-same w t s =
 
 -- ---- what the reader judges of a tag's values, by what the tag says
 
-unfoldable judgedSaid : ℕ → Held → Said → Judged
+unfoldable judgedSaid : ℕ → Held → TagSaid → Judged
 judgedSaid w h u =
     cond (eqb (roleOf w) 1) (cond (fixedVersion (says (bytes (u .version)))) (refused 0) (refused 6))
     (cond (eqb (formOf w) 0) (refused 0)
@@ -113,10 +113,10 @@ least-some n =
     (eqb-cases n 0)
 
 -- the values fit, v telling it of the value `v`
-abbrev valuesFit : ℕ → Said → Bool → Bool
+abbrev valuesFit : ℕ → TagSaid → Bool → Bool
 valuesFit w u v = cond (eqb (roleOf w) 1) (fixedVersion (says (bytes (u .version)))) (cond (eqb (formOf w) 0) true (schemeFits w u && v))
 
-judged-values : (w : ℕ) (h : Held) (u : Said)
+judged-values : (w : ℕ) (h : Held) (u : TagSaid)
     → eqb (judgedSaid w h u .number) 0 ≡ valuesFit w u (eqb (judge (formOf w) h (sayings w u) .number) 0)
 unfolding judgedSaid alsoScheme
 judged-values w h u =
@@ -213,7 +213,7 @@ whole-originals x role f =
 
 -- ---- the values beside a tally
 
-module _ (kind k₀ r : ℕ) (o : Bool) (y : Tally) (w : ℕ) (u : Said) where
+module _ (kind k₀ r : ℕ) (o : Bool) (y : Tally) (w : ℕ) (u : TagSaid) where
   -- what the value `v` is held against
   abbrev held : Held
   held = heldOf (stateOf k₀ r o y) kind
@@ -290,7 +290,7 @@ record Alone (role : ℕ) : Type 0 where
   original : role ≡ 5 → ⊥
   pos : role ≡ 9 → ⊥
 
-module _ (kind k₀ r : ℕ) (o : Bool) (y : Tally) (q w : ℕ) (u : Said) (j : Judged) (within : Bool) where
+module _ (kind k₀ r : ℕ) (o : Bool) (y : Tally) (q w : ℕ) (u : TagSaid) (j : Judged) (within : Bool) where
   abbrev after : State
   after = entered (stateOf k₀ r o y) kind q w j within
 
@@ -395,7 +395,7 @@ module _ (kind : ℕ) (rows : List ℕ) (p : ℕ) (L : Layout rows p) (room : Ro
     abbrev row : ℕ
     row = getD rows q 0
 
-    abbrev said : Said
+    abbrev said : TagSaid
     said = saidOfTag tag s
 
     abbrev verdict : Judged

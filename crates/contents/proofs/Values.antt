@@ -17,7 +17,7 @@ use Rattle.reader.specs.Items.{Placed}
 use Rattle.reader.specs.Rows.{quoted}
 use Rattle.trees.specs.Trees.{Trees, none, element}
 use Rattle.trees.proofs.Made.{both}
-use Rattle.contents.specs.Said.{Absent, Given, Said, given, bytes}
+use Rattle.contents.specs.Said.{Absent, Given, TagSaid, given, bytes}
 use Rattle.contents.specs.Spelled.{valueGiven, saidOfTag}
 use Rattle.contents.specs.Legal.{hasRole, Period, attributesAgree, elementFits, Each}
 use Rattle.contents.proofs.Fill.{saidByItem, saidOf, saying}
@@ -71,7 +71,7 @@ HasValues rows none = Unit {0}
 HasValues rows (element q x inner after) =
     (asksV (getD rows q 0) ≡ true → there (spanOf (x .item)) ≡ true) × HasValues rows inner × HasValues rows after
 
-asked-given : (w : ℕ) (s : Said) → attributesAgree w s ≡ true → asksV w ≡ true → given (s .v) ≡ true
+asked-given : (w : ℕ) (s : TagSaid) → attributesAgree w s ≡ true → asksV w ≡ true → given (s .v) ≡ true
 unfolding attributesAgree
 asked-given w s e a =
     let v = agree (asksV w) (given (s .v)) in
