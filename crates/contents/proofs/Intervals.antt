@@ -27,7 +27,7 @@ use Rattle.reader.specs.Rows.{broughtBy, quoted, thousandthsOf, positionsWith, 
 use Rattle.reader.specs.Reading.{Tables, tablesAfter}
 use Rattle.trees.specs.Trees.{Trees, none, element, rowsTaken, Stand, Fits, EachConforms}
 use Rattle.lists.proofs.Stores.{sets-more}
-use Rattle.contents.specs.TagSaid.{TagSaid}
+use Rattle.contents.specs.Said.{TagSaid}
 use Rattle.contents.specs.Legal.{hasRole, those, positionOf}
 use Rattle.contents.specs.Shown.{amountIn}
 use Rattle.contents.proofs.Laid.{Layout, Valued}

@@ -15,7 +15,7 @@ use Rattle.reader.specs.Items.{Placed, itemsAfter, itemsFrom}
 use Rattle.trees.specs.Trees.{Sign, Opens, Closes, Trees, none, element, rowsTaken, spell, EachConforms, Conforms}
 use Rattle.trees.specs.Cursor.{onRow, follows}
 use Rattle.trees.proofs.Theorems.{complete, sound, one-tree}
-use Rattle.contents.specs.TagSaid.{TagSaid}
+use Rattle.contents.specs.Said.{TagSaid}
 use Rattle.contents.specs.Spelled.{signsBy, signsOf}
 use Rattle.contents.proofs.Lists.{drop-next}
 use Rattle.contents.proofs.Laid.{laid, Known}

@@ -29,7 +29,7 @@ use Rattle.states.specs.declared.Step.the-variants.{Next, Refused}
 use Rattle.reader.specs.Items.{Placed}
 use Rattle.reader.specs.Rows.{broughtBy, fieldAfter, seriesWith, positionsWith, amountsWith, seriesAfter, positionsAfter, amountsAfter, usedWith, usedBefore}
 use Rattle.reader.specs.Reading.{Tables, withoutUsed, tablesAfter}
-use Rattle.contents.specs.TagSaid.{TagSaid}
+use Rattle.contents.specs.Said.{TagSaid}
 use Rattle.contents.specs.Spelled.{saidOfTag}
 use Rattle.contents.specs.Legal.{positionOf}
 use Rattle.contents.proofs.Laid.{Layout, Known}

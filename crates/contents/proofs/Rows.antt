@@ -24,7 +24,7 @@ use Rattle.series.proofs.Rows.{view-as, view-low, view-none}
 use Rattle.reader.specs.Rows.{broughtBy, fieldAfter, seriesWith, seriesAfter}
 use Rattle.reader.specs.Reading.{Tables, tablesAfter}
 use Rattle.trees.specs.Trees.{Trees, none, element, rowsTaken, Stand, Fits, EachConforms}
-use Rattle.contents.specs.TagSaid.{TagSaid}
+use Rattle.contents.specs.Said.{TagSaid}
 use Rattle.contents.specs.Legal.{hasRole, those, inEach, positionOf}
 use Rattle.contents.specs.Shown.{sum, lastOf, saidFor, eachSeries, intervalCounts, RowShows}
 use Rattle.contents.proofs.Laid.{Layout, seriesAt, Valued}

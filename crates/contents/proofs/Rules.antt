@@ -10,7 +10,7 @@ use borrow.Author.Tests.{eq-eqb, ne-eqb}
 use Rattle.columns.specs.Columns.{formOf, roleOf}
 use Rattle.states.specs.declared.Room.{Room}
 use Rattle.trees.specs.Trees.{Trees, none, element, Conforms}
-use Rattle.contents.specs.TagSaid.{TagSaid}
+use Rattle.contents.specs.Said.{TagSaid}
 use Rattle.contents.specs.Legal.{hasRole, hasForm, those, inEach, Period, periodIn, periodOf, quartersOf, positionOf, elementFits, Each, inTurn, SeriesFits, All}
 use Rattle.contents.proofs.Tests.{chosen, other}
 use Rattle.contents.proofs.Laid.{Layout, seriesAt}

@@ -16,7 +16,7 @@ use Rattle.guideline.specs.Kinds.{unbounded, kindAt, withinMost, takesAnother}
 use Rattle.states.specs.declared.Room.{Room}
 use Rattle.trees.specs.Trees.{Trees, none, element}
 use Rattle.trees.proofs.Made.{both}
-use Rattle.contents.specs.TagSaid.{TagSaid}
+use Rattle.contents.specs.Said.{TagSaid}
 use Rattle.contents.specs.Legal.{hasRole, those, Period, quartersOf, positionOf, elementFits, inTurn, Each}
 use Rattle.contents.proofs.Tests.{chosen, other, parts-and}
 use Rattle.contents.proofs.Elements.{Within, within-more, length-element, unit}

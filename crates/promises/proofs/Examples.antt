@@ -48,7 +48,7 @@ use mathlib.Core.Bool.{true}
 use Rattle.promises.specs.Examples.{examples, allPass}
 use Rattle.promises.specs.Sheet.{sheet, sheetOutcome}
 use Rattle.trees.specs.Trees.{Trees}
-use Rattle.contents.specs.TagSaid.{TagSaid}
+use Rattle.contents.specs.Said.{TagSaid}
 use Rattle.contents.specs.Spelled.{Spells}
 use Rattle.contents.specs.Legal.{Legal, HasRoom}
 use Rattle.contents.proofs.Theorems.{accepted-legal}

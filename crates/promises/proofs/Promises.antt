@@ -24,7 +24,7 @@ use Rattle.blindness.specs.Readable.{DifferInQty}
 use Rattle.blindness.specs.Blind.{OwnDigitsDiffer}
 use Rattle.blindness.proofs.Outcomes.{two-runs}
 use Rattle.trees.specs.Trees.{Trees}
-use Rattle.contents.specs.TagSaid.{TagSaid}
+use Rattle.contents.specs.Said.{TagSaid}
 use Rattle.contents.specs.Spelled.{Spells, SpellAlike}
 use Rattle.contents.specs.Legal.{Legal, HasRoom}
 use Rattle.contents.specs.Shown.{Tells, SameButPlaces}
