@@ -30,6 +30,16 @@ isView Area = true
 isView FirstRow = false
 isView Count = false
 
+-- "of its BusinessType, spaces dropped", and of "Direction (spaces dropped)"
+abbrev pub dropsSpaces : Field → Bool
+dropsSpaces Identification = false
+dropsSpaces Object = false
+dropsSpaces BusinessType = true
+dropsSpaces Direction = true
+dropsSpaces Area = false
+dropsSpaces FirstRow = false
+dropsSpaces Count = false
+
 -- how many numbers a series takes, and n series
 abbrev pub rowWidth : ℕ
 rowWidth = 12
