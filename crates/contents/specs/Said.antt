@@ -8,11 +8,17 @@ pub data Value : Type 0 where
   Absent : Value
   Given : List ℕ → Value
 
--- `v`, codingScheme, the root's version; whether there are others, and whether all of those may be passed over on a root
+-- those that a root may have: DtdVersion, DtdRelease, DtdBDEWNachrichtenVersion
+pub record DtdSaid : Type 0 where
+  pub version : Value
+  pub release : Value
+  pub message : Value
+
+-- `v`, codingScheme, those of a root; whether there are others, and whether all of those may be passed over on a root
 pub record Said : Type 0 where
   pub v : Value
   pub scheme : Value
-  pub version : Value
+  pub dtd : DtdSaid
   pub others : Bool
   pub passable : Bool
 
