@@ -8,11 +8,15 @@ use Rattle.lists.proofs.Unique.{one}
 use Rattle.slices.specs.Same.{same}
 use Rattle.characters.specs.Says.{says}
 use Rattle.guideline.specs.Rows.{everyRow, rowsIn}
+use Rattle.guideline.specs.declared.Demands.{Demands}
 use Rattle.guideline.specs.declared.Kind.{Kind}
-use Rattle.guideline.specs.Kinds.{kindAt, kindOf, fixedFor, takesAnother, hasEnough}
+use Rattle.guideline.specs.Kinds.{noDemands, kindAt, kindOf, fixedFor, takesAnother, hasEnough}
 
 pub every-row-one : {r r′ : List ℕ} → r ≡ everyRow → r′ ≡ everyRow → r ≡ r′
 every-row-one = one
+
+pub none-one : {r r′ : Demands} → r ≡ noDemands → r′ ≡ noDemands → r ≡ r′
+none-one = one
 
 pub rows-of-one : (rows : List ℕ) (kind : ℕ) {r r′ : List ℕ} → r ≡ rowsIn rows kind → r′ ≡ rowsIn rows kind → r ≡ r′
 rows-of-one rows kind = one

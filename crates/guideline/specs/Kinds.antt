@@ -38,6 +38,10 @@ optional = 2
 unfoldable pub noDemands : Demands
 noDemands = record { version = notKnown; release = notKnown; message = notKnown }
 
+-- DtdBDEWNachrichtenVersion has to come, and the others are not known
+unfoldable pub messageAlone : Demands
+messageAlone = record { version = notKnown; release = notKnown; message = asked }
+
 -- ---- the kinds
 
 -- 0, before the root, and any other number that is no kind: no element has the name of its root, and it has no rows
@@ -49,7 +53,7 @@ unfoldable pub kindOne : Kind
 kindOne =
     record {
       root = elementNo (text "Beschaffungsanforderung");
-      dtd = record { version = notKnown; release = notKnown; message = asked };
+      dtd = messageAlone;
       first = 0;
       count = 32;
       daily = true;
@@ -64,7 +68,7 @@ unfoldable pub kindTwo : Kind
 kindTwo =
     record {
       root = elementNo (text "Kostenblatt");
-      dtd = record { version = notKnown; release = notKnown; message = asked };
+      dtd = messageAlone;
       first = 32;
       count = 34;
       daily = false;

@@ -96,7 +96,7 @@ ghost use lib.ListN.{length, take, drop};
 ghost use Rattle.slices.specs.Same.{same};
 ghost use Rattle.characters.specs.Says.{says};
 ghost use Rattle.guideline.specs.Rows.{everyRow, rowsIn};
-ghost use Rattle.guideline.specs.Kinds.{kindAt, kindOf, fixedOne, fixedTwo, fixedFor, takesAnother, hasEnough};
+ghost use Rattle.guideline.specs.Kinds.{noDemands, messageAlone, kindAt, kindOf, fixedOne, fixedTwo, fixedFor, takesAnother, hasEnough};
 
 // What a kind asks of each of the attributes that a root may have.
 pub struct Demands {
@@ -108,6 +108,29 @@ pub struct Demands {
 pub const NOT_KNOWN: usize = 0;
 pub const ASKED: usize = 1;
 pub const OPTIONAL: usize = 2;
+
+impl Demands {
+    // Ruled out: an attribute that a root may have on an element that is none.
+    pub fn none() -> Demands
+        ensures { λ r. ⌜ r ≡ noDemands ⌝ }
+    {
+        Demands {
+            version: NOT_KNOWN,
+            release: NOT_KNOWN,
+            message: NOT_KNOWN,
+        }
+    }
+
+    fn message_alone() -> Demands
+        ensures { λ r. ⌜ r ≡ messageAlone ⌝ }
+    {
+        Demands {
+            version: NOT_KNOWN,
+            release: NOT_KNOWN,
+            message: ASKED,
+        }
+    }
+}
 
 // Those attributes: DtdVersion, DtdRelease, DtdBDEWNachrichtenVersion.
 pub const DTD_VERSION: usize = 0;
@@ -265,11 +288,7 @@ pub fn kind_at(kind: u32) -> Kind
     ensures { λ r. ⌜ r ≡ kindAt kind ⌝ }
 {
     if kind == 1 {
-        let dtd = Demands {
-            version: NOT_KNOWN,
-            release: NOT_KNOWN,
-            message: ASKED,
-        };
+        let dtd = Demands::message_alone();
         return Kind {
             root: BESCHAFFUNGSANFORDERUNG,
             dtd,
@@ -283,11 +302,7 @@ pub fn kind_at(kind: u32) -> Kind
         };
     }
     if kind == 2 {
-        let dtd = Demands {
-            version: NOT_KNOWN,
-            release: NOT_KNOWN,
-            message: ASKED,
-        };
+        let dtd = Demands::message_alone();
         return Kind {
             root: KOSTENBLATT,
             dtd,
@@ -300,11 +315,7 @@ pub fn kind_at(kind: u32) -> Kind
             counted: false,
         };
     }
-    let dtd = Demands {
-        version: NOT_KNOWN,
-        release: NOT_KNOWN,
-        message: NOT_KNOWN,
-    };
+    let dtd = Demands::none();
     Kind {
         root: 0,
         dtd,
@@ -377,13 +388,11 @@ fn is_fixed_two(attribute: usize, v: &[u8]) -> bool
 pub fn is_fixed(kind: u32, attribute: usize, v: &[u8]) -> bool
     ensures { λ r. ⌜ r ≡ same (fixedFor kind attribute) (says (now (v .entry))) ⌝ }
 {
-    if kind == 1 {
-        return is_fixed_one(attribute, v);
+    match kind {
+        1 => is_fixed_one(attribute, v),
+        2 => is_fixed_two(attribute, v),
+        _ => is_said(b"", v),
     }
-    if kind == 2 {
-        return is_fixed_two(attribute, v);
-    }
-    is_said(b"", v)
 }
 
 // Whether a Period that has n Intervals takes another. Ruled out: a 101st in kind 1; an end to the Intervals of kind 2.

@@ -34,7 +34,7 @@ use Rattle.rules.specs.Rules.{versionBy, isVersion, amountBy, amount, judgeInte
 use Rattle.elements.specs.Names.{names, numberIn, elementNo}
 use Rattle.structure.specs.Rows.{nameOf, parentOf, required, repeated, nextIn, endsIn, startOf, endAt, endOf, endsAtOnce, closesDocument, overOf}
 use Rattle.columns.specs.Columns.{collapsed, formOf, schemeOf, roleOf}
-use Rattle.guideline.specs.Kinds.{noDemands, noKind, kindOne, kindTwo, kindAt, fixedOne, fixedTwo, fixedFor, withinMost, takesAnother, kindOf, hasEnough}
+use Rattle.guideline.specs.Kinds.{noDemands, messageAlone, noKind, kindOne, kindTwo, kindAt, fixedOne, fixedTwo, fixedFor, withinMost, takesAnother, kindOf, hasEnough}
 use Rattle.guideline.specs.Rows.{beschaffungsanforderung, kostenblatt, rowsOf}
 use Rattle.states.specs.Attributes.{valueOf, schemeRefusal, least, alsoScheme, there, agree, asksV, asksScheme, demandsAt, meets, dtdFits, noOthers, attributesFit, valueFixed, dtdFixed, judgeTag}
 use Rattle.states.specs.Moves.{oneMore, oneSeries, oneInterval, oneOriginal, lastPos, covering, closedAt, endRefusal, afterEndAt as tagEnded, afterEnd, begun, heldOf, cutShort, tooMany, noRoom, halfOriginals, valuesJudged, judgedAt, startJudged, atRow, kept, entered, entryOf, startedBy, startedAt, started, countRefusal, moved, rootKind, kindTold, step}
@@ -65,7 +65,7 @@ unfolding byte run same begins walk seqLen control single charAt saidBy saidAt s
     octoberSunday yearOf inSummer startOfDay deliveryDay dayPeriod versionBy isVersion amountBy
     amount judgeIntervalBy judgeInterval positionFits judgePositionBy judgePosition judge unless formRefusal periodFits judgePeriodBy
     judgePeriod names numberIn elementNo nameOf parentOf required repeated nextIn endsIn startOf endAt endOf endsAtOnce closesDocument overOf
-    collapsed formOf schemeOf roleOf noDemands noKind kindOne kindTwo kindAt fixedOne fixedTwo fixedFor withinMost takesAnother kindOf hasEnough beschaffungsanforderung kostenblatt rowsOf valueOf schemeRefusal least
+    collapsed formOf schemeOf roleOf noDemands messageAlone noKind kindOne kindTwo kindAt fixedOne fixedTwo fixedFor withinMost takesAnother kindOf hasEnough beschaffungsanforderung kostenblatt rowsOf valueOf schemeRefusal least
     alsoScheme there agree asksV asksScheme demandsAt meets dtdFits noOthers attributesFit valueFixed dtdFixed judgeTag oneMore oneSeries oneInterval oneOriginal lastPos covering closedAt
     endRefusal tagEnded afterEnd begun heldOf cutShort tooMany noRoom halfOriginals valuesJudged judgedAt startJudged atRow kept entered entryOf
     startedBy startedAt started countRefusal moved rootKind kindTold step groupsIn flat wrote left itemsAfter itemsFrom quoted

@@ -26,7 +26,6 @@ use guideline::DTD_MESSAGE;
 use guideline::DTD_RELEASE;
 use guideline::DTD_VERSION;
 use guideline::Demands;
-use guideline::NOT_KNOWN;
 use guideline::OPTIONAL;
 use guideline::has_enough;
 use guideline::is_fixed;
@@ -163,11 +162,7 @@ fn demands_at(kind: u32, w: usize) -> Demands
         let k = kind_at(kind);
         return k.dtd;
     }
-    Demands {
-        version: NOT_KNOWN,
-        release: NOT_KNOWN,
-        message: NOT_KNOWN,
-    }
+    Demands::none()
 }
 
 fn meets_demand(demand: usize, given: bool) -> bool
