@@ -106,7 +106,9 @@ pub struct Demands {
 }
 
 pub const NOT_KNOWN: usize = 0;
+
 pub const ASKED: usize = 1;
+
 pub const OPTIONAL: usize = 2;
 
 impl Demands {
@@ -134,7 +136,9 @@ impl Demands {
 
 // Those attributes: DtdVersion, DtdRelease, DtdBDEWNachrichtenVersion.
 pub const DTD_VERSION: usize = 0;
+
 pub const DTD_RELEASE: usize = 1;
+
 pub const DTD_MESSAGE: usize = 2;
 
 // What differs by kind, but for the rows and the fixed values.
