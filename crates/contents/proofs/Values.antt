@@ -11,7 +11,6 @@ use Rattle.slices.specs.declared.Span.{Span}
 use Rattle.items.specs.Parts.{spanOf}
 use Rattle.items.specs.declared.Item.{Item}
 use Rattle.items.specs.declared.Item.the-variants.{Start, Empty, End, Text, Comment, Unreadable}
-use Rattle.columns.specs.Columns.{rootRole}
 use Rattle.states.specs.Attributes.{there, agree, asksV, asksScheme, demandsAt, noOthers}
 use Rattle.reader.specs.Items.{Placed}
 use Rattle.reader.specs.Rows.{quoted}

@@ -26,7 +26,7 @@ use Rattle.items.specs.Text.{textTo, textItem}
 use Rattle.items.specs.Item.{tagOf, tagItem, startTag, endTag, endName, endClose, commentItem, commentTag, item}
 use Rattle.items.specs.declared.Tag.{Tag}
 use Rattle.items.specs.declared.Item.the-variants.{End}
-use Rattle.digits.specs.Items.{InSpan, Stands, Disjoint, IsTag, Beside, ValuesLaid, TagLaid, Laid, valueIn, PartsSame}
+use Rattle.digits.specs.Items.{InSpan, Stands, IsTag, Beside, ValuesLaid, TagLaid, Laid, valueIn, PartsSame}
 use Rattle.trims.proofs.Low.{by-test}
 use Rattle.digits.proofs.Near.{part-near}
 use Rattle.digits.proofs.Spans.{Within, ends-ordered}
