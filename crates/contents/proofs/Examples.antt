@@ -21,7 +21,7 @@ use Rattle.prolog.specs.Prolog.{declaredBy, declared, encodedBy, encoded, decla
 use Rattle.elements.specs.Names.{names, numberIn, elementNo}
 use Rattle.states.specs.Attributes.{there}
 use Rattle.reader.specs.Items.{itemsAfter, itemsFrom}
-use Rattle.contents.specs.Spelled.{valueGiven, dtdSaid, saidOfTag, elementIn, signsBy, signsOf, allowed, AllAllowed, SpellAlike}
+use Rattle.contents.specs.Spelled.{valueGiven, dtdOfTag, saidOfTag, elementIn, signsBy, signsOf, allowed, AllAllowed, SpellAlike}
 
 abbrev pub plain : List ℕ
 plain =
@@ -38,7 +38,7 @@ unfolding byte run same begins seek here firstAt walk seqLen control single char
     openingFrom opening attributeEnd attributeQuote attributeName attribute pieceAfter piece partOf absent dtdName noDtd withDtd noneKnown upToTwo withAttribute onto endsAfter
     ends keptOf named twice commentTo comment textTo textItem endClose endName endTag commentItem commentTag tagOf tagItem startTag item
     declaredBy declared encodedBy encoded declarationBy declaration markLen behindMark beginAfter begin names numberIn elementNo there itemsAfter itemsFrom
-    valueGiven dtdSaid saidOfTag elementIn signsBy signsOf allowed AllAllowed
+    valueGiven dtdOfTag saidOfTag elementIn signsBy signsOf allowed AllAllowed
 plain-pretty =
     record {
       from = 0;

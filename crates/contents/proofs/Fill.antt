@@ -15,13 +15,13 @@ use Rattle.reader.specs.Items.{Placed}
 use Rattle.reader.specs.Rows.{usedBefore}
 use Rattle.reader.specs.Reading.{Tables, tablesAfter}
 use Rattle.trees.specs.Trees.{Sign, Opens, Closes, Trees, none, element}
-use Rattle.contents.specs.Said.{Said, Absent}
+use Rattle.contents.specs.Said.{TagSaid, Absent}
 use Rattle.contents.specs.Spelled.{saidOfTag, elementIn}
 use Rattle.contents.specs.Legal.{positionOf}
 use Rattle.contents.proofs.Walk.{Tally, opened, walked}
 
 -- what a placed item says
-unfoldable pub saidByItem : Item → List ℕ → Said
+unfoldable pub saidByItem : Item → List ℕ → TagSaid
 saidByItem (Start t) s = saidOfTag t s
 saidByItem (Empty t) s = saidOfTag t s
 saidByItem (End n e) s = record { v = Absent; scheme = Absent; dtd = record { version = Absent; release = Absent; message = Absent }; others = false; passable = true }
@@ -29,7 +29,7 @@ saidByItem (Text w e) s = record { v = Absent; scheme = Absent; dtd = record { v
 saidByItem (Comment e) s = record { v = Absent; scheme = Absent; dtd = record { version = Absent; release = Absent; message = Absent }; others = false; passable = true }
 saidByItem (Unreadable p) s = record { v = Absent; scheme = Absent; dtd = record { version = Absent; release = Absent; message = Absent }; others = false; passable = true }
 
-abbrev pub saidOf : Placed → Said
+abbrev pub saidOf : Placed → TagSaid
 saidOf x = saidByItem (x .item) (x .rest)
 
 -- the signs of the items, each start with its item
@@ -46,7 +46,7 @@ placedSigns [] = []
 placedSigns (x ∷ xs) = placedBy x (x .item) ++ placedSigns xs
 
 -- the content itself, its elements being told by their items
-unfoldable pub saying : Trees Placed → Trees Said
+unfoldable pub saying : Trees Placed → Trees TagSaid
 saying none = none
 saying (element q x inner after) = element q (saidOf x) (saying inner) (saying after)
 

@@ -29,7 +29,7 @@ use Rattle.states.specs.declared.Step.the-variants.{Next, Refused}
 use Rattle.reader.specs.Items.{Placed}
 use Rattle.reader.specs.Rows.{broughtBy, fieldAfter, seriesWith, positionsWith, amountsWith, seriesAfter, positionsAfter, amountsAfter, usedWith, usedBefore}
 use Rattle.reader.specs.Reading.{Tables, withoutUsed, tablesAfter}
-use Rattle.contents.specs.Said.{Said}
+use Rattle.contents.specs.Said.{TagSaid}
 use Rattle.contents.specs.Spelled.{saidOfTag}
 use Rattle.contents.specs.Legal.{positionOf}
 use Rattle.contents.proofs.Laid.{Layout, Known}
@@ -160,10 +160,10 @@ module _ (doc : List ℕ) (room : Room) (kind : ℕ) (rows : List ℕ) (p : ℕ)
           let u = counts in
           let e =
           entered-opened kind rows p L room k₀ r o y q g tag (x .rest) empty a′ b (u .0) (u .1) (u .2) (not empty)
-          ∙ ap (λ (m : Said). stateOf kind q (not empty) (opened (getD rows q 0) m y)) says in
+          ∙ ap (λ (m : TagSaid). stateOf kind q (not empty) (opened (getD rows q 0) m y)) says in
           let h =
           entry-same kind rows p L room k₀ r o y q g tag (x .rest) empty a′ b
-          ∙ ap (λ (m : Said). entryOf (roleOf (getD rows q 0)) (positionOf m)) says in
+          ∙ ap (λ (m : TagSaid). entryOf (roleOf (getD rows q 0)) (positionOf m)) says in
           rw (e, h, j)
         where
           counts : (y .series < 4294967295) × (y .intervals < 4294967295) × (y .originals < 4294967295)
@@ -186,7 +186,7 @@ module _ (doc : List ℕ) (room : Room) (kind : ℕ) (rows : List ℕ) (p : ℕ)
           ⊎-elim
           (λ (h : (j .number ≡ 0) × (eqb (j .number) 0 ≡ true)).
           let k = judged-taken kind rows p L room k₀ r o y q g tag (x .rest) empty (h .0) in
-          let a : Taken kind room (getD rows q 0) (saidOf x) y = subst (λ (m : Said). Taken kind room (getD rows q 0) m y) says (k .0) in
+          let a : Taken kind room (getD rows q 0) (saidOf x) y = subst (λ (m : TagSaid). Taken kind room (getD rows q 0) m y) says (k .0) in
           let e = went a (k .1) in
           ⊎-elim
           (λ u. subst goes (sym (ap whole e ∙ is-used doc (t .series) (x .item) (x .rest) st (bringing rows q x) u)) (λ z. omega (arith, z)))

@@ -24,7 +24,7 @@ use Rattle.series.proofs.Rows.{view-as, view-low, view-none}
 use Rattle.reader.specs.Rows.{broughtBy, fieldAfter, seriesWith, seriesAfter}
 use Rattle.reader.specs.Reading.{Tables, tablesAfter}
 use Rattle.trees.specs.Trees.{Trees, none, element, rowsTaken, Stand, Fits, EachConforms}
-use Rattle.contents.specs.Said.{Said}
+use Rattle.contents.specs.Said.{TagSaid}
 use Rattle.contents.specs.Legal.{hasRole, those, inEach, positionOf}
 use Rattle.contents.specs.Shown.{sum, lastOf, saidFor, eachSeries, intervalCounts, RowShows}
 use Rattle.contents.proofs.Laid.{Layout, seriesAt, Valued}
@@ -38,7 +38,7 @@ use Rattle.contents.proofs.Roles.{by-entry}
 use Rattle.contents.proofs.Intervals.{puts}
 use Rattle.contents.proofs.Series.{Effect, inside}
 
-row-kept : {doc t u rows : List ℕ} {n : ℕ} {s : Trees Said} {first : ℕ} → ((j : ℕ) → j < cellsOf (n + 1) → getD u j 0 ≡ getD t j 0)
+row-kept : {doc t u rows : List ℕ} {n : ℕ} {s : Trees TagSaid} {first : ℕ} → ((j : ℕ) → j < cellsOf (n + 1) → getD u j 0 ≡ getD t j 0)
     → RowShows doc t rows n s first → RowShows doc u rows n s first
 row-kept {doc} {t} {u} {rows} {n} k r =
     record {
@@ -51,39 +51,39 @@ row-kept {doc} {t} {u} {rows} {n} k r =
       count = k (cellAt n Count) (omega arith) ∙ r .count;
     }
 
-pub row-moved : {doc cells rows : List ℕ} {n m : ℕ} {s : Trees Said} {f g : ℕ} → n ≡ m → f ≡ g → RowShows doc cells rows n s f → RowShows doc cells rows m s g
+pub row-moved : {doc cells rows : List ℕ} {n m : ℕ} {s : Trees TagSaid} {f g : ℕ} → n ≡ m → f ≡ g → RowShows doc cells rows n s f → RowShows doc cells rows m s g
 row-moved e d r = rw (e, d) at r
 
 -- m rows from n on show these series, of which the first has its first interval at f
-abbrev RowsFrom : List ℕ → List ℕ → List ℕ → ℕ → ℕ → ℕ → List (Trees Said) → Type 0
+abbrev RowsFrom : List ℕ → List ℕ → List ℕ → ℕ → ℕ → ℕ → List (Trees TagSaid) → Type 0
 RowsFrom doc cells rows n f m ss = (i : ℕ) → i < m → RowShows doc cells rows (n + i) (getD ss i none) (f + sum (take i (intervalCounts rows ss)))
 
 -- one row and those after it
-rows-on : (doc cells rows : List ℕ) (n f m : ℕ) (s : Trees Said) (ss : List (Trees Said)) → RowShows doc cells rows n s f
+rows-on : (doc cells rows : List ℕ) (n f m : ℕ) (s : Trees TagSaid) (ss : List (Trees TagSaid)) → RowShows doc cells rows n s f
     → RowsFrom doc cells rows (n + 1) (f + length (those (hasRole 4) rows s)) m ss → RowsFrom doc cells rows n f (suc m) (s ∷ ss)
 unfolding sum intervalCounts
 rows-on doc cells rows n f m s ss r rs zero l = row-moved (omega arith) (omega arith) r
 rows-on doc cells rows n f m s ss r rs (suc i) l = row-moved (omega arith) (omega arith) (rs i (omega (arith, l)))
 
 -- between two places of the walk beside the series: m rows from n on are filled
-pub record Filled (doc rows : List ℕ) (n f : ℕ) (t u : List ℕ) (m : ℕ) (ss : List (Trees Said)) : Type 0 where
+pub record Filled (doc rows : List ℕ) (n f : ℕ) (t u : List ℕ) (m : ℕ) (ss : List (Trees TagSaid)) : Type 0 where
   pub size : length u ≡ length t
   pub before : (j : ℕ) → j < cellsOf n → getD u j 0 ≡ getD t j 0
   pub shown : RowsFrom doc u rows n f m ss
 
-pub filled-as : {doc rows : List ℕ} {n n₁ f f₁ : ℕ} {t t₁ u : List ℕ} {m m₁ : ℕ} {ss ss₁ : List (Trees Said)} → n ≡ n₁ → f ≡ f₁ → t ≡ t₁ → m ≡ m₁ → ss ≡ ss₁
+pub filled-as : {doc rows : List ℕ} {n n₁ f f₁ : ℕ} {t t₁ u : List ℕ} {m m₁ : ℕ} {ss ss₁ : List (Trees TagSaid)} → n ≡ n₁ → f ≡ f₁ → t ≡ t₁ → m ≡ m₁ → ss ≡ ss₁
     → Filled doc rows n f t u m ss → Filled doc rows n₁ f₁ t₁ u m₁ ss₁
 filled-as a b c d e k = rw (a, b, c, d, e) at k
 
 -- ---- the lists of a content with one element more
 
 module _ (rows : List ℕ) (role q : ℕ) (x : Placed) (inner after : Trees Placed) where
-  pub those-after : {t : Bool} {l : List Said} → eqb (roleOf (getD rows q 0)) role ≡ t → those (hasRole role) rows (saying inner) ≡ l
+  pub those-after : {t : Bool} {l : List TagSaid} → eqb (roleOf (getD rows q 0)) role ≡ t → those (hasRole role) rows (saying inner) ≡ l
       → own t (saidOf x) ++ (l ++ those (hasRole role) rows (saying after)) ≡ those (hasRole role) rows (saying (element q x inner after))
   unfolding saying
   those-after e f = sym (those-of rows (hasRole role) q (saidOf x) (saying inner) (saying after) e f)
 
-  each-after : {t : Bool} {l : List (Trees Said)} → eqb (roleOf (getD rows q 0)) role ≡ t → inEach (hasRole role) rows (saying inner) ≡ l
+  each-after : {t : Bool} {l : List (Trees TagSaid)} → eqb (roleOf (getD rows q 0)) role ≡ t → inEach (hasRole role) rows (saying inner) ≡ l
       → own t (saying inner) ++ (l ++ inEach (hasRole role) rows (saying after)) ≡ inEach (hasRole role) rows (saying (element q x inner after))
   unfolding saying
   each-after e f = sym (in-of rows (hasRole role) q (saidOf x) (saying inner) (saying after) e f)
@@ -125,7 +125,7 @@ module _ (kind : ℕ) (rows : List ℕ) (p : ℕ) (L : Layout rows p) (W : Value
   -- what a series has once
   one-said : (role k : ℕ) → ((q : ℕ) → q < length rows → roleOf (getD rows q 0) ≡ role → q ≡ k) → seriesAt L < k → k < p → roleOf (getD rows k 0) ≡ role
       → required (getD rows k 0) ≡ true → (inner : Trees Placed) → Fits rows (seriesAt L) (rowsTaken inner) → EachConforms rows inner
-      → (s : Said) × (those (hasRole role) rows (saying inner) ≡ s ∷ [])
+      → (s : TagSaid) × (those (hasRole role) rows (saying inner) ≡ s ∷ [])
   one-said role k only a b r m inner f c =
       let s = L .size in
       let e = in-series-row rows p L k a (omega (arith, b)) in
@@ -135,7 +135,7 @@ module _ (kind : ℕ) (rows : List ℕ) (p : ℕ) (L : Layout rows p) (W : Value
       (g .complete k (omega (arith, s, b)) e m)
 
   -- a series' element brings its row
-  pub record Rowed (y y′ : Tally) (t t′ : List ℕ) (s : Trees Said) : Type 0 where
+  pub record Rowed (y y′ : Tally) (t t′ : List ℕ) (s : Trees TagSaid) : Type 0 where
     pub series : y′ .series ≡ y .series + 1
     pub intervals : y′ .intervals ≡ y .intervals + length (those (hasRole 4) rows s)
     pub size : length t′ ≡ length t
@@ -255,7 +255,7 @@ module _ (kind : ℕ) (rows : List ℕ) (p : ℕ) (L : Layout rows p) (W : Value
 
   -- what is said once in a series
   pub record Once (inner : Trees Placed) : Type 0 where
-    pub id : Said
+    pub id : TagSaid
     pub id-once : those (hasRole 8) rows (saying inner) ≡ id ∷ []
     pub no-series : those (hasRole 2) rows (saying inner) ≡ []
     pub no-series-each : inEach (hasRole 2) rows (saying inner) ≡ []

@@ -25,7 +25,7 @@ use Rattle.series.proofs.Rows.{view-set, view-as, view-low, views-apart}
 use Rattle.reader.specs.Rows.{broughtBy, quoted, fieldAfter, seriesWith, seriesAfter}
 use Rattle.reader.specs.Reading.{Tables, tablesAfter}
 use Rattle.trees.specs.Trees.{Trees, none, element, rowsTaken, Stand, EachConforms}
-use Rattle.contents.specs.Said.{Said, bytes}
+use Rattle.contents.specs.Said.{TagSaid, bytes}
 use Rattle.contents.specs.Legal.{hasRole, those, positionOf}
 use Rattle.contents.specs.Shown.{lastOf, roleShown, partShown, saidFor}
 use Rattle.contents.proofs.Lists.{last-append, none-both}
@@ -39,10 +39,10 @@ use Rattle.contents.proofs.Views.{whole-view, trimmed-view}
 use Rattle.contents.proofs.Roles.{Role, is-series, is-interval, is-object, is-business, is-id, is-pos, is-qty, is-direction, is-area, is-other, role-cases, role-tells, shownRole, not-shown}
 
 -- what an element in row w shows in each view
-abbrev pub valueShown : Field → Said → List ℕ
+abbrev pub valueShown : Field → TagSaid → List ℕ
 valueShown f s = partShown f (bytes (s .v))
 
-abbrev pub shownBy : ℕ → Said → Field → List (List ℕ)
+abbrev pub shownBy : ℕ → TagSaid → Field → List (List ℕ)
 shownBy role s f = map (valueShown f) (own (eqb role (roleShown f)) s)
 
 -- a count that stays
@@ -68,7 +68,7 @@ module _ {doc : List ℕ} {i : ℕ} {f : Field} {t : List ℕ} where
       }
 
 -- a view that is set to what an element says
-module _ (doc : List ℕ) (i : ℕ) (t : List ℕ) (g : Field) (v : isView g ≡ true) (a n : ℕ) (s : Said) (shows : view doc (withView t i g a n) i g ≡ valueShown g s) where
+module _ (doc : List ℕ) (i : ℕ) (t : List ℕ) (g : Field) (v : isView g ≡ true) (a n : ℕ) (s : TagSaid) (shows : view doc (withView t i g a n) i g ≡ valueShown g s) where
   set-viewed : Viewed doc i t (withView t i g a n) g (shownBy (roleShown g) s g)
   set-viewed = rw (eq-eqb (roleShown g) (roleShown g) refl) (record { shown = shows; kept = λ e. absurd (zero-not-one (cc)) })
 
@@ -148,7 +148,7 @@ module _ {doc : List ℕ} {i : ℕ} {y : Tally} {t : List ℕ} where
             views = λ f e. rw (unseen f e) (viewed-same refl refl);
           }
 
-      view-effect : (g : Field) → isView g ≡ true → (a n : ℕ) (s : Said) → view doc (withView t i g a n) i g ≡ valueShown g s
+      view-effect : (g : Field) → isView g ≡ true → (a n : ℕ) (s : TagSaid) → view doc (withView t i g a n) i g ≡ valueShown g s
           → Effect doc i y t y′ (withView t i g a n) (shownBy (roleShown g) s)
       view-effect g v a n s shows =
           let k = view-set t i g a n in
@@ -166,7 +166,7 @@ module _ {doc : List ℕ} {i : ℕ} {y : Tally} {t : List ℕ} where
           }
 
 -- what a role says that no view shows
-unshown : (r : ℕ) → shownRole r ≡ false → (s : Said) (f : Field) → isView f ≡ true → shownBy r s f ≡ []
+unshown : (r : ℕ) → shownRole r ≡ false → (s : TagSaid) (f : Field) → isView f ≡ true → shownBy r s f ≡ []
 unshown r z s f e = rw (not-shown r z f e)
 
 last-row : {n i : ℕ} → n ≡ suc i → n - 1 ≡ i

@@ -37,8 +37,8 @@ use Rattle.states.specs.declared.Room.{Room}
 use Rattle.states.proofs.Judgements.{Passed, passed-judged, judged-passed, series-room, interval-room}
 use Rattle.states.proofs.Judgements.{one-more}
 use Rattle.trees.proofs.Made.{both}
-use Rattle.contents.specs.Said.{Absent, Given, Said, bytes}
-use Rattle.contents.specs.Spelled.{valueGiven, dtdSaid, saidOfTag}
+use Rattle.contents.specs.Said.{Absent, Given, TagSaid, bytes}
+use Rattle.contents.specs.Spelled.{valueGiven, dtdOfTag, saidOfTag}
 use Rattle.contents.specs.Legal.{periodBy, quartersOf, positionBy, positionOf, sayings, dtdAgrees, attributesAgree, fixedFits, rootFits, schemeFits, valueFits, elementFits}
 use Rattle.contents.proofs.Laid.{Layout}
 use Rattle.contents.proofs.Walk.{Tally, quartersIn, opened, Taken, Ended}
@@ -64,8 +64,8 @@ opposite false e = absurd (zero-not-one (cc))
 
 -- ---- the attributes of a tag, by where they stand and by what they are
 
-dtd-same : (demands : Demands) (d : Dtd) (s : List ℕ) → dtdFits demands d ≡ dtdAgrees demands (dtdSaid d s)
-unfolding dtdFits dtdAgrees dtdSaid
+dtd-same : (demands : Demands) (d : Dtd) (s : List ℕ) → dtdFits demands d ≡ dtdAgrees demands (dtdOfTag d s)
+unfolding dtdFits dtdAgrees dtdOfTag
 dtd-same demands d s =
     rw (given-there (d .version) s, given-there (d .release) s, given-there (d .message) s)
     (chained-three (meets (demands .version) (there (d .version))) (meets (demands .release) (there (d .release))) (meets (demands .message) (there (d .message))))
@@ -79,7 +79,7 @@ attributes-same kind w t s =
 
 -- ---- what the reader judges of a tag's values, by what the tag says
 
-unfoldable judgedSaid : ℕ → Held → Said → Judged
+unfoldable judgedSaid : ℕ → Held → TagSaid → Judged
 judgedSaid w h u =
     cond (eqb (roleOf w) 1) (cond (rootFits (h .kind) (u .dtd)) (refused 0) (refused 6))
     (cond (eqb (formOf w) 0) (refused 0)
@@ -108,8 +108,8 @@ fixed-same kind attribute x s = by (there x)
     by true = refl
     by false = refl
 
-root-same : (kind : ℕ) (d : Dtd) (s : List ℕ) → dtdFixed kind d s ≡ rootFits kind (dtdSaid d s)
-unfolding dtdFixed rootFits dtdSaid
+root-same : (kind : ℕ) (d : Dtd) (s : List ℕ) → dtdFixed kind d s ≡ rootFits kind (dtdOfTag d s)
+unfolding dtdFixed rootFits dtdOfTag
 root-same kind d s =
     rw (fixed-same kind dtdVersion (d .version) s, fixed-same kind dtdRelease (d .release) s, fixed-same kind dtdMessage (d .message) s)
     (chained-three (fixedFits kind dtdVersion (valueGiven (d .version) s)) (fixedFits kind dtdRelease (valueGiven (d .release) s)) (fixedFits kind dtdMessage (valueGiven (d .message) s)))
@@ -142,10 +142,10 @@ least-some n =
     (eqb-cases n 0)
 
 -- the values fit, v telling it of the value `v`
-abbrev valuesFit : ℕ → ℕ → Said → Bool → Bool
+abbrev valuesFit : ℕ → ℕ → TagSaid → Bool → Bool
 valuesFit kind w u v = cond (eqb (roleOf w) 1) (rootFits kind (u .dtd)) (cond (eqb (formOf w) 0) true (schemeFits w u && v))
 
-judged-values : (w : ℕ) (h : Held) (u : Said)
+judged-values : (w : ℕ) (h : Held) (u : TagSaid)
     → eqb (judgedSaid w h u .number) 0 ≡ valuesFit (h .kind) w u (eqb (judge (formOf w) h (sayings w u) .number) 0)
 unfolding judgedSaid alsoScheme
 judged-values w h u =
@@ -242,7 +242,7 @@ whole-originals x role f =
 
 -- ---- the values beside a tally
 
-module _ (kind k₀ r : ℕ) (o : Bool) (y : Tally) (w : ℕ) (u : Said) where
+module _ (kind k₀ r : ℕ) (o : Bool) (y : Tally) (w : ℕ) (u : TagSaid) where
   -- what the value `v` is held against
   abbrev held : Held
   held = heldOf (stateOf k₀ r o y) kind
@@ -319,7 +319,7 @@ record Alone (role : ℕ) : Type 0 where
   original : role ≡ 5 → ⊥
   pos : role ≡ 9 → ⊥
 
-module _ (kind k₀ r : ℕ) (o : Bool) (y : Tally) (q w : ℕ) (u : Said) (j : Judged) (within : Bool) where
+module _ (kind k₀ r : ℕ) (o : Bool) (y : Tally) (q w : ℕ) (u : TagSaid) (j : Judged) (within : Bool) where
   abbrev after : State
   after = entered (stateOf k₀ r o y) kind q w j within
 
@@ -424,7 +424,7 @@ module _ (kind : ℕ) (rows : List ℕ) (p : ℕ) (L : Layout rows p) (room : Ro
     abbrev row : ℕ
     row = getD rows q 0
 
-    abbrev said : Said
+    abbrev said : TagSaid
     said = saidOfTag tag s
 
     abbrev verdict : Judged

@@ -16,24 +16,24 @@ use Rattle.guideline.specs.Rows.{rowsOf}
 use Rattle.states.specs.Attributes.{there}
 use Rattle.reader.specs.Items.{Placed, itemsFrom}
 use Rattle.trees.specs.Trees.{Sign, Opens, Closes, Trees, spell}
-use Rattle.contents.specs.Said.{Value, Absent, Given, DtdSaid, Said}
+use Rattle.contents.specs.Said.{AttributeValue, Absent, Given, DtdSaid, TagSaid}
 
 -- the value of an attribute of a tag; s is the part of the document that begins with the tag
-unfoldable pub valueGiven : Span → List ℕ → Value
+unfoldable pub valueGiven : Span → List ℕ → AttributeValue
 valueGiven x s = cond (there x) (Given (partOf s (x .start) (x .len))) Absent
 
-unfoldable pub dtdSaid : Dtd → List ℕ → DtdSaid
-dtdSaid d s = record { version = valueGiven (d .version) s; release = valueGiven (d .release) s; message = valueGiven (d .message) s }
+unfoldable pub dtdOfTag : Dtd → List ℕ → DtdSaid
+dtdOfTag d s = record { version = valueGiven (d .version) s; release = valueGiven (d .release) s; message = valueGiven (d .message) s }
 
-unfoldable pub saidOfTag : Tag → List ℕ → Said
+unfoldable pub saidOfTag : Tag → List ℕ → TagSaid
 saidOfTag t s =
-    record { v = valueGiven (t .v) s; scheme = valueGiven (t .coding) s; dtd = dtdSaid (t .dtd) s; others = t .others; passable = t .passable }
+    record { v = valueGiven (t .v) s; scheme = valueGiven (t .coding) s; dtd = dtdOfTag (t .dtd) s; others = t .others; passable = t .passable }
 
 unfoldable pub elementIn : ℕ → ℕ → List ℕ → ℕ
 elementIn from len s = elementNo (partOf s from len)
 
 -- "An empty tag is a start and an end in one item."; white text and comments say nothing
-unfoldable pub signsBy : Item → List ℕ → List (Sign Said)
+unfoldable pub signsBy : Item → List ℕ → List (Sign TagSaid)
 signsBy (Start t) s = Opens (saidOfTag t s) (elementIn 1 (t .name) s) ∷ []
 signsBy (Empty t) s = Opens (saidOfTag t s) (elementIn 1 (t .name) s) ∷ Closes (elementIn 1 (t .name) s) ∷ []
 signsBy (End n e) s = Closes (elementIn 2 n s) ∷ []
@@ -41,7 +41,7 @@ signsBy (Text white e) s = []
 signsBy (Comment e) s = []
 signsBy (Unreadable p) s = []
 
-unfoldable pub signsOf : List Placed → List (Sign Said)
+unfoldable pub signsOf : List Placed → List (Sign TagSaid)
 signsOf [] = []
 signsOf (x ∷ xs) = signsBy (x .item) (x .rest) ++ signsOf xs
 
@@ -59,7 +59,7 @@ AllAllowed [] = Unit {0}
 AllAllowed (x ∷ xs) = (allowed (x .item) ≡ true) × AllAllowed xs
 
 -- The document spells the content c, elements one in another, by the rows of a kind.
-pub record Spells (doc : List ℕ) (kind : ℕ) (c : Trees Said) : Type 0 where
+pub record Spells (doc : List ℕ) (kind : ℕ) (c : Trees TagSaid) : Type 0 where
   pub from : ℕ
   pub begins : begin doc ≡ From from
   pub items : AllAllowed (itemsFrom doc from)

@@ -48,7 +48,7 @@ use mathlib.Core.Bool.{true}
 use Rattle.promises.specs.Examples.{examples, allPass}
 use Rattle.promises.specs.Sheet.{sheet, sheetOutcome}
 use Rattle.trees.specs.Trees.{Trees}
-use Rattle.contents.specs.Said.{Said}
+use Rattle.contents.specs.Said.{TagSaid}
 use Rattle.contents.specs.Spelled.{Spells}
 use Rattle.contents.specs.Legal.{Legal, HasRoom}
 use Rattle.contents.proofs.Theorems.{accepted-legal}
@@ -91,5 +91,5 @@ sheet-short =
     omega (arith, p, l)
 
 -- it spells a legal content
-pub sheet-content : (kind : ℕ) × (c : Trees Said) × Spells sheet kind c × Legal kind c × HasRoom (roomOf 25 4 4) kind c
+pub sheet-content : (kind : ℕ) × (c : Trees TagSaid) × Spells sheet kind c × Legal kind c × HasRoom (roomOf 25 4 4) kind c
 sheet-content = accepted-legal sheet 25 4 4 16 (omega arith) sheet-short sheet-accepted

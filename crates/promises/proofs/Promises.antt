@@ -24,7 +24,7 @@ use Rattle.blindness.specs.Readable.{DifferInQty}
 use Rattle.blindness.specs.Blind.{OwnDigitsDiffer}
 use Rattle.blindness.proofs.Outcomes.{two-runs}
 use Rattle.trees.specs.Trees.{Trees}
-use Rattle.contents.specs.Said.{Said}
+use Rattle.contents.specs.Said.{TagSaid}
 use Rattle.contents.specs.Spelled.{Spells, SpellAlike}
 use Rattle.contents.specs.Legal.{Legal, HasRoom}
 use Rattle.contents.specs.Shown.{Tells, SameButPlaces}
@@ -119,16 +119,16 @@ module _ (doc : List ℕ) (ns np na nb : ℕ) where
   -- "A document is accepted exactly when it meets every rule of the format descriptions": where the note buffer and the document's length keep to 01's limits, it is
   -- accepted exactly when it spells a legal content for which the tables have room; and then answer and tables are those of the content
   pub accepted-exactly : 16 ≤ nb → length doc ≤ 1048576
-      → (outcome .answer .refusal ≡ 0 → (kind : ℕ) × (c : Trees Said) × Spells doc kind c × Legal kind c × HasRoom (roomOf ns np na) kind c)
-      × ((kind : ℕ) (c : Trees Said) → Spells doc kind c → Legal kind c → HasRoom (roomOf ns np na) kind c → Tells doc outcome kind c)
+      → (outcome .answer .refusal ≡ 0 → (kind : ℕ) × (c : Trees TagSaid) × Spells doc kind c × Legal kind c × HasRoom (roomOf ns np na) kind c)
+      × ((kind : ℕ) (c : Trees TagSaid) → Spells doc kind c → Legal kind c → HasRoom (roomOf ns np na) kind c → Tells doc outcome kind c)
   accepted-exactly wide small = (accepted-legal doc ns np na nb wide small, legal-accepted doc ns np na nb wide small)
 
 -- and there is one: the content of the sheet above
-pub a-content : (kind : ℕ) × (c : Trees Said) × Spells sheet kind c × Legal kind c × HasRoom (roomOf 25 4 4) kind c
+pub a-content : (kind : ℕ) × (c : Trees TagSaid) × Spells sheet kind c × Legal kind c × HasRoom (roomOf 25 4 4) kind c
 a-content = sheet-content
 
 -- a document spells one legal content at most, so that its content is unambiguous
-pub content-alone : (doc : List ℕ) (kind other : ℕ) (c d : Trees Said) → Spells doc kind c → Spells doc other d → Legal kind c → Legal other d
+pub content-alone : (doc : List ℕ) (kind other : ℕ) (c d : Trees TagSaid) → Spells doc kind c → Spells doc other d → Legal kind c → Legal other d
     → (kind ≡ other) × (c ≡ d)
 content-alone = one-content
 

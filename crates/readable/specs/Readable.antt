@@ -2,7 +2,7 @@
 use Prim.Native.Nat.{ℕ, _+_}
 use mathlib.Core.List.{List}
 use lib.ListN.{drop}
-use Rattle.slices.specs.Walk.{Step, go, stop, walk}
+use Rattle.slices.specs.Walk.{WalkStep, go, stop, walk}
 use Rattle.items.specs.Item.{item}
 use Rattle.items.specs.declared.Item.{Item}
 use Rattle.items.specs.declared.Item.the-variants.{Start, Empty, End, Text, Comment, Unreadable}
@@ -10,7 +10,7 @@ use Rattle.prolog.specs.Prolog.{begin}
 use Rattle.prolog.specs.declared.Begin.{Begin}
 use Rattle.prolog.specs.declared.Begin.the-variants.{From, Misdeclared}
 
-unfoldable pub passNext : ℕ → Item → Step ℕ ℕ
+unfoldable pub passNext : ℕ → Item → WalkStep ℕ ℕ
 passNext at (Start t) = go (t .len) (at + t .len)
 passNext at (Empty t) = go (t .len) (at + t .len)
 passNext at (End n e) = go e (at + e)

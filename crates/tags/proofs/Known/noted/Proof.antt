@@ -39,7 +39,7 @@ noted-requires c κs = search needs
 
 returns-3 : tie.Need-returns-3
 unfolding withAttribute
-returns-3 c = simp (← c .noted .ensures, c .before .if3 .taken, ← c .before .before .is-dtd-name .ensures, c .before .before .before .if2 .left, ← c .before .before .before .before .is-same .ensures, c .before .before .before .before .before .before .if1 .left, ← c .before .before .before .before .before .before .before .is-v .ensures, ← c .before .before .before .before .before .before .before .before .one-more .ensures)
+returns-3 c = simp (← c .noted .ensures, c .before .before .if3 .taken, ← c .before .before .before .is-dtd-name .ensures, c .before .before .before .before .if2 .left, ← c .before .before .before .before .before .is-same .ensures, c .before .before .before .before .before .before .before .if1 .left, ← c .before .before .before .before .before .before .before .before .is-v .ensures, ← c .before .before .before .before .before .before .before .before .before .one-more .ensures)
 
 is-passed-over-requires : tie.Need-is-passed-over-requires
 is-passed-over-requires c κs = search needs
