@@ -113,27 +113,21 @@ told : {y m d : ℕ} → 2000 ≤ y → y ≤ 2099 → 1 ≤ m → m ≤ 12 → 
 unfolding realDate
 told a b c e f g = simp (le-leb _ _ a, le-leb _ _ b, le-leb _ _ c, le-leb _ _ e, le-leb _ _ f, le-leb _ _ g)
 
+-- what holds of 28, 29, 30 and 31 holds of the days of every month
+by-month : (P : ℕ → Type 0) → P 28 → P 29 → P 30 → P 31 → (y m : ℕ) → P (monthDays y m)
+unfolding monthDays
+by-month P a b c d y m = or (eqb m 2) (or (leap y) b a) (or (eqb m 4) c (or (eqb m 6) c (or (eqb m 9) c (or (eqb m 11) c d))))
+  where
+    or : (t : Bool) {i j : ℕ} → P i → P j → P (cond t i j)
+    or = by-cond P
+
 -- each month has a first day
 some-day : (y m : ℕ) → 1 ≤ monthDays y m
-unfolding monthDays
-some-day y m = or (eqb m 2) (or (leap y) (omega arith) (omega arith)) (or (eqb m 4) p (or (eqb m 6) p (or (eqb m 9) p (or (eqb m 11) p (omega arith)))))
-  where
-    or : (t : Bool) {a b : ℕ} → 1 ≤ a → 1 ≤ b → 1 ≤ cond t a b
-    or = by-cond (λ (n : ℕ). 1 ≤ n)
-
-    p : 1 ≤ 30
-    p = omega arith
+some-day = by-month (λ n. 1 ≤ n) (omega arith) (omega arith) (omega arith) (omega arith)
 
 -- no month has more than 31
 pub short-month : (y m : ℕ) → monthDays y m ≤ 31
-unfolding monthDays
-short-month y m = or (eqb m 2) (or (leap y) (omega arith) (omega arith)) (or (eqb m 4) p (or (eqb m 6) p (or (eqb m 9) p (or (eqb m 11) p (omega arith)))))
-  where
-    or : (t : Bool) {a b : ℕ} → a ≤ 31 → b ≤ 31 → cond t a b ≤ 31
-    or = by-cond (λ (n : ℕ). n ≤ 31)
-
-    p : 30 ≤ 31
-    p = omega arith
+short-month = by-month (λ n. n ≤ 31) (omega arith) (omega arith) (omega arith) (omega arith)
 
 -- The days up to the end of a month are at most those of the year: month m + 1 is the one that ends.
 abbrev fits-year : ℕ → ℕ → Bool
