@@ -52,7 +52,7 @@ module _ (name : List ℕ) (R : List ℕ → List ℕ → Type 0) where
         → Aligned x y (record { at = at; item = i; rest = s } ∷ xs) (record { at = at; item = i; rest = s′ } ∷ ys)
 
   tag-itself : (t : Tag) (s : List ℕ) → TagSays t s s
-  tag-itself t s = record { parts = record { name = refl; coding = refl; version = refl }; v = inr refl }
+  tag-itself t s = record { parts = record { name = refl; coding = refl; version = refl; release = refl; message = refl }; v = inr refl }
 
   pub says-itself : (i : Item) (s : List ℕ) → Says i s s
   unfolding Says

@@ -12,7 +12,7 @@ use Rattle.characters.specs.Says.{charNext, charsOver, allChars}
 use Rattle.attributes.specs.Names.{nameStart, nameByte, white}
 use Rattle.slices.specs.Part.{partOf}
 use Rattle.attributes.specs.Attribute.{quote, fit, valueNext, valueOver, value, openingFrom, opening, attributeEnd, attributeQuote, attributeName, attribute, pieceAfter, piece}
-use Rattle.tags.specs.Known.{absent, noneKnown, upToTwo, withAttribute}
+use Rattle.tags.specs.Known.{absent, dtdName, noDtd, withDtd, noneKnown, upToTwo, withAttribute}
 use Rattle.tags.specs.Tail.{onto, endsAfter, ends, keptOf, named, twice}
 use Rattle.items.specs.Comment.{commentTo, comment}
 use Rattle.items.specs.Text.{textTo, textItem}
@@ -21,7 +21,7 @@ use Rattle.prolog.specs.Prolog.{declaredBy, declared, encodedBy, encoded, decla
 use Rattle.elements.specs.Names.{names, numberIn, elementNo}
 use Rattle.states.specs.Attributes.{there}
 use Rattle.reader.specs.Items.{itemsAfter, itemsFrom}
-use Rattle.contents.specs.Spelled.{valueGiven, saidOfTag, elementIn, signsBy, signsOf, allowed, AllAllowed, SpellAlike}
+use Rattle.contents.specs.Spelled.{valueGiven, dtdOfTag, saidOfTag, elementIn, signsBy, signsOf, allowed, AllAllowed, SpellAlike}
 
 abbrev pub plain : List ℕ
 plain =
@@ -35,10 +35,10 @@ pretty =
 
 pub plain-pretty : SpellAlike plain pretty
 unfolding byte run same begins seek here firstAt walk seqLen control single charAt charNext charsOver allChars nameStart nameByte white quote fit valueNext valueOver value
-    openingFrom opening attributeEnd attributeQuote attributeName attribute pieceAfter piece partOf absent noneKnown upToTwo withAttribute onto endsAfter
+    openingFrom opening attributeEnd attributeQuote attributeName attribute pieceAfter piece partOf absent dtdName noDtd withDtd noneKnown upToTwo withAttribute onto endsAfter
     ends keptOf named twice commentTo comment textTo textItem endClose endName endTag commentItem commentTag tagOf tagItem startTag item
     declaredBy declared encodedBy encoded declarationBy declaration markLen behindMark beginAfter begin names numberIn elementNo there itemsAfter itemsFrom
-    valueGiven saidOfTag elementIn signsBy signsOf allowed AllAllowed
+    valueGiven dtdOfTag saidOfTag elementIn signsBy signsOf allowed AllAllowed
 plain-pretty =
     record {
       from = 0;

@@ -24,10 +24,10 @@ use Rattle.contents.proofs.Walk.{Tally, opened, walked}
 unfoldable pub saidByItem : Item → List ℕ → TagSaid
 saidByItem (Start t) s = saidOfTag t s
 saidByItem (Empty t) s = saidOfTag t s
-saidByItem (End n e) s = record { v = Absent; scheme = Absent; version = Absent; others = false; passable = true }
-saidByItem (Text w e) s = record { v = Absent; scheme = Absent; version = Absent; others = false; passable = true }
-saidByItem (Comment e) s = record { v = Absent; scheme = Absent; version = Absent; others = false; passable = true }
-saidByItem (Unreadable p) s = record { v = Absent; scheme = Absent; version = Absent; others = false; passable = true }
+saidByItem (End n e) s = record { v = Absent; scheme = Absent; dtd = record { version = Absent; release = Absent; message = Absent }; others = false; passable = true }
+saidByItem (Text w e) s = record { v = Absent; scheme = Absent; dtd = record { version = Absent; release = Absent; message = Absent }; others = false; passable = true }
+saidByItem (Comment e) s = record { v = Absent; scheme = Absent; dtd = record { version = Absent; release = Absent; message = Absent }; others = false; passable = true }
+saidByItem (Unreadable p) s = record { v = Absent; scheme = Absent; dtd = record { version = Absent; release = Absent; message = Absent }; others = false; passable = true }
 
 abbrev pub saidOf : Placed → TagSaid
 saidOf x = saidByItem (x .item) (x .rest)

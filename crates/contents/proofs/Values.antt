@@ -11,15 +11,14 @@ use Rattle.slices.specs.declared.Span.{Span}
 use Rattle.items.specs.Parts.{spanOf}
 use Rattle.items.specs.declared.Item.{Item}
 use Rattle.items.specs.declared.Item.the-variants.{Start, Empty, End, Text, Comment, Unreadable}
-use Rattle.columns.specs.Columns.{rootRole}
-use Rattle.states.specs.Attributes.{there, agree, asksV, asksScheme, noOthers}
+use Rattle.states.specs.Attributes.{there, agree, asksV, asksScheme, demandsAt, noOthers}
 use Rattle.reader.specs.Items.{Placed}
 use Rattle.reader.specs.Rows.{quoted}
 use Rattle.trees.specs.Trees.{Trees, none, element}
 use Rattle.trees.proofs.Made.{both}
 use Rattle.contents.specs.Said.{Absent, Given, TagSaid, given, bytes}
 use Rattle.contents.specs.Spelled.{valueGiven, saidOfTag}
-use Rattle.contents.specs.Legal.{hasRole, Period, attributesAgree, elementFits, Each}
+use Rattle.contents.specs.Legal.{Period, dtdAgrees, attributesAgree, elementFits, Each}
 use Rattle.contents.proofs.Fill.{saidByItem, saidOf, saying}
 
 -- ---- the attributes of a tag
@@ -71,13 +70,13 @@ HasValues rows none = Unit {0}
 HasValues rows (element q x inner after) =
     (asksV (getD rows q 0) ≡ true → there (spanOf (x .item)) ≡ true) × HasValues rows inner × HasValues rows after
 
-asked-given : (w : ℕ) (s : TagSaid) → attributesAgree w s ≡ true → asksV w ≡ true → given (s .v) ≡ true
+asked-given : (kind w : ℕ) (s : TagSaid) → attributesAgree kind w s ≡ true → asksV w ≡ true → given (s .v) ≡ true
 unfolding attributesAgree
-asked-given w s e a =
+asked-given kind w s e a =
     let v = agree (asksV w) (given (s .v)) in
     let scheme = agree (asksScheme w) (given (s .scheme)) in
-    let version = agree (hasRole rootRole w) (given (s .version)) in
-    let k = both v scheme (both (v && scheme) version (both (v && scheme && version) (noOthers w (s .others) (s .passable)) e .0) .0) .0 in
+    let dtd = dtdAgrees (demandsAt kind w) (s .dtd) in
+    let k = both v scheme (both (v && scheme) dtd (both (v && scheme && dtd) (noOthers w (s .others) (s .passable)) e .0) .0) .0 in
     asked-there (asksV w) (given (s .v)) k a
 
 given-item : (x : Item) (s : List ℕ) → given (saidByItem x s .v) ≡ true → there (spanOf x) ≡ true
@@ -93,7 +92,7 @@ pub each-given : (kind : ℕ) (q : Period) (rows : List ℕ) (kids : Trees Place
 unfolding Each HasValues saying elementFits
 each-given kind q rows none e = tt
 each-given kind q rows (element r x inner after) e = (
-  (λ a. given-item (x .item) (x .rest) (asked-given (getD rows r 0) (saidOf x) (both (attributesAgree (getD rows r 0) (saidOf x)) _ (e .0) .0) a)),
+  (λ a. given-item (x .item) (x .rest) (asked-given kind (getD rows r 0) (saidOf x) (both (attributesAgree kind (getD rows r 0) (saidOf x)) _ (e .0) .0) a)),
   each-given kind q rows inner (e .1),
   each-given kind q rows after (e .2),
 )

@@ -11,7 +11,6 @@ use Rattle.slices.specs.Same.{same}
 use Rattle.characters.specs.Says.{says}
 use Rattle.trims.specs.Trim.{dropped}
 use Rattle.codes.specs.Lists.{listed, codesOf}
-use Rattle.forms.specs.Forms.{fixedVersion}
 use Rattle.numbers.specs.Number.{numberOf}
 use Rattle.numbers.specs.declared.Number.{Number}
 use Rattle.numbers.specs.declared.Number.the-variants.{Is, NotNumber}
@@ -21,12 +20,13 @@ use Rattle.times.specs.declared.Interval.{Interval}
 use Rattle.times.specs.declared.Interval.the-variants.{Minutes, NotInterval}
 use Rattle.rules.specs.Rules.{judge, positionFits}
 use Rattle.columns.specs.Columns.{formOf, collapsed, schemeOf, roleOf, noForm, periodForm, posForm, noScheme, byList, rootRole, seriesRole, intervalRole, originalRole, seriesIdRole, posRole}
-use Rattle.guideline.specs.Kinds.{kindAt, isKind, withinMost, hasEnough}
+use Rattle.guideline.specs.Kinds.{dtdVersion, dtdRelease, dtdMessage, kindAt, fixedFor, isKind, withinMost, hasEnough}
 use Rattle.guideline.specs.Rows.{rowsOf}
-use Rattle.states.specs.Attributes.{agree, asksV, asksScheme, noOthers}
+use Rattle.guideline.specs.declared.Demands.{Demands}
+use Rattle.states.specs.Attributes.{agree, asksV, asksScheme, demandsAt, meets, noOthers}
 use Rattle.states.specs.declared.Room.{Room}
 use Rattle.trees.specs.Trees.{Trees, none, element, Conforms}
-use Rattle.contents.specs.Said.{TagSaid, given, bytes}
+use Rattle.contents.specs.Said.{AttributeValue, Absent, Given, DtdSaid, TagSaid, given, bytes}
 
 -- ---- the elements of a content
 
@@ -85,10 +85,15 @@ positionOf s = positionBy (numberOf (says (dropped (bytes (s .v)))) 5)
 
 -- ---- the rules of one element
 
+-- the attributes that a root may have are as its kind asks
+unfoldable pub dtdAgrees : Demands → DtdSaid → Bool
+dtdAgrees demands d =
+    meets (demands .version) (given (d .version)) && meets (demands .release) (given (d .release)) && meets (demands .message) (given (d .message))
+
 -- "5: attribute missing or unknown": those of the row are there, and no others
-unfoldable pub attributesAgree : ℕ → TagSaid → Bool
-attributesAgree w s =
-    agree (asksV w) (given (s .v)) && agree (asksScheme w) (given (s .scheme)) && agree (hasRole rootRole w) (given (s .version)) &&
+unfoldable pub attributesAgree : ℕ → ℕ → TagSaid → Bool
+attributesAgree kind w s =
+    agree (asksV w) (given (s .v)) && agree (asksScheme w) (given (s .scheme)) && dtdAgrees (demandsAt kind w) (s .dtd) &&
     noOthers w (s .others) (s .passable)
 
 -- codingScheme, which is collapsed in every row that has it, by its code list
@@ -101,11 +106,19 @@ valueFits kind p w s =
     cond (hasForm posForm w) true
     (eqb (judge (formOf w) (record { kind = kind; from = p .start; to = p .end; quarters = quartersOf p; last = 0 }) (sayings w s) .number) 0)
 
--- the root has its fixed version; elsewhere an element with a `v` has it by its form, and its codingScheme
+-- an attribute of the root that is there has its "fixed value", of which nothing is dropped
+unfoldable pub fixedFits : ℕ → ℕ → AttributeValue → Bool
+fixedFits kind attribute Absent = true
+fixedFits kind attribute (Given b) = same (fixedFor kind attribute) (says b)
+
+unfoldable pub rootFits : ℕ → DtdSaid → Bool
+rootFits kind d = fixedFits kind dtdVersion (d .version) && fixedFits kind dtdRelease (d .release) && fixedFits kind dtdMessage (d .message)
+
+-- the root has its fixed values; elsewhere an element with a `v` has it by its form, and its codingScheme
 unfoldable pub elementFits : ℕ → Period → ℕ → TagSaid → Bool
 elementFits kind p w s =
-    attributesAgree w s &&
-    cond (hasRole rootRole w) (fixedVersion (says (bytes (s .version)))) (cond (eqb (formOf w) noForm) true (schemeFits w s && valueFits kind p w s))
+    attributesAgree kind w s &&
+    cond (hasRole rootRole w) (rootFits kind (s .dtd)) (cond (eqb (formOf w) noForm) true (schemeFits w s && valueFits kind p w s))
 
 -- each element of a content passes a test of its row and of what it says
 unfoldable pub Each : {A : Type 0} → (ℕ → A → Bool) → List ℕ → Trees A → Type 0

@@ -8,11 +8,17 @@ pub data AttributeValue : Type 0 where
   Absent : AttributeValue
   Given : List ℕ → AttributeValue
 
--- `v`, codingScheme, the root's version; whether there are others, and whether all of those may be passed over on a root
+-- those that a root may have: DtdVersion, DtdRelease, DtdBDEWNachrichtenVersion
+pub record DtdSaid : Type 0 where
+  pub version : AttributeValue
+  pub release : AttributeValue
+  pub message : AttributeValue
+
+-- `v`, codingScheme, those of a root; whether there are others, and whether all of those may be passed over on a root
 pub record TagSaid : Type 0 where
   pub v : AttributeValue
   pub scheme : AttributeValue
-  pub version : AttributeValue
+  pub dtd : DtdSaid
   pub others : Bool
   pub passable : Bool
 

@@ -6,6 +6,7 @@ use mathlib.Core.Bool.{Bool, true, false, cond}
 use Rattle.slices.specs.Part.{partOf}
 use Rattle.elements.specs.Names.{elementNo}
 use Rattle.slices.specs.declared.Span.{Span}
+use Rattle.tags.specs.declared.Dtd.{Dtd}
 use Rattle.items.specs.declared.Tag.{Tag}
 use Rattle.items.specs.declared.Item.{Item}
 use Rattle.items.specs.declared.Item.the-variants.{Start, Empty, End, Text, Comment, Unreadable}
@@ -15,15 +16,18 @@ use Rattle.guideline.specs.Rows.{rowsOf}
 use Rattle.states.specs.Attributes.{there}
 use Rattle.reader.specs.Items.{Placed, itemsFrom}
 use Rattle.trees.specs.Trees.{Sign, Opens, Closes, Trees, spell}
-use Rattle.contents.specs.Said.{AttributeValue, Absent, Given, TagSaid}
+use Rattle.contents.specs.Said.{AttributeValue, Absent, Given, DtdSaid, TagSaid}
 
 -- the value of an attribute of a tag; s is the part of the document that begins with the tag
 unfoldable pub valueGiven : Span → List ℕ → AttributeValue
 valueGiven x s = cond (there x) (Given (partOf s (x .start) (x .len))) Absent
 
+unfoldable pub dtdOfTag : Dtd → List ℕ → DtdSaid
+dtdOfTag d s = record { version = valueGiven (d .version) s; release = valueGiven (d .release) s; message = valueGiven (d .message) s }
+
 unfoldable pub saidOfTag : Tag → List ℕ → TagSaid
 saidOfTag t s =
-    record { v = valueGiven (t .v) s; scheme = valueGiven (t .coding) s; version = valueGiven (t .version) s; others = t .others; passable = t .passable }
+    record { v = valueGiven (t .v) s; scheme = valueGiven (t .coding) s; dtd = dtdOfTag (t .dtd) s; others = t .others; passable = t .passable }
 
 unfoldable pub elementIn : ℕ → ℕ → List ℕ → ℕ
 elementIn from len s = elementNo (partOf s from len)

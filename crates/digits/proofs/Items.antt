@@ -18,7 +18,7 @@ use Rattle.characters.specs.Says.{allChars}
 use Rattle.attributes.specs.Names.{nameStart, nameByte, white}
 use Rattle.slices.specs.Part.{partOf}
 use Rattle.attributes.proofs.Short.{byte-drop}
-use Rattle.tags.specs.Known.{absent, noneKnown, withAttribute}
+use Rattle.tags.specs.Known.{absent, dtdName, noneKnown, withAttribute}
 use Rattle.tags.specs.Tail.{Attr, Ends, closed, torn, ends, keptOf, twice}
 use Rattle.slices.specs.declared.Span.{Span}
 use Rattle.tags.specs.declared.Known.{Known}
@@ -45,7 +45,7 @@ noted-v : (k : Known) (name : List ℕ) (a : Span) → (withAttribute k name a .
 unfolding withAttribute
 noted-v k name a =
     by-cond P (same name (text "v")) (inl refl)
-    (by-cond P (same name (text "codingScheme")) (inr refl) (by-cond P (same name (text "DtdBDEWNachrichtenVersion")) (inr refl) (inr refl)))
+    (by-cond P (same name (text "codingScheme")) (inr refl) (by-cond P (dtdName name) (inr refl) (inr refl)))
   where
     P : Known → Type 0
     P x = (x .v ≡ a) ⊎ (x .v ≡ k .v)

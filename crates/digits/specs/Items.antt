@@ -7,6 +7,7 @@ use lib.ListN.{length}
 use Rattle.slices.specs.Bytes.{byte}
 use Rattle.slices.specs.Part.{partOf}
 use Rattle.slices.specs.declared.Span.{Span}
+use Rattle.tags.specs.declared.Dtd.{Dtd}
 use Rattle.items.specs.Item.{itemEnd}
 use Rattle.items.specs.declared.Tag.{Tag}
 use Rattle.items.specs.declared.Item.{Item}
@@ -55,19 +56,24 @@ Disjoint x y = (i : ℕ) → InSpan i x → InSpan i y → ⊥
 abbrev pub IsTag : Item → Tag → Type 0
 IsTag x t = (x ≡ Start t) ⊎ (x ≡ Empty t)
 
--- where the values x of `v`, y of codingScheme and z of DtdBDEWNachrichtenVersion stand
-pub record ValuesLaid (name len : ℕ) (x y z : Span) : Type 0 where
+-- where the values of `v` and of another attribute stand
+pub record Beside (name len : ℕ) (x y : Span) : Type 0 where
+  pub stands : Stands name len y
+  pub apart : Disjoint x y
+
+-- where the values x of `v`, y of codingScheme and d of the attributes of a root stand
+pub record ValuesLaid (name len : ℕ) (x y : Span) (d : Dtd) : Type 0 where
   pub v : Stands name len x
-  pub coding : Stands name len y
-  pub version : Stands name len z
-  pub v-coding : Disjoint x y
-  pub v-version : Disjoint x z
+  pub coding : Beside name len x y
+  pub version : Beside name len x (d .version)
+  pub release : Beside name len x (d .release)
+  pub message : Beside name len x (d .message)
 
 -- where the parts of a tag stand
 pub record TagLaid (t : Tag) : Type 0 where
   pub some : 0 < t .name
   pub name : 1 + t .name < t .len
-  pub values : ValuesLaid (t .name) (t .len) (t .v) (t .coding) (t .version)
+  pub values : ValuesLaid (t .name) (t .len) (t .v) (t .coding) (t .dtd)
 
 unfoldable pub Laid : Item → Type 0
 Laid (Start t) = TagLaid t
@@ -81,4 +87,6 @@ Laid (Unreadable p) = Unit {0}
 pub record PartsSame (t : Tag) (s s′ : List ℕ) : Type 0 where
   pub name : partOf s 1 (t .name) ≡ partOf s′ 1 (t .name)
   pub coding : valueIn s (t .coding) ≡ valueIn s′ (t .coding)
-  pub version : valueIn s (t .version) ≡ valueIn s′ (t .version)
+  pub version : valueIn s (t .dtd .version) ≡ valueIn s′ (t .dtd .version)
+  pub release : valueIn s (t .dtd .release) ≡ valueIn s′ (t .dtd .release)
+  pub message : valueIn s (t .dtd .message) ≡ valueIn s′ (t .dtd .message)

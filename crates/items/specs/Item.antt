@@ -21,7 +21,7 @@ use Rattle.items.specs.declared.Item.the-variants.{Start, Empty, End, Te
 
 unfoldable pub tagOf : ℕ → Known → ℕ → Tag
 tagOf n k e =
-    record { name = n; v = k .v; coding = k .coding; version = k .version; others = k .others; passable = k .passable; len = e }
+    record { name = n; v = k .v; coding = k .coding; dtd = k .dtd; others = k .others; passable = k .passable; len = e }
 
 -- `<`, a name of n bytes, and what follows it: "An attribute twice in a tag .. makes the item unreadable."
 unfoldable pub tagItem : ℕ → ℕ → Ends → Item

@@ -10,6 +10,7 @@ use slices::first_at;
 use slices::front;
 use slices::part;
 use slices::rest;
+use tags::Dtd;
 use tags::Known;
 use tags::Tail;
 use tags::tail_at;
@@ -30,7 +31,7 @@ pub struct Tag {
     pub name: usize,
     pub v: Span,
     pub coding: Span,
-    pub version: Span,
+    pub dtd: Dtd,
     pub others: bool,
     pub passable: bool,
     pub len: usize,
@@ -126,12 +127,12 @@ fn tag_of(n: usize, k: Known, len: usize) -> Tag
 {
     let v = k.v;
     let coding = k.coding;
-    let version = k.version;
+    let dtd = k.dtd;
     Tag {
         name: n,
         v,
         coding,
-        version,
+        dtd,
         others: k.others,
         passable: k.passable,
         len,

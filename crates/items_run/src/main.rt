@@ -39,7 +39,8 @@ fn show_spans(t: Tag) {
     lines::print_text(b" coding");
     show_span(t.coding);
     lines::print_text(b" version");
-    show_span(t.version);
+    let dtd = t.dtd;
+    show_span(dtd.message);
 }
 
 fn show_tag(t: Tag) {

@@ -12,7 +12,7 @@ use Rattle.characters.specs.Says.{saidBy, saidAt, saysAfter, says}
 use Rattle.attributes.specs.Names.{nameStart, nameByte, white}
 use Rattle.slices.specs.Part.{partOf}
 use Rattle.attributes.specs.Attribute.{quote, fit, valueNext, valueOver, value, openingFrom, opening, attributeEnd, attributeQuote, attributeName, attribute, pieceAfter, piece}
-use Rattle.tags.specs.Known.{absent, noneKnown, upToTwo as anotherKnown, withAttribute as notedKnown}
+use Rattle.tags.specs.Known.{absent, dtdName, noDtd, withDtd, noneKnown, upToTwo as anotherKnown, withAttribute as notedKnown}
 use Rattle.tags.specs.Tail.{onto, endsAfter, ends, keptOf, named, twice}
 use Rattle.items.specs.Parts.{spanOf}
 use Rattle.items.specs.Item.{endClose, endName, endTag, tagOf, tagItem, startTag, item}
@@ -24,7 +24,7 @@ use Rattle.numbers.specs.Digits.{digits, numberFrom, nothingLeft as nothingAfte
 use Rattle.numbers.specs.Amount.{minus, unsigned, fractionForm, unsignedForm, writtenAmount, filled, thousandths, signed, amountOf}
 use Rattle.numbers.specs.Number.{numberForm, atMostNine, numberWithin, numberOf as countOf}
 use Rattle.codes.specs.Lists.{lists, codesOf, listed}
-use Rattle.forms.specs.Forms.{identification, marketPartner, resourceObject, quarterHour, fixedVersion}
+use Rattle.forms.specs.Forms.{identification, marketPartner, resourceObject, quarterHour}
 use Rattle.times.specs.Calendar.{leap, monthDays, realDate, daysBefore, leapDay, dayNumber, dayOf}
 use Rattle.times.specs.Times.{minuteOn, minuteAt, isMinute, dateTime, between, interval}
 use Rattle.times.specs.Sundays.{changes, marchSunday, octoberSunday}
@@ -34,9 +34,9 @@ use Rattle.rules.specs.Rules.{versionBy, isVersion, amountBy, amount, judgeInte
 use Rattle.elements.specs.Names.{names, numberIn, elementNo}
 use Rattle.structure.specs.Rows.{nameOf, parentOf, required, repeated, nextIn, endsIn, startOf, endAt, endOf, endsAtOnce, closesDocument, overOf}
 use Rattle.columns.specs.Columns.{collapsed, formOf, schemeOf, roleOf}
-use Rattle.guideline.specs.Kinds.{noKind, kindOne, kindTwo, kindAt, withinMost, takesAnother, kindOf, hasEnough}
+use Rattle.guideline.specs.Kinds.{noDemands, messageAlone, noKind, kindOne, kindTwo, kindAt, fixedOne, fixedTwo, fixedFor, withinMost, takesAnother, kindOf, hasEnough}
 use Rattle.guideline.specs.Rows.{beschaffungsanforderung, kostenblatt, rowsOf}
-use Rattle.states.specs.Attributes.{valueOf, schemeRefusal, least, alsoScheme, there, agree, asksV, asksScheme, noOthers, attributesFit, judgeTag}
+use Rattle.states.specs.Attributes.{valueOf, schemeRefusal, least, alsoScheme, there, agree, asksV, asksScheme, demandsAt, meets, dtdFits, noOthers, attributesFit, valueFixed, dtdFixed, judgeTag}
 use Rattle.states.specs.Moves.{oneMore, oneSeries, oneInterval, oneOriginal, lastPos, covering, closedAt, endRefusal, afterEndAt as tagEnded, afterEnd, begun, heldOf, cutShort, tooMany, noRoom, halfOriginals, valuesJudged, judgedAt, startJudged, atRow, kept, entered, entryOf, startedBy, startedAt, started, countRefusal, moved, rootKind, kindTold, step}
 use Rattle.notes.specs.Note.{groupsIn, flat, wrote, left}
 use Rattle.reader.specs.Items.{itemsAfter, itemsFrom}
@@ -56,17 +56,17 @@ use Rattle.promises.proofs.Answers.{accepted-whole}
 
 computed : (allPass examples ≡ true) × (readOf sheet 25 4 4 16 ≡ sheetOutcome)
 unfolding byte run same begins walk seqLen control single charAt saidBy saidAt saysAfter says nameStart nameByte white quote fit valueNext valueOver
-    value openingFrom opening attributeEnd attributeQuote attributeName attribute pieceAfter piece partOf absent noneKnown anotherKnown
+    value openingFrom opening attributeEnd attributeQuote attributeName attribute pieceAfter piece partOf absent dtdName noDtd withDtd noneKnown anotherKnown
     notedKnown onto endsAfter ends keptOf named twice endClose endName endTag tagOf tagItem startTag item markLen beginAfter begin capital
     capitalOrDigit firstThree digit takes fitsOf shownNumber numberAt space dropLead keepEnd dropTrail dropped digits numberFrom nothingAfter
     onlyDigits minus unsigned fractionForm unsignedForm writtenAmount filled thousandths signed amountOf numberForm atMostNine numberWithin countOf
-    lists codesOf listed held identification marketPartner resourceObject quarterHour fixedVersion leap monthDays realDate daysBefore leapDay
+    lists codesOf listed held identification marketPartner resourceObject quarterHour leap monthDays realDate daysBefore leapDay
     dayNumber dayOf minuteOn minuteAt isMinute dateTime between interval costPeriod quarterHours changes marchSunday
     octoberSunday yearOf inSummer startOfDay deliveryDay dayPeriod versionBy isVersion amountBy
     amount judgeIntervalBy judgeInterval positionFits judgePositionBy judgePosition judge unless formRefusal periodFits judgePeriodBy
     judgePeriod names numberIn elementNo nameOf parentOf required repeated nextIn endsIn startOf endAt endOf endsAtOnce closesDocument overOf
-    collapsed formOf schemeOf roleOf noKind kindOne kindTwo kindAt withinMost takesAnother kindOf hasEnough beschaffungsanforderung kostenblatt rowsOf valueOf schemeRefusal least
-    alsoScheme there agree asksV asksScheme noOthers attributesFit judgeTag oneMore oneSeries oneInterval oneOriginal lastPos covering closedAt
+    collapsed formOf schemeOf roleOf noDemands messageAlone noKind kindOne kindTwo kindAt fixedOne fixedTwo fixedFor withinMost takesAnother kindOf hasEnough beschaffungsanforderung kostenblatt rowsOf valueOf schemeRefusal least
+    alsoScheme there agree asksV asksScheme demandsAt meets dtdFits noOthers attributesFit valueFixed dtdFixed judgeTag oneMore oneSeries oneInterval oneOriginal lastPos covering closedAt
     endRefusal tagEnded afterEnd begun heldOf cutShort tooMany noRoom halfOriginals valuesJudged judgedAt startJudged atRow kept entered entryOf
     startedBy startedAt started countRefusal moved rootKind kindTold step groupsIn flat wrote left itemsAfter itemsFrom quoted
     withView view thousandthsOf used usedIn usedWith spanOf broughtBy fieldAfter seriesWith positionsWith

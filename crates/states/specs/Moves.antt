@@ -67,7 +67,7 @@ judgedAt x kind rows r w t s empty room =
     cond (cutShort empty rows r) (refused 3)
     (cond (tooMany x (roleOf w) kind) (refused 3)
     (cond (noRoom x (roleOf w) room) (refused 4)
-    (cond (attributesFit w t) (valuesJudged x kind w t s) (refused 5))))
+    (cond (attributesFit kind w t) (valuesJudged x kind w t s) (refused 5))))
 
 unfoldable pub startJudged : State → ℕ → List ℕ → ℕ → Tag → List ℕ → Bool → Room → Judged
 startJudged x kind rows r t s empty room = judgedAt x kind rows r (getD rows r 0) t s empty room

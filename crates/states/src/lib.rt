@@ -21,8 +21,14 @@ use columns::is_collapsed;
 use columns::role_of;
 use columns::scheme_of;
 use elements::element_no;
-use forms::is_version_fixed;
+use guideline::ASKED;
+use guideline::DTD_MESSAGE;
+use guideline::DTD_RELEASE;
+use guideline::DTD_VERSION;
+use guideline::Demands;
+use guideline::OPTIONAL;
 use guideline::has_enough;
+use guideline::is_fixed;
 use guideline::kind_at;
 use guideline::kind_of_root;
 use guideline::rows_of;
@@ -39,6 +45,7 @@ use structure::Due;
 use structure::end_after;
 use structure::ends_at_once;
 use structure::start_after;
+use tags::Dtd;
 use times::quarter_hours;
 use trims::trimmed;
 ghost use mathlib.Core.Path.{_≡_};
@@ -47,7 +54,7 @@ ghost use lib.Dec.{eqb};
 ghost use lib.ListN.{getD};
 ghost use Rattle.items.specs.Parts.{nameIn};
 ghost use Rattle.columns.specs.Columns.{roleOf, rootRole};
-ghost use Rattle.states.specs.Attributes.{there, agree, asksV, asksScheme, noOthers, attributesFit, valueOf, schemeRefusal, least, judgeTag};
+ghost use Rattle.states.specs.Attributes.{there, agree, asksV, asksScheme, demandsAt, meets, dtdFits, noOthers, attributesFit, valueOf, schemeRefusal, least, valueFixed, dtdFixed, judgeTag};
 ghost use Rattle.states.specs.Act.{actOf};
 ghost use Rattle.states.specs.Moves.{oneMore, cutShort, begun, heldOf, tooMany, noRoom, halfOriginals, valuesJudged, startJudged, entered, entryOf, started, closedAt, countRefusal, endRefusal, afterEnd, moved, kindTold, stepBy};
 
@@ -147,15 +154,49 @@ fn has_no_others(w: usize, others: bool, passable: bool) -> bool
     true
 }
 
-fn has_attributes(w: usize, t: Tag) -> bool
-    ensures { λ r. ⌜ r ≡ attributesFit w t ⌝ }
+// What a row asks of the attributes that a root may have.
+fn demands_at(kind: u32, w: usize) -> Demands
+    ensures { λ r. ⌜ r ≡ demandsAt kind w ⌝ }
+{
+    if is_root(w) {
+        let k = kind_at(kind);
+        return k.dtd;
+    }
+    Demands::none()
+}
+
+fn meets_demand(demand: usize, given: bool) -> bool
+    ensures { λ r. ⌜ r ≡ meets demand given ⌝ }
+{
+    if demand == OPTIONAL {
+        return true;
+    }
+    agrees(demand == ASKED, given)
+}
+
+fn fits_dtd(demands: Demands, d: Dtd) -> bool
+    ensures { λ r. ⌜ r ≡ dtdFits demands d ⌝ }
+{
+    let version = d.version;
+    let release = d.release;
+    let message = d.message;
+    if meets_demand(demands.version, is_there(version)) {
+        if meets_demand(demands.release, is_there(release)) {
+            return meets_demand(demands.message, is_there(message));
+        }
+    }
+    false
+}
+
+fn has_attributes(kind: u32, w: usize, t: Tag) -> bool
+    ensures { λ r. ⌜ r ≡ attributesFit kind w t ⌝ }
 {
     let v = t.v;
     let coding = t.coding;
-    let version = t.version;
+    let dtd = t.dtd;
     if agrees(asks_v(w), is_there(v)) {
         if agrees(asks_scheme(w), is_there(coding)) {
-            if agrees(is_root(w), is_there(version)) {
+            if fits_dtd(demands_at(kind, w), dtd) {
                 return has_no_others(w, t.others, t.passable);
             }
         }
@@ -204,14 +245,38 @@ fn least_of(a: u32, b: u32) -> u32
     if a <= b { a } else { b }
 }
 
+// Whether an attribute of the root that is there has its fixed value.
+fn is_value_fixed(kind: u32, attribute: usize, x: Span, s: &[u8]) -> bool
+    ensures { λ r. ⌜ r ≡ valueFixed kind attribute x (now (s .entry)) ⌝ }
+{
+    if is_there(x) {
+        let start = x.start;
+        let len = x.len;
+        return is_fixed(kind, attribute, part(s, start, len));
+    }
+    true
+}
+
+fn is_dtd_fixed(kind: u32, d: Dtd, s: &[u8]) -> bool
+    ensures { λ r. ⌜ r ≡ dtdFixed kind d (now (s .entry)) ⌝ }
+{
+    let version = d.version;
+    let release = d.release;
+    let message = d.message;
+    if is_value_fixed(kind, DTD_VERSION, version, s) {
+        if is_value_fixed(kind, DTD_RELEASE, release, s) {
+            return is_value_fixed(kind, DTD_MESSAGE, message, s);
+        }
+    }
+    false
+}
+
 fn judge_tag(w: usize, t: Tag, s: &[u8], h: Held) -> Judged
     ensures { λ r. ⌜ r ≡ judgeTag w t h (now (s .entry)) ⌝ }
 {
     if is_root(w) {
-        let version = t.version;
-        let start = version.start;
-        let len = version.len;
-        if is_version_fixed(part(s, start, len)) {
+        let dtd = t.dtd;
+        if is_dtd_fixed(h.kind, dtd, s) {
             return Judged {
                 number: 0,
                 first: 0,
@@ -466,7 +531,7 @@ impl State {
                 second: 0,
             };
         }
-        if has_attributes(w, t) {
+        if has_attributes(kind, w, t) {
             return self.judge_values(kind, w, t, s);
         }
         Judged {

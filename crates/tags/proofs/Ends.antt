@@ -20,7 +20,7 @@ use Rattle.attributes.specs.Short.{vLen}
 use Rattle.attributes.proofs.Short.{byte-drop, v-inside, v-piece, v-name, close-piece, empty-piece}
 use Rattle.attributes.specs.declared.Piece.{Piece}
 use Rattle.attributes.specs.declared.Piece.the-variants.{Attribute, Close, CloseEmpty, Torn}
-use Rattle.tags.specs.Known.{withAttribute, noneKnown, absent}
+use Rattle.tags.specs.Known.{dtdName, withAttribute, noneKnown, absent}
 use Rattle.tags.specs.First.{vUse, firstKnown}
 use Rattle.tags.specs.Tail.{Attr, Ends, closed, torn, onto, endsAfter, ends, keptOf, tail}
 use Rattle.slices.specs.declared.Span.{Span}
@@ -112,7 +112,7 @@ unfolding withAttribute
 noted-v k {next} name value j e p q =
     rw e
     (by-cond P (same name (text "v")) q
-    (by-cond P (same name (text "codingScheme")) p (by-cond P (same name (text "DtdBDEWNachrichtenVersion")) p p)))
+    (by-cond P (same name (text "codingScheme")) p (by-cond P (dtdName name) p p)))
   where
     P : Known → Type 0
     P x = x .v .start + x .v .len ≤ j

@@ -8,7 +8,7 @@ use native.Mathlib.Omega.{arith}
 use Rattle.lists.proofs.Cases.{by-cond, ltb-cases}
 use Rattle.slices.specs.Same.{same}
 use Rattle.slices.specs.Text.{text}
-use Rattle.tags.specs.Known.{noneKnown, withAttribute, upToTwo}
+use Rattle.tags.specs.Known.{dtdName, noneKnown, withAttribute, upToTwo}
 use Rattle.tags.specs.Tail.{Attr, keptOf, named, twice}
 use Rattle.slices.specs.declared.Span.{Span}
 use Rattle.tags.specs.declared.Known.{Known}
@@ -16,7 +16,7 @@ use Rattle.tags.specs.declared.Known.{Known}
 noted-many : (k : Known) (n : List ℕ) (v : Span) → (withAttribute k n v) .many ≡ upToTwo (k .many)
 unfolding withAttribute
 noted-many k n v =
-    by-cond P (same n (text "v")) refl (by-cond P (same n (text "codingScheme")) refl (by-cond P (same n (text "DtdBDEWNachrichtenVersion")) refl refl))
+    by-cond P (same n (text "v")) refl (by-cond P (same n (text "codingScheme")) refl (by-cond P (dtdName n) refl refl))
   where
     P : Known → Type 0
     P x = x .many ≡ upToTwo (k .many)

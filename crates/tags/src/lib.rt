@@ -13,7 +13,7 @@ ghost use Prim.Native.Nat.{_+_, _≤_};
 ghost use lib.ListN.{length};
 ghost use Rattle.slices.specs.Same.{same};
 ghost use Rattle.slices.specs.Text.{text};
-ghost use Rattle.tags.specs.Known.{passedOver, upToTwo, withAttribute, noneKnown};
+ghost use Rattle.tags.specs.Known.{passedOver, upToTwo, dtdName, withDtd, noDtd, withAttribute, noneKnown};
 ghost use Rattle.tags.specs.First.{vUse, firstKnown};
 ghost use Rattle.tags.specs.Tail.{ends, tail, tailUse, tailValue};
 
@@ -29,11 +29,59 @@ fn is_passed_over(name: &[u8]) -> bool
     begins_with(b"xsi:", name)
 }
 
+// The values of the attributes that a root may have: DtdVersion, DtdRelease and DtdBDEWNachrichtenVersion. Which of them it has is told by its kind.
+pub struct Dtd {
+    pub version: Span,
+    pub release: Span,
+    pub message: Span,
+}
+
+fn is_dtd_name(name: &[u8]) -> bool
+    ensures { λ r. ⌜ r ≡ dtdName (now (name .entry)) ⌝ }
+{
+    if is_same(name, b"DtdBDEWNachrichtenVersion") {
+        return true;
+    }
+    if is_same(name, b"DtdVersion") {
+        return true;
+    }
+    is_same(name, b"DtdRelease")
+}
+
+impl Dtd {
+    fn none() -> Dtd
+        ensures { λ r. ⌜ r ≡ noDtd ⌝ }
+    {
+        let absent = Span { start: 0, len: 0 };
+        Dtd {
+            version: absent,
+            release: absent,
+            message: absent,
+        }
+    }
+
+    // One of the three names, and its value.
+    fn noted(mut self, name: &[u8], value: Span) -> Dtd
+        ensures { λ r. ⌜ r ≡ withDtd self (now (name .entry)) value ⌝ }
+    {
+        if is_same(name, b"DtdVersion") {
+            self.version = value;
+            return self;
+        }
+        if is_same(name, b"DtdRelease") {
+            self.release = value;
+            return self;
+        }
+        self.message = value;
+        self
+    }
+}
+
 // What is kept of a tag's attributes while it is read.
 pub struct Known {
     pub v: Span,
     pub coding: Span,
-    pub version: Span,
+    pub dtd: Dtd,
     // whether there are attributes with other names, and whether all of those may be passed over on a root
     pub others: bool,
     pub passable: bool,
@@ -64,10 +112,11 @@ impl Known {
         ensures { λ r. ⌜ r ≡ noneKnown ⌝ }
     {
         let absent = Span { start: 0, len: 0 };
+        let dtd = Dtd::none();
         Known {
             v: absent,
             coding: absent,
-            version: absent,
+            dtd,
             others: false,
             passable: true,
             many: 0,
@@ -79,10 +128,11 @@ impl Known {
         ensures { λ r. ⌜ r ≡ withAttribute noneKnown (text "v") value ⌝ }
     {
         let absent = Span { start: 0, len: 0 };
+        let dtd = Dtd::none();
         Known {
             v: value,
             coding: absent,
-            version: absent,
+            dtd,
             others: false,
             passable: true,
             many: 1,
@@ -102,8 +152,9 @@ impl Known {
             self.coding = value;
             return self;
         }
-        if is_same(name, b"DtdBDEWNachrichtenVersion") {
-            self.version = value;
+        if is_dtd_name(name) {
+            let dtd = self.dtd;
+            self.dtd = dtd.noted(name, value);
             return self;
         }
         self.others = true;
