@@ -56,7 +56,7 @@ Disjoint x y = (i : ℕ) → InSpan i x → InSpan i y → ⊥
 abbrev pub IsTag : Item → Tag → Type 0
 IsTag x t = (x ≡ Start t) ⊎ (x ≡ Empty t)
 
--- where the values of `v` and of another attribute stand
+-- the value y of another attribute stands in the tag, and shares no place with the value x of `v`
 pub record Beside (name len : ℕ) (x y : Span) : Type 0 where
   pub stands : Stands name len y
   pub apart : Disjoint x y

@@ -81,7 +81,7 @@ kindTwo =
 unfoldable pub kindAt : ℕ → Kind
 kindAt k = cond (eqb k 1) kindOne (cond (eqb k 2) kindTwo noKind)
 
--- the "fixed value" of an attribute of the root; an attribute that the kind does not know has none
+-- the "fixed value" of an attribute of the root; no text for an attribute that the kind does not know
 unfoldable pub fixedOne : ℕ → List ℕ
 fixedOne attribute = cond (eqb attribute dtdMessage) (text "1.0") []
 

@@ -112,7 +112,7 @@ pub const ASKED: usize = 1;
 pub const OPTIONAL: usize = 2;
 
 impl Demands {
-    // Ruled out: an attribute that a root may have on an element that is none.
+    // Ruled out: one of the three asked for, or let through.
     pub fn none() -> Demands
         ensures { λ r. ⌜ r ≡ noDemands ⌝ }
     {
@@ -388,7 +388,8 @@ fn is_fixed_two(attribute: usize, v: &[u8]) -> bool
     is_said(b"", v)
 }
 
-// Whether a value is the fixed one of an attribute of the root. Ruled out: true for `1.1`, for `1.0` with a space after it, or for an empty value.
+// Whether a value is the fixed one of an attribute of the root, which is no text for an attribute that the kind does not know.
+// Ruled out, of DtdBDEWNachrichtenVersion in both kinds: true for `1.1`, for `1.0` with a space after it, or for an empty value.
 pub fn is_fixed(kind: u32, attribute: usize, v: &[u8]) -> bool
     ensures { λ r. ⌜ r ≡ same (fixedFor kind attribute) (says (now (v .entry))) ⌝ }
 {

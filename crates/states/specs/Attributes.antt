@@ -35,6 +35,7 @@ asksScheme w = cond (eqb (schemeOf w) noScheme) false true
 unfoldable pub demandsAt : ℕ → ℕ → Demands
 demandsAt kind w = cond (eqb (roleOf w) rootRole) (kindAt kind .dtd) noDemands
 
+-- an attribute that is optional may be there or not, one that is asked for is, and any other is not
 unfoldable pub meets : ℕ → Bool → Bool
 meets demand given = cond (eqb demand optional) true (agree (eqb demand asked) given)
 

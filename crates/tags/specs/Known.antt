@@ -25,7 +25,7 @@ dtdName n =
 unfoldable pub noDtd : Dtd
 noDtd = record { version = absent; release = absent; message = absent }
 
--- the value of the one that has the name
+-- one of the three names, and its value
 unfoldable pub withDtd : Dtd → List ℕ → Span → Dtd
 withDtd d name value =
     cond (same name (text "DtdVersion")) (record { version = value; release = d .release; message = d .message })
