@@ -18,7 +18,8 @@ use Rattle.slices.proofs.Runs.{run-by}
 use Rattle.characters.specs.Utf8.{control, single, charAt}
 use Rattle.characters.proofs.Ascii.{char-ascii}
 use Rattle.attributes.specs.Names.{nameStart, nameByte, white}
-use Rattle.attributes.specs.Attribute.{quote, fit, valueNext, valueOver, value, openingFrom, opening, attributeEnd, attributeQuote, attributeName, attribute, pieceAfter, piece, partOf}
+use Rattle.slices.specs.Part.{partOf}
+use Rattle.attributes.specs.Attribute.{quote, fit, valueNext, valueOver, value, openingFrom, opening, attributeEnd, attributeQuote, attributeName, attribute, pieceAfter, piece}
 use Rattle.attributes.specs.declared.Value.the-variants.{Long}
 use Rattle.attributes.specs.declared.Piece.the-variants.{Attribute, Close, CloseEmpty}
 use Rattle.attributes.specs.Short.{common, opensV, vUpto, vLen}

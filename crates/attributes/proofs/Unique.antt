@@ -7,7 +7,7 @@ use mathlib.Core.Bool.{Bool}
 use Rattle.lists.proofs.Unique.{one}
 use Rattle.slices.specs.Run.{run}
 use Rattle.attributes.specs.Names.{nameStart, nameByte, white}
-use Rattle.attributes.specs.Attribute.{piece, partOf}
+use Rattle.attributes.specs.Attribute.{piece}
 use Rattle.attributes.specs.Short.{vLen}
 use Rattle.attributes.specs.declared.Piece.{Piece}
 
@@ -22,9 +22,6 @@ white-len-one s = one
 
 pub piece-at-one : (s : List ℕ) {r r′ : Piece} → r ≡ piece s → r′ ≡ piece s → r ≡ r′
 piece-at-one s = one
-
-pub part-one : (s : List ℕ) (at n : ℕ) {r r′ : List ℕ} → r ≡ partOf s at n → r′ ≡ partOf s at n → r ≡ r′
-part-one s at n = one
 
 pub v-len-one : (s : List ℕ) {r r′ : ℕ} → r ≡ vLen s → r′ ≡ vLen s → r ≡ r′
 v-len-one s = one

@@ -2,11 +2,11 @@
 use Prim.Native.Nat.{ℕ, _+_}
 use mathlib.Core.List.{List}
 use mathlib.Core.Bool.{Bool, true, false, cond}
-use lib.ListN.{take, drop}
+use lib.ListN.{drop}
 use lib.Dec.{eqb, ltb}
 use Rattle.slices.specs.Bytes.{byte}
 use Rattle.slices.specs.Run.{run}
-use Rattle.slices.specs.Walk.{Step, go, stop, walk}
+use Rattle.slices.specs.Walk.{WalkStep, go, stop, walk}
 use Rattle.characters.specs.Utf8.{charAt}
 use Rattle.characters.specs.declared.Char.{Char}
 use Rattle.characters.specs.declared.Char.the-variants.{Is, NoChar}
@@ -29,7 +29,7 @@ unfoldable pub plain : ℕ → Bool
 plain b = cond (ltb b 0x20) false (cond (eqb b 0x3C) false (cond (eqb b 0x26) false true))
 
 -- a value: characters that may stand in it, up to the quote q
-unfoldable pub valueNext : ℕ → ℕ → Char → Step ℕ Value
+unfoldable pub valueNext : ℕ → ℕ → Char → WalkStep ℕ Value
 valueNext q at (Is c n) = cond (fit c) (cond (eqb c q) (stop (Long at)) (go n (at + n))) (stop Broken)
 valueNext q at NoChar = stop Broken
 
@@ -69,10 +69,6 @@ pieceAfter s w =
 
 unfoldable pub piece : List ℕ → Piece
 piece s = pieceAfter s (run white s)
-
--- the n bytes from at on
-unfoldable pub partOf : List ℕ → ℕ → ℕ → List ℕ
-partOf s at n = take n (drop at s)
 
 -- how far a value and a piece reach
 abbrev pub valueEnd : Value → ℕ

@@ -10,7 +10,7 @@ ghost use lib.ListN.{length};
 ghost use Rattle.slices.specs.Run.{run};
 ghost use Rattle.attributes.specs.Names.{nameStart, nameByte, white};
 ghost use Rattle.attributes.specs.Short.{common, opensV, vLen};
-ghost use Rattle.attributes.specs.Attribute.{quote, fit, plain, value, valueEnd, opening, attribute, piece, pieceUse, pieceValue, partOf};
+ghost use Rattle.attributes.specs.Attribute.{quote, fit, plain, value, valueEnd, opening, attribute, piece, pieceUse, pieceValue};
 
 // Whether a name may begin with the byte.
 // Ruled out: true for a digit, `-`, `.` or `:`; false for `_`.
@@ -307,12 +307,4 @@ pub fn v_len(s: &[u8]) -> usize
         }
     }
     0
-}
-
-// The n bytes of s from at on, fewer where s ends before.
-// Ruled out: the n bytes before at; bytes past n.
-pub fn part(s: &[u8], at: usize, n: usize) -> &[u8]
-    ensures { λ r. ⌜ now r ≡ partOf (now (s .entry)) at n ⌝ }
-{
-    front(rest(s, at), n)
 }

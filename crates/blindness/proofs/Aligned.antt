@@ -9,12 +9,12 @@ use lib.Seq.{drop-drop, ext-getD}
 use Rattle.slices.specs.Bytes.{byte}
 use Rattle.items.specs.Item.{item, itemRefusal, itemEnd}
 use Rattle.items.specs.declared.Item.{Item}
-use Rattle.items.specs.declared.Item.the-variants.{Start, Empty, End, Text, Comment, Refused}
+use Rattle.items.specs.declared.Item.the-variants.{Start, Empty, End, Text, Comment, Unreadable}
 use Rattle.items.specs.declared.Tag.{Tag}
 use Rattle.items.proofs.Promises.{refused-two}
 use Rattle.prolog.specs.Prolog.{begin}
 use Rattle.prolog.specs.declared.Begin.{Begin}
-use Rattle.prolog.specs.declared.Begin.the-variants.{From, Unreadable}
+use Rattle.prolog.specs.declared.Begin.the-variants.{From, Misdeclared}
 use Rattle.reader.specs.Items.{Placed, itemsAfter, itemsFrom}
 use Rattle.attributes.proofs.Short.{byte-drop}
 use Rattle.digits.specs.Unseen.{Unseen}
@@ -42,7 +42,7 @@ v-inside (Empty t) l i h = tag-inside t l i h
 v-inside (End n e) l i h = absurd h
 v-inside (Text w e) l i h = absurd h
 v-inside (Comment e) l i h = absurd h
-v-inside (Refused p) l i h = absurd h
+v-inside (Unreadable p) l i h = absurd h
 
 -- an unreadable item has no `v`
 unread-v : (x : Item) (i : ℕ) → itemRefusal x ≡ 2 → InV x i → ⊥
@@ -52,7 +52,7 @@ unread-v (Empty t) i q h = omega (arith, q)
 unread-v (End n e) i q h = h
 unread-v (Text w e) i q h = h
 unread-v (Comment e) i q h = h
-unread-v (Refused p) i q h = h
+unread-v (Unreadable p) i q h = h
 
 -- what is behind the first byte of a part of a document
 pub tail-of : (doc : List ℕ) (at b : ℕ) (t : List ℕ) → b ∷ t ≡ drop at doc → t ≡ drop (suc at) doc
@@ -170,4 +170,4 @@ aligned name {R} u x y d = by (begin x) refl
         let same = begin-same x y n (d .long)
         (λ i l. ⊎-elim (λ q. q) (λ z. let q = tags-from name (drop n x) 0 n i (rw e at z) in absurd (omega (arith, q, l))) (d .places i)) e in
         inr (record { from = n; first = e; second = same; items = align name u x y (drop n x) (drop n y) (long-drop x y n (d .long)) 0 n refl refl differ j })
-    by (Unreadable q) e = inl (ext-getD 0 x y (d .long) (λ i l. ⊎-elim (λ z. z) (λ z. absurd (rw e at z)) (d .places i)))
+    by (Misdeclared q) e = inl (ext-getD 0 x y (d .long) (λ i l. ⊎-elim (λ z. z) (λ z. absurd (rw e at z)) (d .places i)))

@@ -15,16 +15,16 @@ use Rattle.lists.specs.Zeros.{zeros}
 use Rattle.slices.specs.Text.{text}
 use Rattle.lists.proofs.Cases.{bool-cases, leb-cases, ltb-cases}
 use Rattle.characters.specs.Says.{says, saysAfter}
-use Rattle.attributes.specs.Attribute.{partOf}
+use Rattle.slices.specs.Part.{partOf}
 use Rattle.tags.specs.Known.{absent}
-use Rattle.tags.specs.declared.Span.{Span}
+use Rattle.slices.specs.declared.Span.{Span}
 use Rattle.trims.specs.Trim.{dropLead, dropTrail, dropped}
 use Rattle.numbers.specs.Digits.{digits}
-use Rattle.numbers.specs.Amount.{minus, unsigned, unsignedForm, amountForm, amountOf}
+use Rattle.numbers.specs.Amount.{minus, unsigned, unsignedForm, writtenAmount, amountOf}
 use Rattle.items.specs.Item.{item, itemEnd}
 use Rattle.prolog.specs.Prolog.{begin}
 use Rattle.prolog.specs.declared.Begin.{Begin}
-use Rattle.prolog.specs.declared.Begin.the-variants.{From, Unreadable}
+use Rattle.prolog.specs.declared.Begin.the-variants.{From, Misdeclared}
 use Rattle.tables.specs.Cells.{noAmounts}
 use Rattle.states.specs.Moves.{begun}
 use Rattle.states.specs.declared.Entry.the-variants.{Amount}
@@ -32,7 +32,7 @@ use Rattle.numbers.specs.Alike.{Alike}
 use Rattle.digits.proofs.Chars.{digits-unseen}
 use Rattle.reader.specs.Items.{itemsAfter, itemsFrom}
 use Rattle.reader.specs.Rows.{quoted, thousandthsOf}
-use Rattle.reader.specs.Reading.{tab, Tables, Out, blank, roomOf, refusedAt, readAfter, readInto, orBlank, readSheet}
+use Rattle.reader.specs.Reading.{Tables, Out, blank, roomOf, refusedAt, readAfter, readInto, orBlank, readSheet}
 use Rattle.reader.specs.declared.Answer.{Answer}
 use Rattle.reader.specs.Answer.{answerOf, told, noted, unnoted, readOf}
 use Rattle.blindness.specs.Readable.{DifferInQty}
@@ -54,7 +54,7 @@ use Rattle.blindness.proofs.Told.{itemsOut, items-read, SameTold, told-
 -- ---- the amounts of a document are those at their sources
 
 nothing-said : (doc : List ℕ) → amountAt doc absent ≡ pos 0
-unfolding amountAt absent quoted partOf dropped dropLead dropTrail says saysAfter amountOf amountForm unsignedForm unsigned minus digits thousandthsOf
+unfolding amountAt absent quoted partOf dropped dropLead dropTrail says saysAfter amountOf writtenAmount unsignedForm unsigned minus digits thousandthsOf
 nothing-said doc = refl
 
 map-same : {A B : Type 0} (f : A → B) (n : ℕ) (a : A) (b : B) → f a ≡ b → map f (replicate n a) ≡ replicate n b
@@ -79,7 +79,7 @@ module _ (doc : List ℕ) (ns np na : ℕ) where
       ap (λ (o : Out). o .tables .amounts) (items-read doc ns np na n)
       ∙ ap (λ (ams : List ℤ). itemsOut doc ns np na n ams .tables .amounts) (none-said doc na)
       ∙ run-said doc (roomOf ns np na) (itemsFrom doc n) (parts-after doc (drop n doc) 0 n refl) begun (zeros ns) (zeros np) (unsourced na)
-  into-said (Unreadable p) = none-said doc na
+  into-said (Misdeclared p) = none-said doc na
 
   -- on every refusal there are none
   chosen-said : (t : Bool) (a : Tables) (so : List Span) → a .amounts ≡ map (amountAt doc) so
@@ -134,7 +134,7 @@ module _ (doc : List ℕ) (ns np na : ℕ) where
 
   begin-sourced : length doc ≤ 1048576 → (b : Begin) → readAfter doc (blank ns np na) b .found .refusal ≡ 0 → Sourced b
   unfolding readAfter sourcesFrom qtyValuesAfter unsourced itemsFrom refusedAt
-  begin-sourced short (Unreadable p) e = absurd (omega (arith, e))
+  begin-sourced short (Misdeclared p) e = absurd (omega (arith, e))
   begin-sourced short (From n) e =
       let few = items-few (drop n doc) 0 n in
       let r = order doc (roomOf ns np na) (itemsFrom doc n) begun (zeros ns) (zeros np) (noAmounts na) (unsourced na) 0

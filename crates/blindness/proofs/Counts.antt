@@ -5,19 +5,18 @@ use mathlib.Core.List.{List, [], _∷_}
 use mathlib.Core.Bool.{Bool, true, false, cond, not}
 use mathlib.Core.Logic.{⊎-elim}
 use native.Mathlib.Omega.{arith}
-use lib.Dec.{eqb, ltb}
+use lib.Dec.{eqb}
 use lib.ListN.{length, getD}
-use borrow.Author.Tests.{eq-eqb, ne-eqb, lt-ltb, eqb-true, not-true}
+use borrow.Author.Tests.{eq-eqb, ne-eqb, eqb-true, not-true}
 use Rattle.lists.proofs.Cases.{bool-cases, by-cond, eqb-cases, zero-not-one}
 use Rattle.slices.specs.Same.{same}
 use Rattle.slices.proofs.Sames.{same-equal}
 use Rattle.slices.specs.Text.{text}
-use Rattle.attributes.specs.Attribute.{partOf}
+use Rattle.slices.specs.Part.{partOf}
 use Rattle.elements.specs.Names.{names, numberIn, elementNo}
 use Rattle.items.specs.declared.Tag.{Tag}
 use Rattle.items.specs.declared.Item.{Item}
-use Rattle.items.specs.declared.Item.the-variants.{Start, Empty, End, Text, Comment}
-use Rattle.items.specs.declared.Item.the-variants.{Refused as Unreadable}
+use Rattle.items.specs.declared.Item.the-variants.{Start, Empty, End, Text, Comment, Unreadable}
 use Rattle.structure.specs.Rows.{nameOf, endsAtOnce, startOf, endOf, closesDocument, overOf}
 use Rattle.structure.specs.declared.Due.{Due}
 use Rattle.structure.specs.declared.Due.the-variants.{Row, NotDue}
@@ -28,7 +27,7 @@ use Rattle.guideline.specs.Rows.{beschaffungsanforderung, kostenblatt, rowsOf}
 use Rattle.guideline.proofs.Each.{of-table}
 use Rattle.guideline.proofs.Roots.{no-start, no-end}
 use Rattle.rules.specs.declared.Judged.{Judged}
-use Rattle.states.specs.Moves.{begun, oneMore, cutShort, startJudged, placed, oneSeries, oneInterval, oneOriginal, lastPos, covering, kept, entered, entryOf, startedBy, startedAt, started, closedAt, endRefusal, endedAt, ended, moved, rootKind, kindTold, step}
+use Rattle.states.specs.Moves.{begun, cutShort, startJudged, atRow, oneSeries, oneInterval, oneOriginal, lastPos, covering, kept, entered, entryOf, startedBy, startedAt, started, closedAt, endRefusal, afterEndAt, afterEnd, moved, rootKind, kindTold, step}
 use Rattle.states.specs.declared.State.{State}
 use Rattle.states.specs.declared.Room.{Room}
 use Rattle.states.specs.declared.Entry.{Entry}
@@ -191,9 +190,9 @@ module _ (x : State) (kind : ℕ) (room : Room) (c : ℕ)
     taken = getD (rowsOf kind) q 0
 
     -- any row but an Interval's
-    still-passed : (within : Bool) → (roleOf taken ≡ 4 → ⊥) → (y : State) → Still (placed x kind q within) y
+    still-passed : (within : Bool) → (roleOf taken ≡ 4 → ⊥) → (y : State) → Still (atRow x kind q within) y
         → Passed c room (x .intervals) b y (entryOf (roleOf taken) (j .first))
-    unfolding placed
+    unfolding atRow
     still-passed within h y s =
         let z = due-count (roleOf taken) (waits (getD (rowsOf kind) (x .row) 0) (x .inside)) fact in
         let n : x .intervals ≡ c + toCome b + toCome (eqb (roleOf taken) 9) = rw told (omega (arith, count, z)) in
@@ -221,8 +220,8 @@ module _ (x : State) (kind : ℕ) (room : Room) (c : ℕ)
             let u : toCome (eqb (roleOf taken) 10) + toCome (eqb (roleOf taken) 9) ≡ 1 = rw (role e) in
             omega (arith, count, z, u)
 
-    interval-passed : roleOf taken ≡ 4 → x .intervals < room .intervals → Passed c room (x .intervals) b (oneInterval (placed x kind q true)) (entryOf (roleOf taken) (j .first))
-    unfolding oneInterval placed waits
+    interval-passed : roleOf taken ≡ 4 → x .intervals < room .intervals → Passed c room (x .intervals) b (oneInterval (atRow x kind q true)) (entryOf (roleOf taken) (j .first))
+    unfolding oneInterval atRow waits
     interval-passed h free =
         let z : waits (getD (rowsOf kind) (x .row) 0) (x .inside) ≡ false = due-interval (waits (getD (rowsOf kind) (x .row) 0) (x .inside)) (rw h at fact) in
         let n : x .intervals ≡ c + 0 = rw z at count in
@@ -261,23 +260,23 @@ module _ (x : State) (kind : ℕ) (room : Room) (c : ℕ)
           (⊎-elim
           (λ h.
           let p = interval-passed q (root q z) fact b told j (h .0) (interval-room x (roleOf w) room (g .free) (h .0)) in
-          rw (kept-interval (placed x kind q (not empty)) w j (h .0), not-short empty rows q (row-facts rows (all-tested kind) q l .whole (h .0)) (g .whole)) p)
+          rw (kept-interval (atRow x kind q (not empty)) w j (h .0), not-short empty rows q (row-facts rows (all-tested kind) q l .whole (h .0)) (g .whole)) p)
           (λ h.
-          still-passed q (root q z) fact b told j (not empty) (h .0) (kept (placed x kind q (not empty)) w j) (kept-still (placed x kind q (not empty)) w j (h .0)))
+          still-passed q (root q z) fact b told j (not empty) (h .0) (kept (atRow x kind q (not empty)) w j) (kept-still (atRow x kind q (not empty)) w j (h .0)))
           (eqb-cases (roleOf w) 4)))
           (λ y. rw (y .1) (y .0))
           (eqb-cases (j .number) 0)
 
 -- ---- an end tag
 
-end-good : (x : State) (room : Room) (c : ℕ) → Counted c room x → (name : ℕ) → Good c room (x .intervals) false (ended x (rowsOf (x .kind)) name)
-unfolding ended endedAt closedAt Good isKind
+end-good : (x : State) (room : Room) (c : ℕ) → Counted c room x → (name : ℕ) → Good c room (x .intervals) false (afterEnd x (rowsOf (x .kind)) name)
+unfolding afterEnd afterEndAt closedAt Good isKind
 end-good x room c k name = by (endOf (rowsOf (x .kind)) (x .row) (x .inside) name) refl
   where
     rooted : (q : ℕ) → endOf (rowsOf (x .kind)) (x .row) (x .inside) name ≡ Row q → x .kind ≡ 0 → q ≡ 0
     rooted q z e = let u : NotDue ≡ Row q = sym (no-end 0 refl (x .row) (x .inside) name) ∙ rw e at z in absurd (zero-not-one (cc))
 
-    by : (d : Due) → endOf (rowsOf (x .kind)) (x .row) (x .inside) name ≡ d → Good c room (x .intervals) false (endedAt x (rowsOf (x .kind)) d)
+    by : (d : Due) → endOf (rowsOf (x .kind)) (x .row) (x .inside) name ≡ d → Good c room (x .intervals) false (afterEndAt x (rowsOf (x .kind)) d)
     by NotDue z = λ e. omega (arith, e)
     by (Row q) z =
         ⊎-elim

@@ -9,14 +9,14 @@ use lib.ListN.{drop}
 use Rattle.lists.proofs.Cases.{bool-cases, by-cond, leb-cases, ltb-cases, never}
 use Rattle.slices.specs.Bytes.{byte}
 use Rattle.slices.specs.Text.{text}
-use Rattle.tags.specs.declared.Span.{Span}
+use Rattle.slices.specs.declared.Span.{Span}
 use Rattle.items.specs.Item.{item, itemEnd}
 use Rattle.items.specs.declared.Item.{Item}
-use Rattle.items.specs.declared.Item.the-variants.{Start, Empty, End, Text, Comment, Refused}
+use Rattle.items.specs.declared.Item.the-variants.{Start, Empty, End, Text, Comment, Unreadable}
 use Rattle.items.proofs.Promises.{refused-two}
 use Rattle.prolog.specs.Prolog.{begin}
 use Rattle.prolog.specs.declared.Begin.{Begin}
-use Rattle.prolog.specs.declared.Begin.the-variants.{From, Unreadable}
+use Rattle.prolog.specs.declared.Begin.the-variants.{From, Misdeclared}
 use Rattle.reader.specs.Items.{Placed, itemsAfter, itemsFrom}
 use Rattle.numbers.specs.Alike.{Like, Alike, none, next}
 use Rattle.numbers.proofs.Blind.{alike-drop}
@@ -72,7 +72,7 @@ v-told (Empty t) i = span-told (t .v) i
 v-told (End n e) i = inr (λ h. h)
 v-told (Text w e) i = inr (λ h. h)
 v-told (Comment e) i = inr (λ h. h)
-v-told (Refused p) i = inr (λ h. h)
+v-told (Unreadable p) i = inr (λ h. h)
 
 alike-v : (i : Item) {s s′ : List ℕ} → Alike s s′ → JoinsV Alike i s s′
 unfolding JoinsV
@@ -81,7 +81,7 @@ alike-v (Empty t) r = alike-part (t .v .start) (t .v .len) r
 alike-v (End n e) r = tt
 alike-v (Text w e) r = tt
 alike-v (Comment e) r = tt
-alike-v (Refused p) r = tt
+alike-v (Unreadable p) r = tt
 
 module _ (name : List ℕ) where
   here-told : (x : Placed) (p : ℕ) → Told ((i : ℕ) × (p ≡ x .at + i) × ((tagNamed name (x .item) (x .rest) ≡ true) × InV (x .item) i))
@@ -115,7 +115,7 @@ module _ (name : List ℕ) where
   after-told : (doc : List ℕ) (b : Begin) (p : ℕ) → Told (InTagsAfter name doc b p)
   unfolding InTagsAfter
   after-told doc (From n) p = tags-told (itemsFrom doc n) p
-  after-told doc (Unreadable q) p = inr (λ h. h)
+  after-told doc (Misdeclared q) p = inr (λ h. h)
 
   -- alike documents have alike values
   joins-alike : (x y l : List ℕ) → Alike x y → (k at : ℕ) → l ≡ drop at x → Joins name Alike y (itemsAfter k at l)
@@ -130,7 +130,7 @@ module _ (name : List ℕ) where
   after-alike : (x y : List ℕ) → Alike x y → (b : Begin) → JoinsAfter name Alike x y b
   unfolding JoinsAfter itemsFrom
   after-alike x y r (From n) = joins-alike x y (drop n x) r 0 n refl
-  after-alike x y r (Unreadable q) = tt
+  after-alike x y r (Misdeclared q) = tt
 
 told : {A : Type 0} → Told A → Bool
 told (inl a) = true

@@ -1,5 +1,5 @@
 -- In a document that is accepted, row k has its amount from Qty number k. Assumes nothing.
-use Prim.Native.Nat.{ℕ, zero, suc, pred, _+_, _-_, _<_, _≤_}
+use Prim.Native.Nat.{ℕ, zero, suc, _+_, _-_, _<_, _≤_}
 use mathlib.Core.Path.{_≡_, refl, ap, _∙_}
 use mathlib.Core.List.{List, [], _∷_}
 use mathlib.Core.Bool.{Bool, true, false, cond}
@@ -11,8 +11,9 @@ use lib.ListN.{length, getD, set, length-set}
 use lib.Seq.{getD-set-same, getD-set-other}
 use Rattle.lists.proofs.Cases.{bool-cases, zero-not-one}
 use Rattle.tags.specs.Known.{absent}
-use Rattle.tags.specs.declared.Span.{Span}
-use Rattle.items.specs.Item.{item, itemEnd}
+use Rattle.slices.specs.declared.Span.{Span}
+use Rattle.items.specs.Parts.{spanOf}
+use Rattle.items.specs.Item.{item}
 use Rattle.items.specs.declared.Item.{Item}
 use Rattle.structure.specs.Rows.{overOf}
 use Rattle.guideline.specs.Rows.{rowsOf}
@@ -23,8 +24,8 @@ use Rattle.states.specs.declared.Entry.{Entry}
 use Rattle.states.specs.declared.Entry.the-variants.{Nothing, Series, Identification, Object, BusinessType, Direction, Area, Interval, Position, Amount}
 use Rattle.states.specs.declared.Step.{Step}
 use Rattle.states.specs.declared.Step.the-variants.{Next, Refused}
-use Rattle.reader.specs.Items.{Placed, itemsAfter}
-use Rattle.reader.specs.Rows.{spanOf, seriesAfter, positionsAfter, amountsAfter, usedBefore}
+use Rattle.reader.specs.Items.{Placed}
+use Rattle.reader.specs.Rows.{seriesAfter, positionsAfter, amountsAfter, usedBefore}
 use Rattle.reader.specs.Reading.{tab, refusedAt, acceptedAt, endedAt, withoutUsed, stepOf, tablesAfter, readItems}
 use Rattle.reader.proofs.Ran.{read-next, read-stop}
 use Rattle.blindness.specs.Readable.{namedQty}

@@ -9,11 +9,11 @@ use Rattle.lists.proofs.Cases.{bool-cases, eqb-cases, never, zero-not-one}
 use Rattle.slices.specs.Bytes.{byte}
 use Rattle.slices.specs.Same.{same}
 use Rattle.slices.proofs.Sames.{same-equal}
-use Rattle.attributes.specs.Attribute.{partOf}
+use Rattle.slices.specs.Part.{partOf}
 use Rattle.items.specs.Item.{item, itemEnd}
 use Rattle.items.specs.declared.Tag.{Tag}
 use Rattle.items.specs.declared.Item.{Item}
-use Rattle.items.specs.declared.Item.the-variants.{Start, Empty, End, Text, Comment, Refused}
+use Rattle.items.specs.declared.Item.the-variants.{Start, Empty, End, Text, Comment, Unreadable}
 use Rattle.reader.specs.Items.{Placed}
 use Rattle.digits.specs.Unseen.{Or}
 use Rattle.digits.specs.Items.{InV, JoinsV, IsTag, valueIn, PartsSame}
@@ -43,7 +43,7 @@ module _ (name : List ℕ) (R : List ℕ → List ℕ → Type 0) where
   Says (End n e) s s′ = partOf s 2 n ≡ partOf s′ 2 n
   Says (Text w e) s s′ = Unit {0}
   Says (Comment e) s s′ = Unit {0}
-  Says (Refused p) s s′ = Unit {0}
+  Says (Unreadable p) s s′ = Unit {0}
 
   -- of the documents x and y
   pub data Aligned (x y : List ℕ) : List Placed → List Placed → Type 0 where
@@ -52,7 +52,7 @@ module _ (name : List ℕ) (R : List ℕ → List ℕ → Type 0) where
         → Aligned x y (record { at = at; item = i; rest = s } ∷ xs) (record { at = at; item = i; rest = s′ } ∷ ys)
 
   tag-itself : (t : Tag) (s : List ℕ) → TagSays t s s
-  tag-itself t s = record { parts = record { name = refl; coding = refl; version = refl }; v = inr refl }
+  tag-itself t s = record { parts = record { name = refl; coding = refl; version = refl; release = refl; message = refl }; v = inr refl }
 
   pub says-itself : (i : Item) (s : List ℕ) → Says i s s
   unfolding Says
@@ -61,7 +61,7 @@ module _ (name : List ℕ) (R : List ℕ → List ℕ → Type 0) where
   says-itself (End n e) s = refl
   says-itself (Text w e) s = tt
   says-itself (Comment e) s = tt
-  says-itself (Refused p) s = tt
+  says-itself (Unreadable p) s = tt
 
   -- s is the part that begins with the item
   module _ (before : ℕ) (s s′ : List ℕ) (long : length s ≡ length s′) where
@@ -86,7 +86,7 @@ module _ (name : List ℕ) (R : List ℕ → List ℕ → Type 0) where
     item-says (End n m) e h r = end-name before s s′ n m e long (λ i l. ⊎-elim (λ b. b) (λ z. absurd (z .1)) (h i l))
     item-says (Text w m) e h r = tt
     item-says (Comment m) e h r = tt
-    item-says (Refused p) e h r = tt
+    item-says (Unreadable p) e h r = tt
 
   tag-joins : (t : Tag) (s s′ : List ℕ) → TagSays t s s′ → Or R (valueIn s (t .v)) (valueIn s′ (t .v))
   tag-joins t s s′ p = ⊎-elim (λ z. inr (z .1)) inl (p .v)
@@ -98,4 +98,4 @@ module _ (name : List ℕ) (R : List ℕ → List ℕ → Type 0) where
   says-joins (End n e) s s′ p = tt
   says-joins (Text w e) s s′ p = tt
   says-joins (Comment e) s s′ p = tt
-  says-joins (Refused q) s s′ p = tt
+  says-joins (Unreadable q) s s′ p = tt

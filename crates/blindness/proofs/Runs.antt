@@ -6,7 +6,8 @@ use mathlib.Core.List.{List, [], _∷_, map}
 use lib.IntN.{ℤ}
 use lib.ListN.{length, drop, set}
 use Rattle.lists.proofs.Cases.{past-cond, zero-not-one}
-use Rattle.tags.specs.declared.Span.{Span}
+use Rattle.slices.specs.declared.Span.{Span}
+use Rattle.items.specs.Parts.{spanOf}
 use Rattle.items.specs.declared.Item.{Item}
 use Rattle.states.specs.Moves.{step}
 use Rattle.states.specs.declared.State.{State}
@@ -16,7 +17,7 @@ use Rattle.states.specs.declared.Entry.the-variants.{Nothing, Series, Identific
 use Rattle.states.specs.declared.Step.{Step}
 use Rattle.states.specs.declared.Step.the-variants.{Next, Refused}
 use Rattle.reader.specs.Items.{Placed}
-use Rattle.reader.specs.Rows.{broughtBy, spanOf, quoted, amountsWith, seriesAfter, positionsAfter, amountsAfter, usedBefore}
+use Rattle.reader.specs.Rows.{broughtBy, quoted, amountsWith, seriesAfter, positionsAfter, amountsAfter, usedBefore}
 use Rattle.reader.specs.Reading.{tab, Out, withoutUsed, stepOf, tablesAfter, readItems}
 use Rattle.reader.proofs.Ran.{read-next, read-stop}
 use Rattle.blindness.specs.Sources.{amountAt}

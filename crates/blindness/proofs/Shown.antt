@@ -8,10 +8,10 @@ use lib.ListN.{length, getD, take, drop, set, List·getD-eq-default}
 use lib.Seq.{drop-drop, getD-set-other}
 use Rattle.lists.specs.Zeros.{zeros}
 use Rattle.lists.proofs.Cases.{eqb-cases, ltb-cases, zero-not-one}
-use Rattle.attributes.specs.Attribute.{partOf}
+use Rattle.slices.specs.Part.{partOf}
 use Rattle.slices.specs.Run.{run}
 use Rattle.trims.specs.Trim.{space, dropped}
-use Rattle.tags.specs.declared.Span.{Span}
+use Rattle.slices.specs.declared.Span.{Span}
 use Rattle.states.specs.declared.State.{State}
 use Rattle.states.specs.declared.Entry.{Entry}
 use Rattle.states.specs.declared.Entry.the-variants.{Nothing, Series, Interval, Position, Amount}

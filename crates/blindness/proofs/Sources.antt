@@ -4,12 +4,13 @@ use mathlib.Core.List.{List, [], _∷_}
 use mathlib.Core.Bool.{cond}
 use lib.ListN.{set, replicate}
 use lib.Dec.{eqb}
+use Rattle.items.specs.Parts.{spanOf}
 use Rattle.lists.specs.Zeros.{zeros}
 use Rattle.tags.specs.Known.{absent}
-use Rattle.tags.specs.declared.Span.{Span}
+use Rattle.slices.specs.declared.Span.{Span}
 use Rattle.prolog.specs.Prolog.{begin}
 use Rattle.prolog.specs.declared.Begin.{Begin}
-use Rattle.prolog.specs.declared.Begin.the-variants.{From, Unreadable}
+use Rattle.prolog.specs.declared.Begin.the-variants.{From, Misdeclared}
 use Rattle.states.specs.Moves.{begun}
 use Rattle.states.specs.declared.State.{State}
 use Rattle.states.specs.declared.Room.{Room}
@@ -17,7 +18,7 @@ use Rattle.states.specs.declared.Entry.{Entry}
 use Rattle.states.specs.declared.Entry.the-variants.{Nothing, Series, Identification, Object, BusinessType, Direction, Area, Interval, Position, Amount}
 use Rattle.states.specs.declared.Step.the-variants.{Next, Refused}
 use Rattle.reader.specs.Items.{Placed, itemsFrom}
-use Rattle.reader.specs.Rows.{spanOf, seriesAfter}
+use Rattle.reader.specs.Rows.{seriesAfter}
 use Rattle.reader.specs.Reading.{stepOf, roomOf}
 use Rattle.reader.specs.Answer.{readOf}
 
@@ -48,7 +49,7 @@ unsourced na = replicate na absent
 
 unfoldable pub sourcesFrom : List ℕ → ℕ → ℕ → ℕ → Begin → List Span
 sourcesFrom doc ns np na (From n) = sourcesIn doc (roomOf ns np na) (itemsFrom doc n) begun (zeros ns) (unsourced na)
-sourcesFrom doc ns np na (Unreadable p) = unsourced na
+sourcesFrom doc ns np na (Misdeclared p) = unsourced na
 
 -- for tables of these lengths; on every refusal no cell has a source
 unfoldable pub sourceTable : List ℕ → ℕ → ℕ → ℕ → ℕ → List Span

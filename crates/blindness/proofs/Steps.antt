@@ -10,12 +10,12 @@ use borrow.Author.Tests.{eq-eqb, eqb-true}
 use Rattle.lists.proofs.Cases.{by-cond, both-true}
 use Rattle.slices.specs.Same.{same}
 use Rattle.slices.specs.Text.{text}
-use Rattle.attributes.specs.Attribute.{partOf}
+use Rattle.slices.specs.Part.{partOf}
 use Rattle.elements.specs.Names.{names, numberIn, elementNo}
+use Rattle.items.specs.Parts.{spanOf}
 use Rattle.items.specs.declared.Tag.{Tag}
 use Rattle.items.specs.declared.Item.{Item}
-use Rattle.items.specs.declared.Item.the-variants.{Start, Empty, End, Text, Comment}
-use Rattle.items.specs.declared.Item.the-variants.{Refused as Unreadable}
+use Rattle.items.specs.declared.Item.the-variants.{Start, Empty, End, Text, Comment, Unreadable}
 use Rattle.structure.specs.Rows.{nameOf, startOf}
 use Rattle.structure.specs.declared.Due.{Due}
 use Rattle.structure.specs.declared.Due.the-variants.{Row, NotDue}
@@ -24,7 +24,7 @@ use Rattle.columns.specs.Columns.{formOf, collapsed, roleOf}
 use Rattle.guideline.specs.Rows.{beschaffungsanforderung, kostenblatt, rowsOf}
 use Rattle.guideline.proofs.Each.{of-table}
 use Rattle.rules.specs.declared.Held.{Held}
-use Rattle.states.specs.Attributes.{valueOf, schemeRefusal, judgeTag}
+use Rattle.states.specs.Attributes.{valueOf, schemeRefusal, valueFixed, dtdFixed, judgeTag}
 use Rattle.states.specs.Moves.{heldOf, valuesJudged, judgedAt, startJudged, entryOf, startedBy, startedAt, started, moved, rootKind, kindTold, step}
 use Rattle.states.specs.declared.State.{State}
 use Rattle.states.specs.declared.Room.{Room}
@@ -32,7 +32,7 @@ use Rattle.states.specs.declared.Entry.{Entry}
 use Rattle.states.specs.declared.Entry.the-variants.{Amount}
 use Rattle.states.specs.declared.Step.{Step}
 use Rattle.states.specs.declared.Step.the-variants.{Next, Refused}
-use Rattle.reader.specs.Rows.{spanOf, quoted}
+use Rattle.reader.specs.Rows.{quoted}
 use Rattle.characters.specs.Says.{says}
 use Rattle.trims.specs.Trim.{dropped}
 use Rattle.rules.specs.Rules.{judge}
@@ -68,14 +68,14 @@ module _ (name : List ℕ) (R : List ℕ → List ℕ → Type 0) (brought : Ent
   -- a tag in s and in s′, and the rows of a kind
   module _ (rows : List ℕ) (blind : BlindRows rows) (t : Tag) (s s′ : List ℕ) (p : TagSays name R t s s′) where
     judge-tag : (w : ℕ) (h : Held) → ((partOf s 1 (t .name) ≡ name) → BlindRow w) → judgeTag w t h s ≡ judgeTag w t h s′
-    unfolding judgeTag schemeRefusal valueOf
+    unfolding judgeTag dtdFixed valueFixed schemeRefusal valueOf
     judge-tag w h row =
         let q : judge (formOf w) h (says (valueOf w (t .v) s)) ≡ judge (formOf w) h (says (valueOf w (t .v) s′)) =
         ⊎-elim
         (λ z. row (z .0) .judged h (z .1))
         (λ e. ap (λ (l : List ℕ). judge (formOf w) h (says (cond (collapsed w) (dropped l) l))) e)
         (p .v) in
-        rw (p .parts .version, p .parts .coding, q)
+        rw (p .parts .version, p .parts .release, p .parts .message, p .parts .coding, q)
 
     module _ (x : State) (kind : ℕ) (empty : Bool) (room : Room) where
       -- the row that a tag of the name takes

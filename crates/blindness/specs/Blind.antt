@@ -7,7 +7,7 @@ use mathlib.Core.Logic.{_⊎_}
 use lib.IntN.{ℤ, pos}
 use lib.ListN.{length, getD}
 use Rattle.tags.specs.Known.{absent}
-use Rattle.tags.specs.declared.Span.{Span}
+use Rattle.slices.specs.declared.Span.{Span}
 use Rattle.reader.specs.Rows.{quoted}
 use Rattle.reader.specs.Answer.{readOf}
 use Rattle.blindness.specs.Sources.{amountAt, sourcesOf}

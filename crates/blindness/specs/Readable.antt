@@ -9,13 +9,13 @@ use lib.ListN.{length}
 use Rattle.slices.specs.Bytes.{byte}
 use Rattle.slices.specs.Same.{same}
 use Rattle.slices.specs.Text.{text}
-use Rattle.attributes.specs.Attribute.{partOf}
+use Rattle.slices.specs.Part.{partOf}
 use Rattle.items.specs.Item.{itemRefusal}
 use Rattle.items.specs.declared.Item.{Item}
-use Rattle.items.specs.declared.Item.the-variants.{Start, Empty, End, Text, Comment, Refused}
+use Rattle.items.specs.declared.Item.the-variants.{Start, Empty, End, Text, Comment, Unreadable}
 use Rattle.prolog.specs.Prolog.{begin}
 use Rattle.prolog.specs.declared.Begin.{Begin}
-use Rattle.prolog.specs.declared.Begin.the-variants.{From, Unreadable}
+use Rattle.prolog.specs.declared.Begin.the-variants.{From, Misdeclared}
 use Rattle.pictures.specs.Picture.{digit}
 use Rattle.reader.specs.Items.{Placed, itemsFrom}
 use Rattle.digits.specs.Items.{InV}
@@ -27,7 +27,7 @@ tagNamed name (Empty t) s = same (partOf s 1 (t .name)) name
 tagNamed name (End n e) s = false
 tagNamed name (Text w e) s = false
 tagNamed name (Comment e) s = false
-tagNamed name (Refused p) s = false
+tagNamed name (Unreadable p) s = false
 
 -- "between the quotes of the attribute `v`" of it: the place i, counted from the item's first byte
 abbrev pub InTag : List ℕ → Item → List ℕ → ℕ → Type 0
@@ -41,7 +41,7 @@ InTags name (x ∷ xs) p = ((i : ℕ) × (p ≡ x .at + i) × InTag name (x .ite
 -- of the items of a document, of which there are none where the XML declaration is unreadable
 unfoldable pub InTagsAfter : List ℕ → List ℕ → Begin → ℕ → Type 0
 InTagsAfter name doc (From n) p = InTags name (itemsFrom doc n) p
-InTagsAfter name doc (Unreadable q) p = ⊥
+InTagsAfter name doc (Misdeclared q) p = ⊥
 
 abbrev pub namedQty : Item → List ℕ → Bool
 namedQty x s = tagNamed (text "Qty") x s

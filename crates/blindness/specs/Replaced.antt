@@ -9,7 +9,7 @@ use Rattle.slices.specs.Bytes.{byte}
 use Rattle.items.specs.Item.{itemRefusal}
 use Rattle.prolog.specs.Prolog.{begin}
 use Rattle.prolog.specs.declared.Begin.{Begin}
-use Rattle.prolog.specs.declared.Begin.the-variants.{From, Unreadable}
+use Rattle.prolog.specs.declared.Begin.the-variants.{From, Misdeclared}
 use Rattle.reader.specs.Items.{Placed, itemsFrom}
 use Rattle.digits.specs.Items.{JoinsV}
 use Rattle.blindness.specs.Readable.{tagNamed, InTagsAfter}
@@ -23,7 +23,7 @@ module _ (name : List ℕ) (R : List ℕ → List ℕ → Type 0) where
 
   unfoldable pub JoinsAfter : List ℕ → List ℕ → Begin → Type 0
   JoinsAfter x y (From n) = Joins y (itemsFrom x n)
-  JoinsAfter x y (Unreadable q) = Unit {0}
+  JoinsAfter x y (Misdeclared q) = Unit {0}
 
   pub record Replaced (x y : List ℕ) : Type 0 where
     pub long : length x ≡ length y

@@ -5,15 +5,16 @@ use mathlib.Core.List.{List, [], _∷_}
 use mathlib.Core.Bool.{cond}
 use lib.IntN.{ℤ}
 use lib.Dec.{eqb}
+use Rattle.items.specs.Parts.{spanOf}
 use Rattle.characters.specs.Says.{says}
-use Rattle.tags.specs.declared.Span.{Span}
+use Rattle.slices.specs.declared.Span.{Span}
 use Rattle.trims.specs.Trim.{dropped}
 use Rattle.numbers.specs.Amount.{amountOf}
 use Rattle.prolog.specs.Prolog.{begin}
 use Rattle.prolog.specs.declared.Begin.{Begin}
-use Rattle.prolog.specs.declared.Begin.the-variants.{From, Unreadable}
+use Rattle.prolog.specs.declared.Begin.the-variants.{From, Misdeclared}
 use Rattle.reader.specs.Items.{Placed, itemsFrom}
-use Rattle.reader.specs.Rows.{spanOf, quoted, thousandthsOf}
+use Rattle.reader.specs.Rows.{quoted, thousandthsOf}
 use Rattle.reader.specs.Answer.{readOf}
 use Rattle.blindness.specs.Readable.{namedQty}
 
@@ -28,7 +29,7 @@ qtyValues (x ∷ xs) = let rest = qtyValues xs in cond (namedQty (x .item) (x .r
 
 unfoldable pub qtyValuesAfter : List ℕ → Begin → List Span
 qtyValuesAfter doc (From n) = qtyValues (itemsFrom doc n)
-qtyValuesAfter doc (Unreadable p) = []
+qtyValuesAfter doc (Misdeclared p) = []
 
 -- the sources of the amounts of a document that is accepted; on every refusal there are none
 unfoldable pub sourcesOf : List ℕ → ℕ → ℕ → ℕ → ℕ → List Span

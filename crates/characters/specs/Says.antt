@@ -4,7 +4,7 @@ use mathlib.Core.List.{List, [], _∷_}
 use mathlib.Core.Bool.{Bool, true, false, cond}
 use lib.ListN.{length}
 use lib.Dec.{eqb}
-use Rattle.slices.specs.Walk.{Step, go, stop, walk}
+use Rattle.slices.specs.Walk.{WalkStep, go, stop, walk}
 use Rattle.characters.specs.Utf8.{charAt}
 use Rattle.characters.specs.declared.Char.{Char}
 use Rattle.characters.specs.declared.Char.the-variants.{Is, NoChar}
@@ -12,7 +12,7 @@ use Rattle.characters.specs.declared.Said.{Said}
 use Rattle.characters.specs.declared.Said.the-variants.{Says, Over}
 
 -- every byte belongs to an XML character
-unfoldable pub charNext : Unit {0} → Char → Step (Unit {0}) Bool
+unfoldable pub charNext : Unit {0} → Char → WalkStep (Unit {0}) Bool
 charNext u (Is c n) = go n tt
 charNext u NoChar = stop false
 

@@ -27,8 +27,8 @@ unfoldable pub second : ℕ → ℕ → Bool
 second a b = cond (leb (low a) b) (leb b (high a)) false
 
 -- any later byte is 80 to BF
-unfoldable pub tail : ℕ → Bool
-tail b = cond (leb 0x80 b) (leb b 0xBF) false
+unfoldable pub laterByte : ℕ → Bool
+laterByte b = cond (leb 0x80 b) (leb b 0xBF) false
 
 -- XML 1.0 has no character below 20 but tab, LF and CR,
 unfoldable pub control : ℕ → Bool
@@ -47,12 +47,12 @@ double a b = cond (second a b) (Is (a % 32 * 64 + b % 64) 2) NoChar
 
 unfoldable pub triple : ℕ → ℕ → ℕ → Char
 triple a b c =
-    cond (second a b) (cond (tail c) (cond (nonchar a b c) NoChar (Is (a % 16 * 4096 + b % 64 * 64 + c % 64) 3)) NoChar) NoChar
+    cond (second a b) (cond (laterByte c) (cond (nonchar a b c) NoChar (Is (a % 16 * 4096 + b % 64 * 64 + c % 64) 3)) NoChar) NoChar
 
 unfoldable pub fourfold : ℕ → ℕ → ℕ → ℕ → Char
 fourfold a b c d =
     cond (second a b)
-    (cond (tail c) (cond (tail d) (Is (a % 8 * 262144 + b % 64 * 4096 + c % 64 * 64 + d % 64) 4) NoChar) NoChar)
+    (cond (laterByte c) (cond (laterByte d) (Is (a % 8 * 262144 + b % 64 * 4096 + c % 64 * 64 + d % 64) 4) NoChar) NoChar)
     NoChar
 
 -- the character at the front of s

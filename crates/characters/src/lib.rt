@@ -3,7 +3,7 @@ use slices::byte_at;
 ghost use mathlib.Core.Path.{_≡_};
 ghost use Prim.Native.Nat.{_≤_};
 ghost use lib.ListN.{length};
-ghost use Rattle.characters.specs.Utf8.{seqLen, low, high, second, tail, control, nonchar, single, double, triple, fourfold, charAt, charUse};
+ghost use Rattle.characters.specs.Utf8.{seqLen, low, high, second, laterByte, control, nonchar, single, double, triple, fourfold, charAt, charUse};
 ghost use Rattle.characters.specs.Says.{saidAt, saidUse, says, allChars};
 
 pub enum Char {
@@ -60,7 +60,7 @@ fn is_second(a: u8, b: u8) -> bool
 }
 
 fn is_tail(b: u8) -> bool
-    ensures { λ r. ⌜ r ≡ tail b ⌝ }
+    ensures { λ r. ⌜ r ≡ laterByte b ⌝ }
 {
     if 0x80 <= b { b <= 0xBF } else { false }
 }

@@ -1,7 +1,7 @@
 -- The columns name code lists by numbers; each number is that of the list whose name the column's word has. One statement for all of them, so that no row
 -- can mean another list than it reads. Assumes nothing.
 use mathlib.Core.Path.{_≡_, refl}
-use mathlib.Core.List.{List, [], _∷_, map}
+use mathlib.Core.List.{[], _∷_, map}
 use Rattle.columns.specs.Columns.{
   documentTypeOneList,
   documentTypeTwoList,

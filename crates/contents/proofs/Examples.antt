@@ -10,17 +10,18 @@ use Rattle.slices.specs.Text.{text}
 use Rattle.characters.specs.Utf8.{seqLen, control, single, charAt}
 use Rattle.characters.specs.Says.{charNext, charsOver, allChars}
 use Rattle.attributes.specs.Names.{nameStart, nameByte, white}
-use Rattle.attributes.specs.Attribute.{quote, fit, valueNext, valueOver, value, openingFrom, opening, attributeEnd, attributeQuote, attributeName, attribute, pieceAfter, piece, partOf}
-use Rattle.tags.specs.Known.{absent, noneKnown, oneMore, noted}
-use Rattle.tags.specs.Tail.{onto, endsAfter, ends, keep, named, twice}
+use Rattle.slices.specs.Part.{partOf}
+use Rattle.attributes.specs.Attribute.{quote, fit, valueNext, valueOver, value, openingFrom, opening, attributeEnd, attributeQuote, attributeName, attribute, pieceAfter, piece}
+use Rattle.tags.specs.Known.{absent, dtdName, noDtd, withDtd, noneKnown, upToTwo, withAttribute}
+use Rattle.tags.specs.Tail.{onto, endsAfter, ends, keptOf, named, twice}
 use Rattle.items.specs.Comment.{commentTo, comment}
 use Rattle.items.specs.Text.{textTo, textItem}
 use Rattle.items.specs.Item.{endClose, endName, endTag, commentItem, commentTag, tagOf, tagItem, startTag, item}
-use Rattle.prolog.specs.Prolog.{declaredBy, declared, encodedBy, encoded, declarationBy, declaration, markLen, after, beginAfter, begin}
+use Rattle.prolog.specs.Prolog.{declaredBy, declared, encodedBy, encoded, declarationBy, declaration, markLen, behindMark, beginAfter, begin}
 use Rattle.elements.specs.Names.{names, numberIn, elementNo}
 use Rattle.states.specs.Attributes.{there}
 use Rattle.reader.specs.Items.{itemsAfter, itemsFrom}
-use Rattle.contents.specs.Spelled.{valueIn, saidBy, elementIn, signsBy, signsOf, allowed, AllAllowed, Alike}
+use Rattle.contents.specs.Spelled.{valueGiven, dtdOfTag, saidOfTag, elementIn, signsBy, signsOf, allowed, AllAllowed, SpellAlike}
 
 abbrev pub plain : List ℕ
 plain =
@@ -32,12 +33,12 @@ pretty =
     text "<?xml version=\"1.0\"?> <Kostenblatt DtdBDEWNachrichtenVersion='1.0' > <!-- sent by --><SenderIdentification codingScheme='A10'" ++
     text " v='9900000000001' ></SenderIdentification > <Period/> </Kostenblatt>"
 
-pub plain-pretty : Alike plain pretty
+pub plain-pretty : SpellAlike plain pretty
 unfolding byte run same begins seek here firstAt walk seqLen control single charAt charNext charsOver allChars nameStart nameByte white quote fit valueNext valueOver value
-    openingFrom opening attributeEnd attributeQuote attributeName attribute pieceAfter piece partOf absent noneKnown oneMore noted onto endsAfter
-    ends keep named twice commentTo comment textTo textItem endClose endName endTag commentItem commentTag tagOf tagItem startTag item
-    declaredBy declared encodedBy encoded declarationBy declaration markLen after beginAfter begin names numberIn elementNo there itemsAfter itemsFrom
-    valueIn saidBy elementIn signsBy signsOf allowed AllAllowed
+    openingFrom opening attributeEnd attributeQuote attributeName attribute pieceAfter piece partOf absent dtdName noDtd withDtd noneKnown upToTwo withAttribute onto endsAfter
+    ends keptOf named twice commentTo comment textTo textItem endClose endName endTag commentItem commentTag tagOf tagItem startTag item
+    declaredBy declared encodedBy encoded declarationBy declaration markLen behindMark beginAfter begin names numberIn elementNo there itemsAfter itemsFrom
+    valueGiven dtdOfTag saidOfTag elementIn signsBy signsOf allowed AllAllowed
 plain-pretty =
     record {
       from = 0;

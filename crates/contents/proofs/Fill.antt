@@ -4,31 +4,32 @@ use mathlib.Core.Path.{_≡_}
 use mathlib.Core.List.{List, [], _∷_, _++_}
 use mathlib.Core.Bool.{Bool, true, false}
 use lib.ListN.{getD, drop}
+use Rattle.items.specs.Parts.{spanOf}
 use Rattle.items.specs.declared.Item.{Item}
-use Rattle.items.specs.declared.Item.the-variants.{Start, Empty, End, Text, Comment, Refused}
+use Rattle.items.specs.declared.Item.the-variants.{Start, Empty, End, Text, Comment, Unreadable}
 use Rattle.columns.specs.Columns.{roleOf}
 use Rattle.times.specs.Periods.{quarterHours}
 use Rattle.states.specs.Moves.{entryOf}
 use Rattle.states.specs.declared.State.{State}
 use Rattle.reader.specs.Items.{Placed}
-use Rattle.reader.specs.Rows.{spanOf, usedBefore}
+use Rattle.reader.specs.Rows.{usedBefore}
 use Rattle.reader.specs.Reading.{Tables, tablesAfter}
 use Rattle.trees.specs.Trees.{Sign, Opens, Closes, Trees, none, element}
-use Rattle.contents.specs.Said.{Said, Absent}
-use Rattle.contents.specs.Spelled.{saidBy, elementIn}
+use Rattle.contents.specs.Said.{TagSaid, Absent}
+use Rattle.contents.specs.Spelled.{saidOfTag, elementIn}
 use Rattle.contents.specs.Legal.{positionOf}
 use Rattle.contents.proofs.Walk.{Tally, opened, walked}
 
 -- what a placed item says
-unfoldable pub saidByItem : Item → List ℕ → Said
-saidByItem (Start t) s = saidBy t s
-saidByItem (Empty t) s = saidBy t s
-saidByItem (End n e) s = record { v = Absent; scheme = Absent; version = Absent; others = false; passable = true }
-saidByItem (Text w e) s = record { v = Absent; scheme = Absent; version = Absent; others = false; passable = true }
-saidByItem (Comment e) s = record { v = Absent; scheme = Absent; version = Absent; others = false; passable = true }
-saidByItem (Refused p) s = record { v = Absent; scheme = Absent; version = Absent; others = false; passable = true }
+unfoldable pub saidByItem : Item → List ℕ → TagSaid
+saidByItem (Start t) s = saidOfTag t s
+saidByItem (Empty t) s = saidOfTag t s
+saidByItem (End n e) s = record { v = Absent; scheme = Absent; dtd = record { version = Absent; release = Absent; message = Absent }; others = false; passable = true }
+saidByItem (Text w e) s = record { v = Absent; scheme = Absent; dtd = record { version = Absent; release = Absent; message = Absent }; others = false; passable = true }
+saidByItem (Comment e) s = record { v = Absent; scheme = Absent; dtd = record { version = Absent; release = Absent; message = Absent }; others = false; passable = true }
+saidByItem (Unreadable p) s = record { v = Absent; scheme = Absent; dtd = record { version = Absent; release = Absent; message = Absent }; others = false; passable = true }
 
-abbrev pub saidOf : Placed → Said
+abbrev pub saidOf : Placed → TagSaid
 saidOf x = saidByItem (x .item) (x .rest)
 
 -- the signs of the items, each start with its item
@@ -38,14 +39,14 @@ placedBy x (Empty t) = Opens x (elementIn 1 (t .name) (x .rest)) ∷ Closes (ele
 placedBy x (End n e) = Closes (elementIn 2 n (x .rest)) ∷ []
 placedBy x (Text w e) = []
 placedBy x (Comment e) = []
-placedBy x (Refused p) = []
+placedBy x (Unreadable p) = []
 
 unfoldable pub placedSigns : List Placed → List (Sign Placed)
 placedSigns [] = []
 placedSigns (x ∷ xs) = placedBy x (x .item) ++ placedSigns xs
 
 -- the content itself, its elements being told by their items
-unfoldable pub saying : Trees Placed → Trees Said
+unfoldable pub saying : Trees Placed → Trees TagSaid
 saying none = none
 saying (element q x inner after) = element q (saidOf x) (saying inner) (saying after)
 
@@ -94,7 +95,7 @@ isTag (Empty t) = true
 isTag (End n e) = false
 isTag (Text w e) = false
 isTag (Comment e) = false
-isTag (Refused p) = false
+isTag (Unreadable p) = false
 
 unfoldable pub Stands : List ℕ → Trees Placed → Type 0
 Stands doc none = Unit {0}

@@ -11,10 +11,11 @@ use lib.IntN.{ℤ}
 use lib.ListN.{length, getD, set, length-append}
 use lib.Seq.{sets}
 use borrow.Author.Tests.{ne-eqb, eqb-false}
+use Rattle.items.specs.Parts.{spanOf}
 use Rattle.lists.proofs.Cases.{eqb-cases}
 use Rattle.characters.specs.Says.{says}
 use Rattle.trims.specs.Trim.{dropped}
-use Rattle.tags.specs.declared.Span.{Span}
+use Rattle.slices.specs.declared.Span.{Span}
 use Rattle.numbers.specs.Amount.{amountOf}
 use Rattle.structure.specs.Rows.{parentOf}
 use Rattle.columns.specs.Columns.{roleOf}
@@ -22,11 +23,11 @@ use Rattle.states.specs.Attributes.{there}
 use Rattle.states.specs.Moves.{entryOf}
 use Rattle.states.specs.declared.State.{State}
 use Rattle.reader.specs.Items.{Placed}
-use Rattle.reader.specs.Rows.{broughtBy, spanOf, quoted, thousandthsOf, positionsWith, amountsWith, positionsAfter, amountsAfter}
+use Rattle.reader.specs.Rows.{broughtBy, quoted, thousandthsOf, positionsWith, amountsWith, positionsAfter, amountsAfter}
 use Rattle.reader.specs.Reading.{Tables, tablesAfter}
 use Rattle.trees.specs.Trees.{Trees, none, element, rowsTaken, Stand, Fits, EachConforms}
 use Rattle.lists.proofs.Stores.{sets-more}
-use Rattle.contents.specs.Said.{Said}
+use Rattle.contents.specs.Said.{TagSaid}
 use Rattle.contents.specs.Legal.{hasRole, those, positionOf}
 use Rattle.contents.specs.Shown.{amountIn}
 use Rattle.contents.proofs.Laid.{Layout, Valued}
@@ -38,14 +39,14 @@ use Rattle.contents.proofs.Values.{said-bytes, HasValues}
 use Rattle.contents.proofs.Roles.{by-entry}
 
 -- between two places of the walk these intervals start, and these positions and amounts are put, from the next interval's row on
-pub record Puts (y : Tally) (t : Tables) (y′ : Tally) (t′ : Tables) (starts : List Said) (ps : List ℕ) (ams : List ℤ) : Type 0 where
+pub record Puts (y : Tally) (t : Tables) (y′ : Tally) (t′ : Tables) (starts : List TagSaid) (ps : List ℕ) (ams : List ℤ) : Type 0 where
   pub intervals : y′ .intervals ≡ y .intervals + length starts
   pub positions-many : length ps ≡ length starts
   pub amounts-many : length ams ≡ length starts
   pub positions : t′ .positions ≡ sets (t .positions) (y .intervals) ps
   pub amounts : t′ .amounts ≡ sets (t .amounts) (y .intervals) ams
 
-puts-on : {y y₁ y₂ : Tally} {t t₁ t₂ : Tables} {starts starts₁ : List Said} {ps ps₁ : List ℕ} {ams ams₁ : List ℤ}
+puts-on : {y y₁ y₂ : Tally} {t t₁ t₂ : Tables} {starts starts₁ : List TagSaid} {ps ps₁ : List ℕ} {ams ams₁ : List ℤ}
     → Puts y t y₁ t₁ starts ps ams → Puts y₁ t₁ y₂ t₂ starts₁ ps₁ ams₁ → Puts y t y₂ t₂ (starts ++ starts₁) (ps ++ ps₁) (ams ++ ams₁)
 puts-on {y} {y₁} {y₂} {t} {t₁} {t₂} {starts} {starts₁} {ps} {ps₁} {ams} {ams₁} f g =
     let a = f .intervals in
@@ -73,7 +74,7 @@ puts-on {y} {y₁} {y₂} {t} {t₁} {t₂} {starts} {starts₁} {ps} {ps₁} {a
 puts-none : {y y′ : Tally} {t t′ : Tables} → y′ .intervals ≡ y .intervals → t′ .positions ≡ t .positions → t′ .amounts ≡ t .amounts → Puts y t y′ t′ [] [] []
 puts-none e f g = record { intervals = omega (arith, e); positions-many = refl; amounts-many = refl; positions = f; amounts = g }
 
-puts-lists : {y y′ : Tally} {t t′ : Tables} {starts starts₁ : List Said} {ps ps₁ : List ℕ} {ams ams₁ : List ℤ}
+puts-lists : {y y′ : Tally} {t t′ : Tables} {starts starts₁ : List TagSaid} {ps ps₁ : List ℕ} {ams ams₁ : List ℤ}
     → starts ≡ starts₁ → ps ≡ ps₁ → ams ≡ ams₁ → Puts y t y′ t′ starts ps ams → Puts y t y′ t′ starts₁ ps₁ ams₁
 puts-lists e f g k = rw (e, f, g) at k
 

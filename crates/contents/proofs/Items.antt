@@ -8,31 +8,30 @@ use mathlib.Core.Logic.{⊎-elim}
 use native.Mathlib.Omega.{arith}
 use lib.ListN.{length, getD}
 use Rattle.lists.proofs.Cases.{zero-not-one}
+use Rattle.items.specs.Parts.{passed}
 use Rattle.items.specs.declared.Tag.{Tag}
 use Rattle.items.specs.declared.Item.{Item}
-use Rattle.items.specs.declared.Item.the-variants.{Start, Empty, End, Text, Comment}
-use Rattle.items.specs.declared.Item.the-variants.{Refused as Unreadable}
+use Rattle.items.specs.declared.Item.the-variants.{Start, Empty, End, Text, Comment, Unreadable}
 use Rattle.structure.specs.Rows.{startOf, endOf, overOf, endsAtOnce}
 use Rattle.structure.specs.declared.Due.{Due}
-use Rattle.structure.specs.declared.Due.the-variants.{Row, NotDue}
 use Rattle.guideline.specs.Kinds.{isKind, kindOf}
 use Rattle.guideline.proofs.Each.{kind-told}
 use Rattle.guideline.proofs.Roots.{no-start, no-end as none-ends, not-over as none-over}
 use Rattle.guideline.specs.Rows.{rowsOf}
-use Rattle.states.specs.Moves.{cutShort, startedAt, started, endedAt, ended, moved, rootKind, kindTold, step}
+use Rattle.states.specs.Moves.{cutShort, startedAt, started, afterEndAt, afterEnd, moved, rootKind, kindTold, step}
 use Rattle.states.specs.declared.State.{State}
 use Rattle.states.specs.declared.Room.{Room}
 use Rattle.states.specs.declared.Entry.{Entry}
 use Rattle.states.specs.declared.Entry.the-variants.{Nothing}
 use Rattle.states.specs.declared.Step.{Step}
 use Rattle.states.specs.declared.Step.the-variants.{Next, Refused}
-use Rattle.reader.specs.Items.{Placed, passed}
+use Rattle.reader.specs.Items.{Placed}
 use Rattle.reader.specs.Rows.{broughtBy, usedWith, usedBefore}
 use Rattle.reader.specs.Reading.{Tables, Out, refusedAt, acceptedAt, withoutUsed, stepOf, tablesAfter, readItems}
 use Rattle.reader.specs.Reading.{endedAt as overAt}
 use Rattle.reader.proofs.Ran.{read-next, read-stop, still, unreadable}
 use Rattle.trees.specs.Trees.{Sign, Opens, Closes}
-use Rattle.contents.specs.Spelled.{saidBy, elementIn, allowed, AllAllowed}
+use Rattle.contents.specs.Spelled.{saidOfTag, elementIn, allowed, AllAllowed}
 use Rattle.contents.proofs.Laid.{Layout, Known, laid}
 use Rattle.contents.proofs.Walk.{Tally, nothing, Ended}
 use Rattle.contents.proofs.Fill.{tablesWith, saidByItem, saidOf, placedBy, placedSigns, stateOf}
@@ -42,11 +41,11 @@ use Rattle.contents.proofs.Moved.{Low, low-opened, low-less, tables-ins
 
 -- ---- the kinds of items
 
-said-start : (x : Placed) (tag : Tag) → x .item ≡ Start tag → saidBy tag (x .rest) ≡ saidOf x
+said-start : (x : Placed) (tag : Tag) → x .item ≡ Start tag → saidOfTag tag (x .rest) ≡ saidOf x
 unfolding saidByItem
 said-start x tag e = rw e refl
 
-said-empty : (x : Placed) (tag : Tag) → x .item ≡ Empty tag → saidBy tag (x .rest) ≡ saidOf x
+said-empty : (x : Placed) (tag : Tag) → x .item ≡ Empty tag → saidOfTag tag (x .rest) ≡ saidOf x
 unfolding saidByItem
 said-empty x tag e = rw e refl
 
@@ -61,7 +60,7 @@ module _ (st : State) (kind : ℕ) (rows : List ℕ) (x : Placed) (room : Room) 
   unfolding moved elementIn
   moved-empty tag e = rw e refl
 
-  moved-end : (n m : ℕ) → x .item ≡ End n m → moved st kind rows (x .item) (x .rest) room ≡ ended st rows (elementIn 2 n (x .rest))
+  moved-end : (n m : ℕ) → x .item ≡ End n m → moved st kind rows (x .item) (x .rest) room ≡ afterEnd st rows (elementIn 2 n (x .rest))
   unfolding moved elementIn
   moved-end n m e = rw e refl
 
@@ -182,7 +181,7 @@ module _ (doc : List ℕ) (room : Room) (kind : ℕ) (known : Known kind) where
       → Reads xs r o y t) where
     module _ (k₀ r : ℕ) (o : Bool) (y : Tally) (t : Tables) (low : Low (suc (length xs)) y)
         (ok : readItems doc room (x ∷ xs) (stateOf k₀ r o y) t .found .refusal ≡ 0) where
-      tag-forth : (tag : Tag) (name : ℕ) (empty : Bool) → saidBy tag (x .rest) ≡ saidOf x
+      tag-forth : (tag : Tag) (name : ℕ) (empty : Bool) → saidOfTag tag (x .rest) ≡ saidOf x
           → step (stateOf k₀ r o y) (x .item) (x .rest) room ≡ started (stateOf k₀ r o y) kind rows name tag (x .rest) empty room
           → (q : ℕ) × Went doc room kind rows r o y t x name empty q
           × Reads xs q (not empty) (after rows q x y) (tablesWith kind rows q x (after rows q x y) t)
@@ -251,7 +250,7 @@ module _ (doc : List ℕ) (room : Room) (kind : ℕ) (known : Known kind) where
           by (stepOf doc (t .series) room x (stateOf kind r o y)) refl
           (subst (Closed kind rows r o y name)
           (sym
-          (step-by doc room x xs (stateOf kind r o y) t (ended (stateOf kind r o y) rows name)
+          (step-by doc room x xs (stateOf kind r o y) t (afterEnd (stateOf kind r o y) rows name)
           (step-in kind known r o y (x .item) (x .rest) room ∙ moved-end (stateOf kind r o y) kind rows x room n m i)))
           (ended-goes doc kind rows r o y (t .series) (x .item) (x .rest) name))
         where
@@ -314,7 +313,7 @@ module _ (doc : List ℕ) (room : Room) (kind : ℕ) (known : Known kind) where
       → Runs doc room kind rows (Ends doc kind out) (placedSigns xs) r o y t → readItems doc room xs (stateOf kind r o y) t ≡ out)
       (may : AllAllowed (x ∷ xs)) where
     module _ (k₀ r : ℕ) (o : Bool) (y : Tally) (t : Tables) (low : Low (suc (length xs)) y) where
-      tag-back : (tag : Tag) (name : ℕ) (empty : Bool) → saidBy tag (x .rest) ≡ saidOf x
+      tag-back : (tag : Tag) (name : ℕ) (empty : Bool) → saidOfTag tag (x .rest) ≡ saidOf x
           → step (stateOf k₀ r o y) (x .item) (x .rest) room ≡ started (stateOf k₀ r o y) kind rows name tag (x .rest) empty room
           → (q : ℕ) → Went doc room kind rows r o y t x name empty q
           → Runs doc room kind rows (Ends doc kind out) (placedSigns xs) q (not empty) (after rows q x y) (tablesWith kind rows q x (after rows q x y) t)
@@ -368,7 +367,7 @@ module _ (doc : List ℕ) (room : Room) (kind : ℕ) (known : Known kind) where
           let k = on-row (endOf rows r o name) (Closing doc room kind rows (Ends doc kind out) (placedSigns xs) y t) runs in
           let q = k .0 in
           read-next doc room x xs (stateOf kind r o y) t (stateOf kind q false y) Nothing
-          (step-by doc room x xs (stateOf kind r o y) t (ended (stateOf kind r o y) rows name)
+          (step-by doc room x xs (stateOf kind r o y) t (afterEnd (stateOf kind r o y) rows name)
           (step-in kind known r o y (x .item) (x .rest) room ∙ moved-end (stateOf kind r o y) kind rows x room n m i)
           ∙ went-ends doc kind rows r o y (t .series) (x .item) (x .rest) name q (k .1) (k .2 .0))
           ∙ ap (λ (m : Tables). readItems doc room xs (stateOf kind q false y) m) (tables-still x (stateOf kind q false y) t)
@@ -443,13 +442,13 @@ module _ (doc : List ℕ) (room : Room) where
         (λ z. omega (arith, z)) ok
 
     unended : (n m : ℕ) → x .item ≡ End n m → ⊥
-    unfolding ended endedAt stateOf isKind
+    unfolding afterEnd afterEndAt stateOf isKind
     unended n m i =
         stops doc room x xs blank t 3
         (step-refused doc room x xs blank t 3
         (step-told blank 0 (x .item) (x .rest) room (told-end nothing x n m i)
         ∙ moved-end blank 0 (rowsOf 0) x room n m i
-        ∙ ap (λ (d : Due). endedAt blank (rowsOf 0) d) (none-ends 0 refl 0 true (elementIn 2 n (x .rest)))))
+        ∙ ap (λ (d : Due). afterEndAt blank (rowsOf 0) d) (none-ends 0 refl 0 true (elementIn 2 n (x .rest)))))
         (λ z. omega (arith, z)) ok
 
     begin-start : (tag : Tag) → x .item ≡ Start tag → Begins (x ∷ xs) t

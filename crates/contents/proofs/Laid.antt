@@ -1,6 +1,6 @@
--- What is known of the rows of each kind. They lie alike: the root is row 1, a series row 12, its Period row p, and then TimeInterval, Resolution,
--- Interval, Pos and Qty. Assumes nothing.
-use Prim.Native.Nat.{ℕ, zero, suc, _+_, _≤_, _<_}
+-- What is known of the rows of each kind. They lie alike: the root is row 1, then come the values in it, a series, the values in that, its Period in row p,
+-- and then TimeInterval, Resolution, Interval, Pos and Qty. Which row a series and its identification is, their roles tell. Assumes nothing.
+use Prim.Native.Nat.{ℕ, zero, suc, _+_, _-_, _≤_, _<_}
 use mathlib.Core.Path.{_≡_, refl}
 use mathlib.Core.List.{List, [], _∷_}
 use mathlib.Core.Bool.{Bool, true, false, cond, not}
@@ -13,10 +13,10 @@ use Rattle.lists.proofs.Cases.{bool-cases, both-true, never, where-true}
 use Rattle.slices.specs.Same.{same}
 use Rattle.elements.specs.Names.{names, numberIn, elementNo}
 use Rattle.structure.specs.Rows.{nameOf, parentOf, required, repeated, endsIn, endsAtOnce}
-use Rattle.columns.specs.Columns.{formOf, collapsed, roleOf, periodRole}
+use Rattle.columns.specs.Columns.{formOf, collapsed, roleOf, periodForm, seriesRole, periodRole, seriesIdRole}
 use Rattle.guideline.specs.Kinds.{kindOne, kindTwo, isKind, kindOf}
 use Rattle.guideline.specs.Rows.{beschaffungsanforderung, kostenblatt, rowsOf}
-use Rattle.guideline.proofs.Each.{of-kind, rowWith}
+use Rattle.guideline.proofs.Each.{of-kind}
 use Rattle.states.specs.Attributes.{asksV}
 use Rattle.trees.specs.Trees.{wellMade}
 use Rattle.trees.proofs.Made.{well-made}
@@ -24,48 +24,59 @@ use Rattle.trees.proofs.Made.{well-made}
 abbrev pub Known : ℕ → Type 0
 Known kind = isKind kind ≡ true
 
--- the row that row q stands in
-abbrev pub home : ℕ → ℕ → ℕ
-home p q = cond (leb q 1) 0 (cond (leb q 12) 1 (cond (leb q p) 12 (cond (leb q (p + 3)) p (p + 3))))
+-- the row that row q stands in; r is the row of a series
+abbrev pub home : ℕ → ℕ → ℕ → ℕ
+home r p q = cond (leb q 1) 0 (cond (leb q r) 1 (cond (leb q p) r (cond (leb q (p + 3)) p (p + 3))))
 
 -- a table lies so, with its Period in row p
 pub record Layout (rows : List ℕ) (p : ℕ) : Type 0 where
+  -- how many values stand in the root before a series, and how many of them before TimePeriodCovered
+  pub heads : ℕ
+  pub covered : ℕ
+  -- the row of an identification
+  pub id-row : ℕ
   pub size : length rows ≡ p + 6
-  pub wide : 20 < p
+  pub wide : 2 + heads < p
+  pub covered-in : covered < heads
+  pub id-in : (2 + heads < id-row) × (id-row < p)
   pub well : wellMade rows ≡ true
-  pub stands : (q : ℕ) → 0 < q → q < length rows → parentOf (getD rows q 0) ≡ home p q
+  pub stands : (q : ℕ) → 0 < q → q < length rows → parentOf (getD rows q 0) ≡ home (2 + heads) p q
   -- what each row is to the reader, and no other row is that
   pub root : roleOf (getD rows 1 0) ≡ 1
-  pub series : roleOf (getD rows 12 0) ≡ 2
+  pub series : roleOf (getD rows (2 + heads) 0) ≡ 2
   pub period : roleOf (getD rows p 0) ≡ 3
   pub interval : roleOf (getD rows (p + 3) 0) ≡ 4
-  pub id : roleOf (getD rows 13 0) ≡ 8
+  pub id : roleOf (getD rows id-row 0) ≡ 8
   pub pos : roleOf (getD rows (p + 4) 0) ≡ 9
   pub qty : roleOf (getD rows (p + 5) 0) ≡ 10
   pub only-root : (q : ℕ) → q < length rows → roleOf (getD rows q 0) ≡ 1 → q ≡ 1
-  pub only-series : (q : ℕ) → q < length rows → roleOf (getD rows q 0) ≡ 2 → q ≡ 12
+  pub only-series : (q : ℕ) → q < length rows → roleOf (getD rows q 0) ≡ 2 → q ≡ 2 + heads
   pub only-period : (q : ℕ) → q < length rows → roleOf (getD rows q 0) ≡ 3 → q ≡ p
   pub only-interval : (q : ℕ) → q < length rows → roleOf (getD rows q 0) ≡ 4 → q ≡ p + 3
-  pub only-originals : (q : ℕ) → q < length rows → roleOf (getD rows q 0) ≡ 5 → (18 < q) × (q < p)
-  pub only-id : (q : ℕ) → q < length rows → roleOf (getD rows q 0) ≡ 8 → q ≡ 13
+  pub only-originals : (q : ℕ) → q < length rows → roleOf (getD rows q 0) ≡ 5 → (2 + heads < q) × (q < p)
+  pub only-id : (q : ℕ) → q < length rows → roleOf (getD rows q 0) ≡ 8 → q ≡ id-row
   pub only-pos : (q : ℕ) → q < length rows → roleOf (getD rows q 0) ≡ 9 → q ≡ p + 4
   pub only-qty : (q : ℕ) → q < length rows → roleOf (getD rows q 0) ≡ 10 → q ≡ p + 5
   -- what the tables show stands in a series
-  pub shown-in : (q : ℕ) → q < length rows → 6 ≤ roleOf (getD rows q 0) → 12 < q
+  pub shown-in : (q : ℕ) → q < length rows → 6 ≤ roleOf (getD rows q 0) → 2 + heads < q
   -- the values that are held against others
-  pub covered-form : (q : ℕ) → q < length rows → formOf (getD rows q 0) ≡ 6 → q ≡ 11
+  pub covered-form : (q : ℕ) → q < length rows → formOf (getD rows q 0) ≡ 6 → q ≡ 2 + covered
   pub time-form : (q : ℕ) → q < length rows → formOf (getD rows q 0) ≡ 7 → q ≡ p + 1
   pub only-pos-form : (q : ℕ) → q < length rows → formOf (getD rows q 0) ≡ 9 → q ≡ p + 4
   pub pos-form : formOf (getD rows (p + 4) 0) ≡ 9
-  pub covered-kept : collapsed (getD rows 11 0) ≡ false
+  pub covered-kept : collapsed (getD rows (2 + covered) 0) ≡ false
   pub pos-collapsed : collapsed (getD rows (p + 4) 0) ≡ true
   -- what has to come, and what comes once
   pub must-root : required (getD rows 1 0) ≡ true
   pub must-period : required (getD rows p 0) ≡ true
-  pub must-id : required (getD rows 13 0) ≡ true
+  pub must-id : required (getD rows id-row 0) ≡ true
   pub must-pos : required (getD rows (p + 4) 0) ≡ true
   pub must-qty : required (getD rows (p + 5) 0) ≡ true
-  pub once : (q : ℕ) → q < length rows → (q ≡ 12 → ⊥) → (q ≡ p + 3 → ⊥) → repeated (getD rows q 0) ≡ false
+  pub once : (q : ℕ) → q < length rows → (q ≡ 2 + heads → ⊥) → (q ≡ p + 3 → ⊥) → repeated (getD rows q 0) ≡ false
+
+-- the row of a series
+abbrev pub seriesAt : {rows : List ℕ} {p : ℕ} → Layout rows p → ℕ
+seriesAt L = 2 + L .heads
 
 -- what the tables show has a value
 abbrev pub Valued : List ℕ → Type 0
@@ -128,32 +139,37 @@ all-at [] h i = refl
 all-at (t ∷ ts) h zero = both-true t h .0
 all-at (t ∷ ts) h (suc i) = all-at ts (both-true t h .1) i
 
-abbrev tests : ℕ → ℕ → List Bool
-tests kind p =
+-- the first row with n in a column
+abbrev rowBy : (ℕ → ℕ) → ℕ → List ℕ → ℕ
+rowBy column n [] = 0
+rowBy column n (w ∷ ws) = cond (eqb (column w) n) 0 (suc (rowBy column n ws))
+
+abbrev tests : ℕ → ℕ → ℕ → ℕ → ℕ → List Bool
+tests kind p d c i =
     let rows = rowsOf kind in
-    eqb (length rows) (p + 6) ∷ ltb 20 p ∷ wherever rows (λ q. ltb 0 q) (λ q. eqb (parentOf (getD rows q 0)) (home p q))
-    ∷ soleTest rows roleOf 1 1 ∷ soleTest rows roleOf 2 12 ∷ soleTest rows roleOf 3 p ∷ soleTest rows roleOf 4 (p + 3)
-    ∷ wherever rows (λ q. eqb (roleOf (getD rows q 0)) 5) (λ q. cond (ltb 18 q) (ltb q p) false)
-    ∷ wherever rows (λ q. leb 6 (roleOf (getD rows q 0))) (λ q. ltb 12 q)
-    ∷ soleTest rows roleOf 8 13 ∷ soleTest rows roleOf 9 (p + 4) ∷ soleTest rows roleOf 10 (p + 5)
-    ∷ soleTest rows formOf 6 11 ∷ soleTest rows formOf 7 (p + 1) ∷ soleTest rows formOf 9 (p + 4)
-    ∷ not (collapsed (getD rows 11 0)) ∷ collapsed (getD rows (p + 4) 0)
-    ∷ required (getD rows 1 0) ∷ required (getD rows p 0) ∷ required (getD rows 13 0)
+    eqb (length rows) (p + 6) ∷ ltb (2 + d) p ∷ wherever rows (λ q. ltb 0 q) (λ q. eqb (parentOf (getD rows q 0)) (home (2 + d) p q))
+    ∷ soleTest rows roleOf 1 1 ∷ soleTest rows roleOf 2 (2 + d) ∷ soleTest rows roleOf 3 p ∷ soleTest rows roleOf 4 (p + 3)
+    ∷ wherever rows (λ q. eqb (roleOf (getD rows q 0)) 5) (λ q. cond (ltb (2 + d) q) (ltb q p) false)
+    ∷ wherever rows (λ q. leb 6 (roleOf (getD rows q 0))) (λ q. ltb (2 + d) q)
+    ∷ soleTest rows roleOf 8 i ∷ soleTest rows roleOf 9 (p + 4) ∷ soleTest rows roleOf 10 (p + 5)
+    ∷ soleTest rows formOf 6 (2 + c) ∷ soleTest rows formOf 7 (p + 1) ∷ soleTest rows formOf 9 (p + 4)
+    ∷ not (collapsed (getD rows (2 + c) 0)) ∷ collapsed (getD rows (p + 4) 0)
+    ∷ required (getD rows 1 0) ∷ required (getD rows p 0) ∷ required (getD rows i 0)
     ∷ required (getD rows (p + 4) 0) ∷ required (getD rows (p + 5) 0)
-    ∷ wherever rows (λ q. repeated (getD rows q 0)) (λ q. cond (eqb q 12) true (eqb q (p + 3)))
+    ∷ wherever rows (λ q. repeated (getD rows q 0)) (λ q. cond (eqb q (2 + d)) true (eqb q (p + 3)))
     ∷ wherever rows (λ q. leb 6 (roleOf (getD rows q 0))) (λ q. asksV (getD rows q 0))
-    ∷ not (endsAtOnce rows p) ∷ eqb (kindOf (nameOf (getD rows 1 0))) kind ∷ []
+    ∷ not (endsAtOnce rows p) ∷ eqb (kindOf (nameOf (getD rows 1 0))) kind ∷ ltb c d ∷ ltb (2 + d) i ∷ ltb i p ∷ []
 
 -- the tests by their places in that list
-tested : (kind p : ℕ) → wellMade (rowsOf kind) ≡ true → all (tests kind p) ≡ true → Laid kind
-tested kind p well h =
+tested : (kind p d c i : ℕ) → wellMade (rowsOf kind) ≡ true → all (tests kind p d c i) ≡ true → Laid kind
+tested kind p d c i well h =
     let rows = rowsOf kind in
-    let t : (i : ℕ) → getD (tests kind p) i true ≡ true = all-at (tests kind p) h in
+    let t : (n : ℕ) → getD (tests kind p d c i) n true ≡ true = all-at (tests kind p d c i) h in
     let root = sole rows roleOf 1 1 (t 3) in
-    let series = sole rows roleOf 2 12 (t 4) in
+    let series = sole rows roleOf 2 (2 + d) (t 4) in
     let period = sole rows roleOf 3 p (t 5) in
     let interval = sole rows roleOf 4 (p + 3) (t 6) in
-    let id = sole rows roleOf 8 13 (t 9) in
+    let id = sole rows roleOf 8 i (t 9) in
     let pos = sole rows roleOf 9 (p + 4) (t 10) in
     let qty = sole rows roleOf 10 (p + 5) (t 11) in
     let pos-form = sole rows formOf 9 (p + 4) (t 14) in
@@ -163,11 +179,16 @@ tested kind p well h =
       period = p;
       layout =
           record {
+            heads = d;
+            covered = c;
+            id-row = i;
             size = eqb-true (length rows) (p + 6) (t 0);
-            wide = ltb-true 20 p (t 1);
+            wide = ltb-true (2 + d) p (t 1);
+            covered-in = ltb-true c d (t 26);
+            id-in = (ltb-true (2 + d) i (t 27), ltb-true i p (t 28));
             well = well;
-            stands = λ q a l. eqb-true (parentOf (getD rows q 0)) (home p q)
-                (at-row rows (λ q. ltb 0 q) (λ q. eqb (parentOf (getD rows q 0)) (home p q)) (t 2) q l (lt-ltb 0 q a));
+            stands = λ q a l. eqb-true (parentOf (getD rows q 0)) (home (2 + d) p q)
+                (at-row rows (λ q. ltb 0 q) (λ q. eqb (parentOf (getD rows q 0)) (home (2 + d) p q)) (t 2) q l (lt-ltb 0 q a));
             root = root .0;
             series = series .0;
             period = period .0;
@@ -179,33 +200,38 @@ tested kind p well h =
             only-series = series .1;
             only-period = period .1;
             only-interval = interval .1;
-            only-originals = between rows 5 18 p (t 7);
+            only-originals = between rows 5 (2 + d) p (t 7);
             only-id = id .1;
             only-pos = pos .1;
             only-qty = qty .1;
-            shown-in = λ q l e. ltb-true 12 q (of-shown (λ q. ltb 12 q) (t 8) q l e);
-            covered-form = sole rows formOf 6 11 (t 12) .1;
+            shown-in = λ q l e. ltb-true (2 + d) q (of-shown (λ q. ltb (2 + d) q) (t 8) q l e);
+            covered-form = sole rows formOf 6 (2 + c) (t 12) .1;
             time-form = sole rows formOf 7 (p + 1) (t 13) .1;
             only-pos-form = pos-form .1;
             pos-form = pos-form .0;
-            covered-kept = not-true (collapsed (getD rows 11 0)) (t 15);
+            covered-kept = not-true (collapsed (getD rows (2 + c) 0)) (t 15);
             pos-collapsed = t 16;
             must-root = t 17;
             must-period = t 18;
             must-id = t 19;
             must-pos = t 20;
             must-qty = t 21;
-            once = single rows 12 (p + 3) (t 22);
+            once = single rows (2 + d) (p + 3) (t 22);
           };
       valued = λ q l e. of-shown (λ q. asksV (getD rows q 0)) (t 23) q l e;
       filled = not-true (endsAtOnce rows p) (t 24);
       told = eqb-true (kindOf (nameOf (getD rows 1 0))) kind (t 25);
     }
 
--- the Period of each kind stands in the row that has its role
-abbrev periodIn : ℕ → ℕ
-periodIn kind = rowWith periodRole (rowsOf kind)
+-- where the rows of a kind with these roles, and TimePeriodCovered, stand
+abbrev rowIn : ℕ → ℕ → ℕ
+rowIn kind role = rowBy roleOf role (rowsOf kind)
+
+abbrev coveredIn : ℕ → ℕ
+coveredIn kind = rowBy formOf periodForm (rowsOf kind)
 
 pub laid : (kind : ℕ) → Known kind → Laid kind
 unfolding rowsOf beschaffungsanforderung kostenblatt elementNo numberIn names same parentOf required repeated roleOf formOf collapsed asksV nameOf kindOf kindOne kindTwo endsAtOnce endsIn
-laid kind known = tested kind (periodIn kind) (well-made kind known) (of-kind (λ k. all (tests k (periodIn k))) refl kind known)
+laid kind known =
+    tested kind (rowIn kind periodRole) (rowIn kind seriesRole - 2) (coveredIn kind - 2) (rowIn kind seriesIdRole) (well-made kind known)
+    (of-kind (λ k. all (tests k (rowIn k periodRole) (rowIn k seriesRole - 2) (coveredIn k - 2) (rowIn k seriesIdRole))) refl kind known)

@@ -6,9 +6,9 @@ use mathlib.Core.List.{List, [], _++_, map, append-nil}
 use mathlib.Core.Logic.{_⊎_, inl, inr, ⊎-elim, _↔_}
 use mathlib.Core.Bool.{Bool, true, false, cond, _&&_}
 use native.Mathlib.Omega.{arith}
-use lib.Dec.{eqb, leb}
+use lib.Dec.{eqb}
 use lib.ListN.{length, getD}
-use borrow.Author.Tests.{eq-eqb, ne-eqb, le-leb, leb-true}
+use borrow.Author.Tests.{eq-eqb, ne-eqb}
 use Rattle.lists.proofs.Cases.{eqb-cases, never}
 use Rattle.rules.specs.Rules.{judge}
 use Rattle.rules.specs.declared.Held.{Held}
@@ -18,10 +18,10 @@ use Rattle.states.specs.Moves.{countRefusal}
 use Rattle.states.specs.declared.Room.{Room}
 use Rattle.trees.specs.Trees.{Trees, none, element}
 use Rattle.trees.proofs.Made.{both}
-use Rattle.contents.specs.Said.{Said}
+use Rattle.contents.specs.Said.{TagSaid}
 use Rattle.contents.specs.Legal.{hasRole, those, Period, quartersOf, positionOf, valueFits, elementFits, Each, inTurn, countFits, SeriesFits}
 use Rattle.contents.proofs.Tests.{chosen, other, parts-and}
-use Rattle.contents.proofs.Laid.{Layout}
+use Rattle.contents.proofs.Laid.{Layout, seriesAt}
 use Rattle.contents.proofs.Elements.{Within, within-more, beside, no-role, those-beside, each-beside, each-parts, last-those}
 use Rattle.contents.proofs.Shape.{SeriesShape}
 use Rattle.contents.proofs.Walk.{Tally, opened, walked, quartersIn, Passes}
@@ -35,7 +35,7 @@ unfolding judge
 judge-any form h g cs a b k = rw (ne-eqb form 7 a, ne-eqb form 9 b, k) refl
 
 -- but for TimeInterval it does not matter
-pub fits-any : (kind : ℕ) (p r : Period) (w : ℕ) (s : Said) → (formOf w ≡ 7 → ⊥) → elementFits kind p w s ≡ elementFits kind r w s
+pub fits-any : (kind : ℕ) (p r : Period) (w : ℕ) (s : TagSaid) → (formOf w ≡ 7 → ⊥) → elementFits kind p w s ≡ elementFits kind r w s
 unfolding elementFits valueFits
 fits-any kind p r w s a =
     ⊎-elim
@@ -50,14 +50,14 @@ fits-any kind p r w s a =
 -- ---- elements side by side
 
 module _ (kind : ℕ) (room : Room) (rows : List ℕ) where
-  pub passes-parts : (c d : Trees Said) (y : Tally) → Passes kind room rows (beside c d) y → Passes kind room rows c y × Passes kind room rows d (walked rows c y)
+  pub passes-parts : (c d : Trees TagSaid) (y : Tally) → Passes kind room rows (beside c d) y → Passes kind room rows c y × Passes kind room rows d (walked rows c y)
   unfolding Passes beside walked
   passes-parts none d y t = (tt, t)
   passes-parts (element q s inner after) d y t =
       let h = passes-parts after d (walked rows inner (opened (getD rows q 0) s y)) (t .3) in
       ((t .0, t .1, t .2, h .0), h .1)
 
-  pub passes-beside : (c d : Trees Said) (y : Tally) → Passes kind room rows c y → Passes kind room rows d (walked rows c y) → Passes kind room rows (beside c d) y
+  pub passes-beside : (c d : Trees TagSaid) (y : Tally) → Passes kind room rows c y → Passes kind room rows d (walked rows c y) → Passes kind room rows (beside c d) y
   unfolding Passes beside walked
   passes-beside none d y a b = b
   passes-beside (element q s inner after) d y a b =
@@ -99,7 +99,7 @@ module _ (kind : ℕ) (room : Room) (rows : List ℕ) (p : ℕ) (L : Layout rows
 
   -- ---- what is known of the rows at each place
 
-  head-plain : (q : ℕ) → (q ≡ 12 → ⊥) → q < p → Plain rows q
+  head-plain : (q : ℕ) → (q ≡ seriesAt L → ⊥) → q < p → Plain rows q
   head-plain q f l =
       record {
         not-series = λ e. f (L .only-series q (short q l) e);
@@ -121,30 +121,30 @@ module _ (kind : ℕ) (room : Room) (rows : List ℕ) (p : ℕ) (L : Layout rows
   abbrev pub Now : Tally → Type 0
   Now y = y .period ≡ p₀
 
-  pub now-kept : (q : ℕ) (s : Said) (y : Tally) → q < length rows → (q ≡ 11 → ⊥) → Now y → Now (opened (getD rows q 0) s y)
+  pub now-kept : (q : ℕ) (s : TagSaid) (y : Tally) → q < length rows → (q ≡ 2 + L .covered → ⊥) → Now y → Now (opened (getD rows q 0) s y)
   now-kept q s y l f i = other _ (y .period) (ne-eqb (formOf (getD rows q 0)) 6 (λ e. f (L .covered-form q l e))) ∙ i
 
-  pub now-fits : (q : ℕ) (s : Said) (y : Tally) → Now y → elementFits kind (y .period) (getD rows q 0) s ≡ elementFits kind p₀ (getD rows q 0) s
+  pub now-fits : (q : ℕ) (s : TagSaid) (y : Tally) → Now y → elementFits kind (y .period) (getD rows q 0) s ≡ elementFits kind p₀ (getD rows q 0) s
   now-fits q s y i = ap (λ r. elementFits kind r (getD rows q 0) s) i
 
   abbrev InHead : ℕ → Type 0
-  InHead q = (12 < q) × (q < p)
+  InHead q = (seriesAt L < q) × (q < p)
 
   abbrev InPeriod : ℕ → Type 0
   InPeriod q = (p < q) × (q < length rows)
 
   abbrev InRoot : ℕ → Type 0
-  InRoot q = (1 < q) × (q < 12)
+  InRoot q = (1 < q) × (q < seriesAt L)
 
   -- the values of a series
-  head-segment : (c : Trees Said) → Within InHead c → (y : Tally) → Now y → Holds kind room y → Passes kind room rows c y ↔ Segment kind room rows p₀ c y
+  head-segment : (c : Trees TagSaid) → Within InHead c → (y : Tally) → Now y → Holds kind room y → Passes kind room rows c y ↔ Segment kind room rows p₀ c y
   head-segment =
       passes-segment kind room rows p₀ InHead Now (λ q r. head-plain q (λ e. omega (arith, e, r .0)) (r .1))
       (λ q s y r i. now-kept q s y (short q (r .1)) (λ e. omega (arith, e, r .0)) i)
       (λ q s y r i. now-fits q s y i) (λ q y r i e. i)
 
   -- what stands in a Period
-  deep-segment : (c : Trees Said) → Within InPeriod c → (y : Tally) → Now y → Holds kind room y → Passes kind room rows c y ↔ Segment kind room rows p₀ c y
+  deep-segment : (c : Trees TagSaid) → Within InPeriod c → (y : Tally) → Now y → Holds kind room y → Passes kind room rows c y ↔ Segment kind room rows p₀ c y
   deep-segment =
       let w = L .wide in
       passes-segment kind room rows p₀ InPeriod Now deep-plain
@@ -155,7 +155,7 @@ module _ (kind : ℕ) (room : Room) (rows : List ℕ) (p : ℕ) (L : Layout rows
   root-plain : (q : ℕ) → InRoot q → Plain rows q
   root-plain q r = let w = L .wide in head-plain q (λ e. omega (arith, e, r .1)) (omega (arith, r .1, w))
 
-  root-any : (q : ℕ) (s : Said) (y : Tally) → InRoot q → Unit {0} → elementFits kind (y .period) (getD rows q 0) s ≡ elementFits kind p₀ (getD rows q 0) s
+  root-any : (q : ℕ) (s : TagSaid) (y : Tally) → InRoot q → Unit {0} → elementFits kind (y .period) (getD rows q 0) s ≡ elementFits kind p₀ (getD rows q 0) s
   root-any q s y r i =
       let w = L .wide in
       fits-any kind (y .period) p₀ (getD rows q 0) s
@@ -167,13 +167,13 @@ module _ (kind : ℕ) (room : Room) (rows : List ℕ) (p : ℕ) (L : Layout rows
       let z = L .only-pos-form q (short q (omega (arith, r .1, w))) e in
       absurd (omega (arith, z, r .1, w))
 
-  pub root-segment : (c : Trees Said) → Within InRoot c → (y : Tally) → Holds kind room y → Passes kind room rows c y ↔ Segment kind room rows p₀ c y
+  pub root-segment : (c : Trees TagSaid) → Within InRoot c → (y : Tally) → Holds kind room y → Passes kind room rows c y ↔ Segment kind room rows p₀ c y
   root-segment c h y a = passes-segment kind room rows p₀ InRoot (λ y. Unit {0}) root-plain (λ q s y r i. tt) root-any root-now c h y tt a
 
   -- ---- a series
 
   -- what stands in it
-  pub record SeriesRules (c : Trees Said) (y : Tally) : Type 0 where
+  pub record SeriesRules (c : Trees TagSaid) (y : Tally) : Type 0 where
     pub each : Each (elementFits kind p₀) rows c
     pub fits : SeriesFits kind quarters rows c
     pub fit : y .intervals + length (those (hasRole 4) rows c) ≤ room .intervals
@@ -185,14 +185,14 @@ module _ (kind : ℕ) (room : Room) (rows : List ℕ) (p : ℕ) (L : Layout rows
     pub first : y .first ≡ y .intervals
     pub originals : y .originals ≡ 0
 
-  module _ (c : Trees Said) (sh : SeriesShape rows p L c) (y : Tally) (f : Fresh y) where
-    abbrev head : Trees Said
+  module _ (c : Trees TagSaid) (sh : SeriesShape rows p L c) (y : Tally) (f : Fresh y) where
+    abbrev head : Trees TagSaid
     head = sh .head
 
-    abbrev inner : Trees Said
+    abbrev inner : Trees TagSaid
     inner = sh .inner
 
-    abbrev period : Trees Said
+    abbrev period : Trees TagSaid
     period = element p (sh .tag) inner none
 
     abbrev yh : Tally
@@ -204,10 +204,10 @@ module _ (kind : ℕ) (room : Room) (rows : List ℕ) (p : ℕ) (L : Layout rows
     inside : p < length rows
     inside = let s = L .size in omega (arith, s)
 
-    head-role : (n : ℕ) → ((q : ℕ) → q < length rows → roleOf (getD rows q 0) ≡ n → (q ≤ 12) ⊎ (p ≤ q)) → Within (λ q. roleOf (getD rows q 0) ≡ n → ⊥) head
+    head-role : (n : ℕ) → ((q : ℕ) → q < length rows → roleOf (getD rows q 0) ≡ n → (q ≤ seriesAt L) ⊎ (p ≤ q)) → Within (λ q. roleOf (getD rows q 0) ≡ n → ⊥) head
     head-role n g =
         within-more
-        (λ q r e. ⊎-elim (λ (z : q ≤ 12). omega (arith, z, r .0)) (λ (z : p ≤ q). omega (arith, z, r .1)) (g q (short q (r .1)) e))
+        (λ q r e. ⊎-elim (λ (z : q ≤ seriesAt L). omega (arith, z, r .0)) (λ (z : p ≤ q). omega (arith, z, r .1)) (g q (short q (r .1)) e))
         head (sh .heads)
 
     deep-role : (n : ℕ) → ((q : ℕ) → q < length rows → roleOf (getD rows q 0) ≡ n → q ≤ p) → Within (λ q. roleOf (getD rows q 0) ≡ n → ⊥) inner

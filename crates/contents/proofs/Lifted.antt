@@ -10,12 +10,12 @@ use Rattle.structure.specs.declared.Due.the-variants.{Row, NotDue}
 use Rattle.guideline.specs.Rows.{rowsOf}
 use Rattle.items.specs.Item.{item, itemEnd}
 use Rattle.items.specs.declared.Item.{Item}
-use Rattle.items.specs.declared.Item.the-variants.{Start, Empty, End, Text, Comment, Refused}
+use Rattle.items.specs.declared.Item.the-variants.{Start, Empty, End, Text, Comment, Unreadable}
 use Rattle.reader.specs.Items.{Placed, itemsAfter, itemsFrom}
 use Rattle.trees.specs.Trees.{Sign, Opens, Closes, Trees, none, element, rowsTaken, spell, EachConforms, Conforms}
 use Rattle.trees.specs.Cursor.{onRow, follows}
 use Rattle.trees.proofs.Theorems.{complete, sound, one-tree}
-use Rattle.contents.specs.Said.{Said}
+use Rattle.contents.specs.Said.{TagSaid}
 use Rattle.contents.specs.Spelled.{signsBy, signsOf}
 use Rattle.contents.proofs.Lists.{drop-next}
 use Rattle.contents.proofs.Laid.{laid, Known}
@@ -23,7 +23,7 @@ use Rattle.contents.proofs.Fill.{saidByItem, saidOf, placedBy, placedSi
 
 -- ---- signs with other labels
 
-unfoldable pub relabelled : Sign Placed → Sign Said
+unfoldable pub relabelled : Sign Placed → Sign TagSaid
 relabelled (Opens x name) = Opens (saidOf x) name
 relabelled (Closes name) = Closes name
 
@@ -47,14 +47,14 @@ by-said x (Empty t) e = rw e refl
 by-said x (End n f) e = refl
 by-said x (Text w f) e = refl
 by-said x (Comment f) e = refl
-by-said x (Refused p) e = refl
+by-said x (Unreadable p) e = refl
 
 pub signs-said : (xs : List Placed) → signsOf xs ≡ map relabelled (placedSigns xs)
 unfolding signsOf placedSigns
 signs-said [] = refl
 signs-said (x ∷ xs) =
-    ap (λ (l : List (Sign Said)). l ++ signsOf xs) (by-said x (x .item) refl)
-    ∙ ap (λ (l : List (Sign Said)). map relabelled (placedBy x (x .item)) ++ l) (signs-said xs)
+    ap (λ (l : List (Sign TagSaid)). l ++ signsOf xs) (by-said x (x .item) refl)
+    ∙ ap (λ (l : List (Sign TagSaid)). map relabelled (placedBy x (x .item)) ++ l) (signs-said xs)
     ∙ sym (map-append relabelled (placedBy x (x .item)) (placedSigns xs))
 
 pub spell-said : (rows : List ℕ) (kids : Trees Placed) → spell rows (saying kids) ≡ map relabelled (spell rows kids)
@@ -62,9 +62,9 @@ unfolding spell saying relabelled
 spell-said rows none = refl
 spell-said rows (element q x inner after) =
     let name = nameOf (getD rows q 0) in
-    ap (λ (l : List (Sign Said)). Opens (saidOf x) name ∷ l)
-    (ap (λ (l : List (Sign Said)). l ++ (Closes name ∷ spell rows (saying after))) (spell-said rows inner)
-    ∙ ap (λ (l : List (Sign Said)). map relabelled (spell rows inner) ++ (Closes name ∷ l)) (spell-said rows after)
+    ap (λ (l : List (Sign TagSaid)). Opens (saidOf x) name ∷ l)
+    (ap (λ (l : List (Sign TagSaid)). l ++ (Closes name ∷ spell rows (saying after))) (spell-said rows inner)
+    ∙ ap (λ (l : List (Sign TagSaid)). map relabelled (spell rows inner) ++ (Closes name ∷ l)) (spell-said rows after)
     ∙ sym (map-append relabelled (spell rows inner) (Closes name ∷ spell rows after)))
 
 -- ---- to conform
@@ -119,7 +119,7 @@ labels-by doc x (Empty t) e h s l = (rw e refl, h, l)
 labels-by doc x (End n f) e h s l = l
 labels-by doc x (Text w f) e h s l = l
 labels-by doc x (Comment f) e h s l = l
-labels-by doc x (Refused p) e h s l = l
+labels-by doc x (Unreadable p) e h s l = l
 
 signs-labels : (doc : List ℕ) (xs : List Placed) → Standing doc xs → Labels doc (placedSigns xs)
 unfolding placedSigns
@@ -138,7 +138,7 @@ spelled-stands doc n rows kids e = spell-stands doc rows kids (rw e at (signs-la
 
 -- ---- a content over what the tags say, and over the items
 
-pub lift : (doc : List ℕ) (n kind : ℕ) (c : Trees Said) → Known kind → signsOf (itemsFrom doc n) ≡ spell (rowsOf kind) c → Conforms (rowsOf kind) 0 c
+pub lift : (doc : List ℕ) (n kind : ℕ) (c : Trees TagSaid) → Known kind → signsOf (itemsFrom doc n) ≡ spell (rowsOf kind) c → Conforms (rowsOf kind) 0 c
     → (kids : Trees Placed) × (saying kids ≡ c) × (placedSigns (itemsFrom doc n) ≡ spell (rowsOf kind) kids) × Conforms (rowsOf kind) 0 kids × Stands doc kids
 lift doc n kind c known e conforms =
     let rows = rowsOf kind in
@@ -146,14 +146,14 @@ lift doc n kind c known e conforms =
     let w = laid kind known .layout .well in
     let f : follows rows 0 true (placedSigns xs) ≡ true =
     sym (follows-said rows (placedSigns xs) 0 true)
-    ∙ ap (λ (s : List (Sign Said)). follows rows 0 true s) (sym (signs-said xs) ∙ e)
-    ∙ complete Said rows w c conforms in
+    ∙ ap (λ (s : List (Sign TagSaid)). follows rows 0 true s) (sym (signs-said xs) ∙ e)
+    ∙ complete TagSaid rows w c conforms in
     let k = sound Placed rows w (placedSigns xs) f in
     let kids = k .0 in
     let same : spell rows (saying kids) ≡ spell rows c =
     spell-said rows kids ∙ ap (map relabelled) (sym (k .2)) ∙ sym (signs-said xs) ∙ e in (
       kids,
-      one-tree Said rows w (saying kids) c (conforms-said rows 0 kids (k .1)) conforms same,
+      one-tree TagSaid rows w (saying kids) c (conforms-said rows 0 kids (k .1)) conforms same,
       k .2,
       k .1,
       spelled-stands doc n rows kids (k .2),

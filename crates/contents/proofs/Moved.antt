@@ -9,6 +9,7 @@ use lib.Dec.{eqb}
 use lib.ListN.{getD}
 use borrow.Author.Tests.{ne-eqb}
 use Rattle.lists.proofs.Cases.{bool-cases, eqb-cases}
+use Rattle.items.specs.Parts.{spanOf}
 use Rattle.items.specs.declared.Tag.{Tag}
 use Rattle.items.specs.declared.Item.{Item}
 use Rattle.items.specs.declared.Item.the-variants.{Text}
@@ -18,7 +19,7 @@ use Rattle.structure.specs.declared.Due.the-variants.{Row, NotDue}
 use Rattle.columns.specs.Columns.{roleOf}
 use Rattle.guideline.specs.Rows.{rowsOf}
 use Rattle.guideline.proofs.Each.{kind-some}
-use Rattle.states.specs.Moves.{cutShort, startJudged, entryOf, startedBy, startedAt, started, endRefusal, endedAt, ended, moved, kindTold, step}
+use Rattle.states.specs.Moves.{cutShort, startJudged, entryOf, startedBy, startedAt, started, endRefusal, afterEndAt, afterEnd, moved, kindTold, step}
 use Rattle.states.specs.declared.State.{State}
 use Rattle.states.specs.declared.Room.{Room}
 use Rattle.states.specs.declared.Entry.{Entry}
@@ -26,10 +27,10 @@ use Rattle.states.specs.declared.Entry.the-variants.{Nothing, Series, Identific
 use Rattle.states.specs.declared.Step.{Step}
 use Rattle.states.specs.declared.Step.the-variants.{Next, Refused}
 use Rattle.reader.specs.Items.{Placed}
-use Rattle.reader.specs.Rows.{broughtBy, spanOf, fieldAfter, seriesWith, positionsWith, amountsWith, seriesAfter, positionsAfter, amountsAfter, usedWith, usedBefore}
+use Rattle.reader.specs.Rows.{broughtBy, fieldAfter, seriesWith, positionsWith, amountsWith, seriesAfter, positionsAfter, amountsAfter, usedWith, usedBefore}
 use Rattle.reader.specs.Reading.{Tables, withoutUsed, tablesAfter}
-use Rattle.contents.specs.Said.{Said}
-use Rattle.contents.specs.Spelled.{saidBy}
+use Rattle.contents.specs.Said.{TagSaid}
+use Rattle.contents.specs.Spelled.{saidOfTag}
 use Rattle.contents.specs.Legal.{positionOf}
 use Rattle.contents.proofs.Laid.{Layout, Known}
 use Rattle.contents.proofs.Walk.{Tally, opened, Taken, Ended}
@@ -145,7 +146,7 @@ Closed kind rows r o y name (Refused n) = n ≡ 0 → ⊥
 
 module _ (doc : List ℕ) (room : Room) (kind : ℕ) (rows : List ℕ) (p : ℕ) (L : Layout rows p) where
   module _ (k₀ r : ℕ) (o : Bool) (y : Tally) (t : Tables) (x : Placed) (tag : Tag) (name : ℕ) (empty : Bool)
-      (says : saidBy tag (x .rest) ≡ saidOf x) (n : ℕ) (low : Low (suc n) y) where
+      (says : saidOfTag tag (x .rest) ≡ saidOf x) (n : ℕ) (low : Low (suc n) y) where
     module _ (q : ℕ) (d : startOf rows r o name ≡ Row q) where
       -- the start tag, judged good, moves the state to that of the tally after it
       went : (a : Taken kind room (getD rows q 0) (saidOf x) y) → cutShort empty rows q ≡ false
@@ -154,15 +155,15 @@ module _ (doc : List ℕ) (room : Room) (kind : ℕ) (rows : List ℕ) (p : ℕ)
       unfolding startedBy
       went a b =
           let g = row-within rows p L r o name q d in
-          let a′ : Taken kind room (getD rows q 0) (saidBy tag (x .rest)) y = rw says a in
+          let a′ : Taken kind room (getD rows q 0) (saidOfTag tag (x .rest)) y = rw says a in
           let j = taken-judged kind rows p L room k₀ r o y q g tag (x .rest) empty a′ b .0 in
           let u = counts in
           let e =
           entered-opened kind rows p L room k₀ r o y q g tag (x .rest) empty a′ b (u .0) (u .1) (u .2) (not empty)
-          ∙ ap (λ (m : Said). stateOf kind q (not empty) (opened (getD rows q 0) m y)) says in
+          ∙ ap (λ (m : TagSaid). stateOf kind q (not empty) (opened (getD rows q 0) m y)) says in
           let h =
           entry-same kind rows p L room k₀ r o y q g tag (x .rest) empty a′ b
-          ∙ ap (λ (m : Said). entryOf (roleOf (getD rows q 0)) (positionOf m)) says in
+          ∙ ap (λ (m : TagSaid). entryOf (roleOf (getD rows q 0)) (positionOf m)) says in
           rw (e, h, j)
         where
           counts : (y .series < 4294967295) × (y .intervals < 4294967295) × (y .originals < 4294967295)
@@ -185,7 +186,7 @@ module _ (doc : List ℕ) (room : Room) (kind : ℕ) (rows : List ℕ) (p : ℕ)
           ⊎-elim
           (λ (h : (j .number ≡ 0) × (eqb (j .number) 0 ≡ true)).
           let k = judged-taken kind rows p L room k₀ r o y q g tag (x .rest) empty (h .0) in
-          let a : Taken kind room (getD rows q 0) (saidOf x) y = subst (λ (m : Said). Taken kind room (getD rows q 0) m y) says (k .0) in
+          let a : Taken kind room (getD rows q 0) (saidOf x) y = subst (λ (m : TagSaid). Taken kind room (getD rows q 0) m y) says (k .0) in
           let e = went a (k .1) in
           ⊎-elim
           (λ u. subst goes (sym (ap whole e ∙ is-used doc (t .series) (x .item) (x .rest) st (bringing rows q x) u)) (λ z. omega (arith, z)))
@@ -219,11 +220,11 @@ module _ (doc : List ℕ) (room : Room) (kind : ℕ) (rows : List ℕ) (p : ℕ)
 -- ---- an end tag
 
 module _ (doc : List ℕ) (kind : ℕ) (rows : List ℕ) (r : ℕ) (o : Bool) (y : Tally) (ts : List ℕ) (i : Item) (s : List ℕ) (name : ℕ) where
-  pub ended-goes : Closed kind rows r o y name (withoutUsed doc ts i s (ended (stateOf kind r o y) rows name))
-  unfolding ended endedAt withoutUsed usedBefore usedWith broughtBy stateOf
+  pub ended-goes : Closed kind rows r o y name (withoutUsed doc ts i s (afterEnd (stateOf kind r o y) rows name))
+  unfolding afterEnd afterEndAt withoutUsed usedBefore usedWith broughtBy stateOf
   ended-goes = by (endOf rows r o name) refl
     where
-      by : (d : Due) → endOf rows r o name ≡ d → Closed kind rows r o y name (withoutUsed doc ts i s (endedAt (stateOf kind r o y) rows d))
+      by : (d : Due) → endOf rows r o name ≡ d → Closed kind rows r o y name (withoutUsed doc ts i s (afterEndAt (stateOf kind r o y) rows d))
       by NotDue z = λ e. omega (arith, e)
       by (Row q) z =
           ⊎-elim
@@ -233,8 +234,8 @@ module _ (doc : List ℕ) (kind : ℕ) (rows : List ℕ) (r : ℕ) (o : Bool) (y
           (eqb-cases (endRefusal (stateOf kind r o y) rows q) 0)
 
   pub went-ends : (q : ℕ) → endOf rows r o name ≡ Row q → Ended kind (getD rows q 0) y
-      → withoutUsed doc ts i s (ended (stateOf kind r o y) rows name) ≡ Next (stateOf kind q false y) Nothing
-  unfolding ended endedAt withoutUsed usedBefore usedWith broughtBy stateOf
+      → withoutUsed doc ts i s (afterEnd (stateOf kind r o y) rows name) ≡ Next (stateOf kind q false y) Nothing
+  unfolding afterEnd afterEndAt withoutUsed usedBefore usedWith broughtBy stateOf
   went-ends q z h =
-      ap (λ (d : Due). withoutUsed doc ts i s (endedAt (stateOf kind r o y) rows d)) z
+      ap (λ (d : Due). withoutUsed doc ts i s (afterEndAt (stateOf kind r o y) rows d)) z
       ∙ rw (taken-ended kind rows r o y q h) (ap (λ (st : State). Next st Nothing) (closed-same kind rows r o y q))

@@ -10,8 +10,9 @@ use lib.Dec.{eqb}
 use lib.ListN.{length, getD, take, length-set}
 use lib.Seq.{getD-set-same, getD-set-other}
 use borrow.Author.Tests.{ne-eqb}
+use Rattle.items.specs.Parts.{spanOf}
 use Rattle.lists.proofs.Cases.{eqb-cases}
-use Rattle.tags.specs.declared.Span.{Span}
+use Rattle.slices.specs.declared.Span.{Span}
 use Rattle.structure.specs.Rows.{parentOf, required}
 use Rattle.columns.specs.Columns.{roleOf}
 use Rattle.states.specs.Moves.{entryOf}
@@ -20,13 +21,13 @@ use Rattle.reader.specs.Items.{Placed}
 use Rattle.series.specs.Row.{cellsOf, cellAt, withField}
 use Rattle.series.specs.declared.Field.the-variants.{FirstRow, Count}
 use Rattle.series.proofs.Rows.{view-as, view-low, view-none}
-use Rattle.reader.specs.Rows.{broughtBy, spanOf, fieldAfter, seriesWith, seriesAfter}
+use Rattle.reader.specs.Rows.{broughtBy, fieldAfter, seriesWith, seriesAfter}
 use Rattle.reader.specs.Reading.{Tables, tablesAfter}
 use Rattle.trees.specs.Trees.{Trees, none, element, rowsTaken, Stand, Fits, EachConforms}
-use Rattle.contents.specs.Said.{Said}
+use Rattle.contents.specs.Said.{TagSaid}
 use Rattle.contents.specs.Legal.{hasRole, those, inEach, positionOf}
 use Rattle.contents.specs.Shown.{sum, lastOf, saidFor, eachSeries, intervalCounts, RowShows}
-use Rattle.contents.proofs.Laid.{Layout, Valued}
+use Rattle.contents.proofs.Laid.{Layout, seriesAt, Valued}
 use Rattle.contents.proofs.Elements.{in-of, own, those-of, Within, none-in, none-there, within-more}
 use Rattle.contents.proofs.Shape.{in-series-row, series-in, under-root, leaf, elsewhere, comes-once}
 use Rattle.contents.proofs.Walk.{Tally, opened, walked}
@@ -37,7 +38,7 @@ use Rattle.contents.proofs.Roles.{by-entry}
 use Rattle.contents.proofs.Intervals.{puts}
 use Rattle.contents.proofs.Series.{Effect, inside}
 
-row-kept : {doc t u rows : List ℕ} {n : ℕ} {s : Trees Said} {first : ℕ} → ((j : ℕ) → j < cellsOf (n + 1) → getD u j 0 ≡ getD t j 0)
+row-kept : {doc t u rows : List ℕ} {n : ℕ} {s : Trees TagSaid} {first : ℕ} → ((j : ℕ) → j < cellsOf (n + 1) → getD u j 0 ≡ getD t j 0)
     → RowShows doc t rows n s first → RowShows doc u rows n s first
 row-kept {doc} {t} {u} {rows} {n} k r =
     record {
@@ -50,39 +51,39 @@ row-kept {doc} {t} {u} {rows} {n} k r =
       count = k (cellAt n Count) (omega arith) ∙ r .count;
     }
 
-pub row-moved : {doc cells rows : List ℕ} {n m : ℕ} {s : Trees Said} {f g : ℕ} → n ≡ m → f ≡ g → RowShows doc cells rows n s f → RowShows doc cells rows m s g
+pub row-moved : {doc cells rows : List ℕ} {n m : ℕ} {s : Trees TagSaid} {f g : ℕ} → n ≡ m → f ≡ g → RowShows doc cells rows n s f → RowShows doc cells rows m s g
 row-moved e d r = rw (e, d) at r
 
 -- m rows from n on show these series, of which the first has its first interval at f
-abbrev RowsFrom : List ℕ → List ℕ → List ℕ → ℕ → ℕ → ℕ → List (Trees Said) → Type 0
+abbrev RowsFrom : List ℕ → List ℕ → List ℕ → ℕ → ℕ → ℕ → List (Trees TagSaid) → Type 0
 RowsFrom doc cells rows n f m ss = (i : ℕ) → i < m → RowShows doc cells rows (n + i) (getD ss i none) (f + sum (take i (intervalCounts rows ss)))
 
 -- one row and those after it
-rows-on : (doc cells rows : List ℕ) (n f m : ℕ) (s : Trees Said) (ss : List (Trees Said)) → RowShows doc cells rows n s f
+rows-on : (doc cells rows : List ℕ) (n f m : ℕ) (s : Trees TagSaid) (ss : List (Trees TagSaid)) → RowShows doc cells rows n s f
     → RowsFrom doc cells rows (n + 1) (f + length (those (hasRole 4) rows s)) m ss → RowsFrom doc cells rows n f (suc m) (s ∷ ss)
 unfolding sum intervalCounts
 rows-on doc cells rows n f m s ss r rs zero l = row-moved (omega arith) (omega arith) r
 rows-on doc cells rows n f m s ss r rs (suc i) l = row-moved (omega arith) (omega arith) (rs i (omega (arith, l)))
 
 -- between two places of the walk beside the series: m rows from n on are filled
-pub record Filled (doc rows : List ℕ) (n f : ℕ) (t u : List ℕ) (m : ℕ) (ss : List (Trees Said)) : Type 0 where
+pub record Filled (doc rows : List ℕ) (n f : ℕ) (t u : List ℕ) (m : ℕ) (ss : List (Trees TagSaid)) : Type 0 where
   pub size : length u ≡ length t
   pub before : (j : ℕ) → j < cellsOf n → getD u j 0 ≡ getD t j 0
   pub shown : RowsFrom doc u rows n f m ss
 
-pub filled-as : {doc rows : List ℕ} {n n₁ f f₁ : ℕ} {t t₁ u : List ℕ} {m m₁ : ℕ} {ss ss₁ : List (Trees Said)} → n ≡ n₁ → f ≡ f₁ → t ≡ t₁ → m ≡ m₁ → ss ≡ ss₁
+pub filled-as : {doc rows : List ℕ} {n n₁ f f₁ : ℕ} {t t₁ u : List ℕ} {m m₁ : ℕ} {ss ss₁ : List (Trees TagSaid)} → n ≡ n₁ → f ≡ f₁ → t ≡ t₁ → m ≡ m₁ → ss ≡ ss₁
     → Filled doc rows n f t u m ss → Filled doc rows n₁ f₁ t₁ u m₁ ss₁
 filled-as a b c d e k = rw (a, b, c, d, e) at k
 
 -- ---- the lists of a content with one element more
 
 module _ (rows : List ℕ) (role q : ℕ) (x : Placed) (inner after : Trees Placed) where
-  pub those-after : {t : Bool} {l : List Said} → eqb (roleOf (getD rows q 0)) role ≡ t → those (hasRole role) rows (saying inner) ≡ l
+  pub those-after : {t : Bool} {l : List TagSaid} → eqb (roleOf (getD rows q 0)) role ≡ t → those (hasRole role) rows (saying inner) ≡ l
       → own t (saidOf x) ++ (l ++ those (hasRole role) rows (saying after)) ≡ those (hasRole role) rows (saying (element q x inner after))
   unfolding saying
   those-after e f = sym (those-of rows (hasRole role) q (saidOf x) (saying inner) (saying after) e f)
 
-  each-after : {t : Bool} {l : List (Trees Said)} → eqb (roleOf (getD rows q 0)) role ≡ t → inEach (hasRole role) rows (saying inner) ≡ l
+  each-after : {t : Bool} {l : List (Trees TagSaid)} → eqb (roleOf (getD rows q 0)) role ≡ t → inEach (hasRole role) rows (saying inner) ≡ l
       → own t (saying inner) ++ (l ++ inEach (hasRole role) rows (saying after)) ≡ inEach (hasRole role) rows (saying (element q x inner after))
   unfolding saying
   each-after e f = sym (in-of rows (hasRole role) q (saidOf x) (saying inner) (saying after) e f)
@@ -122,9 +123,9 @@ module _ (kind : ℕ) (rows : List ℕ) (p : ℕ) (L : Layout rows p) (W : Value
   -- ---- a series
 
   -- what a series has once
-  one-said : (role k : ℕ) → ((q : ℕ) → q < length rows → roleOf (getD rows q 0) ≡ role → q ≡ k) → 12 < k → k < p → roleOf (getD rows k 0) ≡ role
-      → required (getD rows k 0) ≡ true → (inner : Trees Placed) → Fits rows 12 (rowsTaken inner) → EachConforms rows inner
-      → (s : Said) × (those (hasRole role) rows (saying inner) ≡ s ∷ [])
+  one-said : (role k : ℕ) → ((q : ℕ) → q < length rows → roleOf (getD rows q 0) ≡ role → q ≡ k) → seriesAt L < k → k < p → roleOf (getD rows k 0) ≡ role
+      → required (getD rows k 0) ≡ true → (inner : Trees Placed) → Fits rows (seriesAt L) (rowsTaken inner) → EachConforms rows inner
+      → (s : TagSaid) × (those (hasRole role) rows (saying inner) ≡ s ∷ [])
   one-said role k only a b r m inner f c =
       let s = L .size in
       let e = in-series-row rows p L k a (omega (arith, b)) in
@@ -134,7 +135,7 @@ module _ (kind : ℕ) (rows : List ℕ) (p : ℕ) (L : Layout rows p) (W : Value
       (g .complete k (omega (arith, s, b)) e m)
 
   -- a series' element brings its row
-  pub record Rowed (y y′ : Tally) (t t′ : List ℕ) (s : Trees Said) : Type 0 where
+  pub record Rowed (y y′ : Tally) (t t′ : List ℕ) (s : Trees TagSaid) : Type 0 where
     pub series : y′ .series ≡ y .series + 1
     pub intervals : y′ .intervals ≡ y .intervals + length (those (hasRole 4) rows s)
     pub size : length t′ ≡ length t
@@ -142,7 +143,7 @@ module _ (kind : ℕ) (rows : List ℕ) (p : ℕ) (L : Layout rows p) (W : Value
     pub beyond : (j : ℕ) → cellsOf (y .series + 1) ≤ j → getD t′ j 0 ≡ getD t j 0
     pub row : RowShows doc t′ rows (y .series) s (y .intervals)
 
-  module _ (q : ℕ) (x : Placed) (inner : Trees Placed) (y : Tally) (t : Tables) (e : q ≡ 12) where
+  module _ (q : ℕ) (x : Placed) (inner : Trees Placed) (y : Tally) (t : Tables) (e : q ≡ seriesAt L) where
     is-two : roleOf (getD rows q 0) ≡ 2
     is-two = ap (λ (i : ℕ). roleOf (getD rows i 0)) e ∙ L .series
 
@@ -229,7 +230,7 @@ module _ (kind : ℕ) (rows : List ℕ) (p : ℕ) (L : Layout rows p) (W : Value
     pub not-two : eqb (roleOf (getD rows q 0)) 2 ≡ false
     pub not-eight : eqb (roleOf (getD rows q 0)) 8 ≡ false
 
-  pub untouched : (q : ℕ) (x : Placed) (inner : Trees Placed) (y : Tally) (t : Tables) → (q ≡ 12 → ⊥) → q < length rows → parentOf (getD rows q 0) ≡ 1
+  pub untouched : (q : ℕ) (x : Placed) (inner : Trees Placed) (y : Tally) (t : Tables) → (q ≡ seriesAt L → ⊥) → q < length rows → parentOf (getD rows q 0) ≡ 1
       → Stand rows q (rowsTaken inner) → Untouched q x inner y t
   unfolding tablesAfter
   untouched q x inner y t n l e s =
@@ -254,21 +255,21 @@ module _ (kind : ℕ) (rows : List ℕ) (p : ℕ) (L : Layout rows p) (W : Value
 
   -- what is said once in a series
   pub record Once (inner : Trees Placed) : Type 0 where
-    pub id : Said
+    pub id : TagSaid
     pub id-once : those (hasRole 8) rows (saying inner) ≡ id ∷ []
     pub no-series : those (hasRole 2) rows (saying inner) ≡ []
     pub no-series-each : inEach (hasRole 2) rows (saying inner) ≡ []
 
-  pub once-in : (inner : Trees Placed) → Fits rows 12 (rowsTaken inner) → EachConforms rows inner → Once inner
+  pub once-in : (inner : Trees Placed) → Fits rows (seriesAt L) (rowsTaken inner) → EachConforms rows inner → Once inner
   once-in inner f c =
       let w = L .wide in
       let s = L .size in
-      let i = one-said 8 13 (L .only-id) (omega arith) (omega (arith, w)) (L .id) (L .must-id) inner f c in
-      let before : parentOf (getD rows 12 0) < 12 = rw (series-in rows p L) (omega arith) in
+      let i = one-said 8 (L .id-row) (L .only-id) (L .id-in .0) (L .id-in .1) (L .id) (L .must-id) inner f c in
+      let before : parentOf (getD rows (seriesAt L) 0) < seriesAt L = rw (series-in rows p L) (omega arith) in
       let g = rw (← taken-said inner) at f in
       let others : Within (λ q. hasRole 2 (getD rows q 0) ≡ false) (saying inner) =
       within-more (λ q d. ne-eqb (roleOf (getD rows q 0)) 2 (λ e. d .1 (L .only-series q (d .0) e))) (saying inner)
-      (elsewhere rows p L 12 (saying inner) 12 (omega (arith, s)) before (g .stand) (each-said rows inner c)) in
+      (elsewhere rows p L (seriesAt L) (saying inner) (seriesAt L) (omega (arith, s)) before (g .stand) (each-said rows inner c)) in
       record {
         id = i .0;
         id-once = i .1;
@@ -291,7 +292,7 @@ module _ (kind : ℕ) (rows : List ℕ) (p : ℕ) (L : Layout rows p) (W : Value
       (each-plain rows 2 q x inner after (e .bare) (e .not-two)) h in
       rw (e .bare) (rw (e .bare) at k)
 
-  filled-series : (q : ℕ) (x : Placed) (inner after : Trees Placed) (y : Tally) (t : Tables) → q ≡ 12 → (o : Once inner)
+  filled-series : (q : ℕ) (x : Placed) (inner after : Trees Placed) (y : Tally) (t : Tables) → q ≡ seriesAt L → (o : Once inner)
       → Rowed y (tallyOut q x inner y) (t .series) (tablesOut q x inner y t .series) (saying inner)
       → FilledBy after (tallyOut q x inner y) (tablesOut q x inner y t) → FilledBy (element q x inner after) y t
   unfolding filled walked saying eachSeries
@@ -308,7 +309,7 @@ module _ (kind : ℕ) (rows : List ℕ) (p : ℕ) (L : Layout rows p) (W : Value
       })
 
   -- how many series there are with one element more
-  pub more-series : (q : ℕ) (x : Placed) (inner after : Trees Placed) → q ≡ 12 → Once inner → seriesIn (element q x inner after) ≡ suc (seriesIn after)
+  pub more-series : (q : ℕ) (x : Placed) (inner after : Trees Placed) → q ≡ seriesAt L → Once inner → seriesIn (element q x inner after) ≡ suc (seriesIn after)
   more-series q x inner after e o =
       let role = ap (λ (i : ℕ). roleOf (getD rows i 0)) e ∙ L .series in
       let two : eqb (roleOf (getD rows q 0)) 2 ≡ true = rw role in
@@ -338,4 +339,4 @@ module _ (kind : ℕ) (rows : List ℕ) (p : ℕ) (L : Layout rows p) (W : Value
       filled-plain q x inner after y t k
       (series-filled after (tallyIn q x y) (tablesIn q x y t) (s .2) (c .2) (d .3) (g .2) (omega (arith, m, room, u, v))
       (λ j l. ap (λ (z : List ℕ). getD z j 0) (k .cells) ∙ blank j (omega (arith, l, u)))))
-      (eqb-cases q 12)
+      (eqb-cases q (seriesAt L))

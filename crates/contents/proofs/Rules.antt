@@ -10,10 +10,10 @@ use borrow.Author.Tests.{eq-eqb, ne-eqb}
 use Rattle.columns.specs.Columns.{formOf, roleOf}
 use Rattle.states.specs.declared.Room.{Room}
 use Rattle.trees.specs.Trees.{Trees, none, element, Conforms}
-use Rattle.contents.specs.Said.{Said}
+use Rattle.contents.specs.Said.{TagSaid}
 use Rattle.contents.specs.Legal.{hasRole, hasForm, those, inEach, Period, periodIn, periodOf, quartersOf, positionOf, elementFits, Each, inTurn, SeriesFits, All}
 use Rattle.contents.proofs.Tests.{chosen, other}
-use Rattle.contents.proofs.Laid.{Layout}
+use Rattle.contents.proofs.Laid.{Layout, seriesAt}
 use Rattle.contents.proofs.Elements.{Within, within-more, beside, none-there, no-role, those-beside, each-beside, each-parts, length-element, within-beside, in-beside, last-those, in-of, last-in, none-in}
 use Rattle.contents.proofs.Shape.{SeriesShape, AllSeries, RootShape, DocumentShape, document-shape}
 use Rattle.contents.proofs.Walk.{Tally, nothing, opened, walked, Passes}
@@ -23,25 +23,25 @@ use Rattle.contents.proofs.Levels.{fits-any, passes-parts, passes-besid
 
 module _ (kind : ℕ) (room : Room) (rows : List ℕ) (p : ℕ) (L : Layout rows p) (p₀ : Period) where
   -- series side by side
-  record SeriesAll (c : Trees Said) (y : Tally) : Type 0 where
+  record SeriesAll (c : Trees TagSaid) (y : Tally) : Type 0 where
     each : Each (elementFits kind p₀) rows c
     all : All (SeriesFits kind (quartersOf p₀) rows) (inEach (hasRole 2) rows c)
     series : y .series + length (those (hasRole 2) rows c) ≤ room .series
     fit : y .intervals + length (those (hasRole 4) rows c) ≤ room .intervals
 
   -- what stands in a series has rows after its own
-  in-series : (c : Trees Said) → SeriesShape rows p L c → Within (λ q. (12 < q) × (q < length rows)) c
+  in-series : (c : Trees TagSaid) → SeriesShape rows p L c → Within (λ q. (seriesAt L < q) × (q < length rows)) c
   unfolding Within
   in-series c sh =
       let s = L .size in
       let w = L .wide in
-      subst (Within (λ q. (12 < q) × (q < length rows))) (sym (sh .is))
-      (within-beside (λ q. (12 < q) × (q < length rows)) (sh .head) (element p (sh .tag) (sh .inner) none)
+      subst (Within (λ q. (seriesAt L < q) × (q < length rows))) (sym (sh .is))
+      (within-beside (λ q. (seriesAt L < q) × (q < length rows)) (sh .head) (element p (sh .tag) (sh .inner) none)
       (within-more (λ q r. (r .0, short kind room rows p L p₀ q (r .1))) (sh .head) (sh .heads))
       ((omega (arith, w), omega (arith, s)), within-more (λ q r. (omega (arith, r .0, w), r .1)) (sh .inner) (sh .deep), tt))
 
-  -- one series, at row q, which is 12
-  module _ (q : ℕ) (s : Said) (inner after : Trees Said) (e : q ≡ 12) (sh : SeriesShape rows p L inner) (y : Tally) (i : Now kind room rows p L p₀ y)
+  -- one series, at row q, which is that of a series
+  module _ (q : ℕ) (s : TagSaid) (inner after : Trees TagSaid) (e : q ≡ seriesAt L) (sh : SeriesShape rows p L inner) (y : Tally) (i : Now kind room rows p L p₀ y)
       (fit : y .intervals ≤ room .intervals) where
     abbrev w : ℕ
     w = getD rows q 0
@@ -88,7 +88,7 @@ module _ (kind : ℕ) (room : Room) (rows : List ℕ) (p : ℕ) (L : Layout rows
 
     later-now : Now kind room rows p L p₀ y₂
     later-now =
-        unchanged rows (λ z. z .period) (λ q. (12 < q) × (q < length rows))
+        unchanged rows (λ z. z .period) (λ q. (seriesAt L < q) × (q < length rows))
         (λ q s z r. other _ (z .period) (ne-eqb (formOf (getD rows q 0)) 6 (λ e. let u = L .covered-form q (r .1) e in omega (arith, u, r .0))))
         inner (in-series inner sh) y₁
         ∙ fresh .now
@@ -116,7 +116,7 @@ module _ (kind : ℕ) (room : Room) (rows : List ℕ) (p : ℕ) (L : Layout rows
         let u : _≡_ {A = ℕ} (cond (eqb (roleOf w) 4) 1 0) 0 = other 1 0 (ne-eqb (roleOf w) 4 (λ r. let z = is-series in omega (arith, r, z))) in
         omega (arith, l, u)
 
-  all-rules : (c : Trees Said) → AllSeries rows p L c → (y : Tally) → Now kind room rows p L p₀ y → y .intervals ≤ room .intervals → y .series ≤ room .series
+  all-rules : (c : Trees TagSaid) → AllSeries rows p L c → (y : Tally) → Now kind room rows p L p₀ y → y .intervals ≤ room .intervals → y .series ≤ room .series
       → Passes kind room rows c y → SeriesAll c y
   unfolding AllSeries Passes Each those inEach All
   all-rules none a y i f g t = record { each = tt; all = tt; series = omega (arith, g); fit = omega (arith, f) }
@@ -139,7 +139,7 @@ module _ (kind : ℕ) (room : Room) (rows : List ℕ) (p : ℕ) (L : Layout rows
         fit = omega (arith, m, c, v);
       }
 
-  all-passes : (c : Trees Said) → AllSeries rows p L c → (y : Tally) → Now kind room rows p L p₀ y → y .intervals ≤ room .intervals → y .series ≤ room .series
+  all-passes : (c : Trees TagSaid) → AllSeries rows p L c → (y : Tally) → Now kind room rows p L p₀ y → y .intervals ≤ room .intervals → y .series ≤ room .series
       → SeriesAll c y → Passes kind room rows c y
   unfolding AllSeries Passes Each those inEach All
   all-passes none a y i f g r = tt
@@ -171,7 +171,7 @@ module _ (kind : ℕ) (room : Room) (rows : List ℕ) (p : ℕ) (L : Layout rows
         all-passes after (a .2) (y₂ q s inner after (a .0) (a .1) y i f) (later-now q s inner after (a .0) (a .1) y i f) (omega (arith, m, c, v)) (omega (arith, n, d, x)) more,
       )
 
-  in-all : (c : Trees Said) → AllSeries rows p L c → Within (λ q. (11 < q) × (q < length rows)) c
+  in-all : (c : Trees TagSaid) → AllSeries rows p L c → Within (λ q. (1 + L .heads < q) × (q < length rows)) c
   unfolding AllSeries Within
   in-all none a = tt
   in-all (element q s inner after) a =
@@ -184,20 +184,20 @@ module _ (kind : ℕ) (room : Room) (rows : List ℕ) (p : ℕ) (L : Layout rows
       )
 
 -- the rules that are told by a walk: all but the order of elements and the identifications; and the tables have room
-pub record Rules (kind : ℕ) (room : Room) (rows : List ℕ) (c : Trees Said) : Type 0 where
+pub record Rules (kind : ℕ) (room : Room) (rows : List ℕ) (c : Trees TagSaid) : Type 0 where
   pub elements : Each (elementFits kind (periodOf rows c)) rows c
   pub series : All (SeriesFits kind (quartersOf (periodOf rows c)) rows) (inEach (hasRole 2) rows c)
   pub series-room : length (those (hasRole 2) rows c) ≤ room .series
   pub intervals-room : length (those (hasRole 4) rows c) ≤ room .intervals
 
-module _ (kind : ℕ) (room : Room) (rows : List ℕ) (p : ℕ) (L : Layout rows p) (tag : Said) (inner : Trees Said) (sh : RootShape rows p L inner) where
-  abbrev head : Trees Said
+module _ (kind : ℕ) (room : Room) (rows : List ℕ) (p : ℕ) (L : Layout rows p) (tag : TagSaid) (inner : Trees TagSaid) (sh : RootShape rows p L inner) where
+  abbrev head : Trees TagSaid
   head = sh .head
 
-  abbrev tail : Trees Said
+  abbrev tail : Trees TagSaid
   tail = sh .tail
 
-  abbrev whole : Trees Said
+  abbrev whole : Trees TagSaid
   whole = element 1 tag (beside head tail) none
 
   abbrev p₀ : Period
@@ -243,7 +243,7 @@ module _ (kind : ℕ) (room : Room) (rows : List ℕ) (p : ℕ) (L : Layout rows
           ∙ ap (λ l. those (hasForm 6) rows head ++ l) none-later
           ∙ append-nil (those (hasForm 6) rows head)
 
-  head-role : (n : ℕ) → ((q : ℕ) → q < length rows → roleOf (getD rows q 0) ≡ n → 12 ≤ q) → Within (λ q. roleOf (getD rows q 0) ≡ n → ⊥) head
+  head-role : (n : ℕ) → ((q : ℕ) → q < length rows → roleOf (getD rows q 0) ≡ n → seriesAt L ≤ q) → Within (λ q. roleOf (getD rows q 0) ≡ n → ⊥) head
   head-role n g =
       let w = L .wide in
       within-more
@@ -373,7 +373,7 @@ module _ (kind : ℕ) (room : Room) (rows : List ℕ) (p : ℕ) (L : Layout rows
         tt,
       )
 
-module _ (kind : ℕ) (room : Room) (rows : List ℕ) (p : ℕ) (L : Layout rows p) (c : Trees Said) (conforms : Conforms rows 0 c) where
+module _ (kind : ℕ) (room : Room) (rows : List ℕ) (p : ℕ) (L : Layout rows p) (c : Trees TagSaid) (conforms : Conforms rows 0 c) where
   whole-is : (d : DocumentShape rows p L c) → c ≡ element 1 (d .tag) (beside (d .shape .head) (d .shape .tail)) none
   whole-is d = d .is ∙ ap (λ i. element 1 (d .tag) i none) (d .shape .is)
 

@@ -16,7 +16,7 @@ use Rattle.guideline.specs.Kinds.{unbounded, kindAt, withinMost, takesAnother}
 use Rattle.states.specs.declared.Room.{Room}
 use Rattle.trees.specs.Trees.{Trees, none, element}
 use Rattle.trees.proofs.Made.{both}
-use Rattle.contents.specs.Said.{Said}
+use Rattle.contents.specs.Said.{TagSaid}
 use Rattle.contents.specs.Legal.{hasRole, those, Period, quartersOf, positionOf, elementFits, inTurn, Each}
 use Rattle.contents.proofs.Tests.{chosen, other, parts-and}
 use Rattle.contents.proofs.Elements.{Within, within-more, length-element, unit}
@@ -61,16 +61,16 @@ pub record Plain (rows : List ℕ) (q : ℕ) : Type 0 where
   pub back : roleOf (getD rows q 0) ≡ 9 → formOf (getD rows q 0) ≡ 9
 
 -- what elements that open no series and no Period have to meet, walked over from the tally y on
-pub record Segment (kind : ℕ) (room : Room) (rows : List ℕ) (p₀ : Period) (c : Trees Said) (y : Tally) : Type 0 where
+pub record Segment (kind : ℕ) (room : Room) (rows : List ℕ) (p₀ : Period) (c : Trees TagSaid) (y : Tally) : Type 0 where
   pub each : Each (elementFits kind p₀) rows c
   pub turns : inTurn kind (quartersOf p₀) (y .last) (map positionOf (those (hasRole 9) rows c)) ≡ true
   pub few : Few kind (y .intervals - y .first + length (those (hasRole 4) rows c))
   pub fit : y .intervals + length (those (hasRole 4) rows c) ≤ room .intervals
 
-one-interval : (w : ℕ) (s : Said) (y : Tally) → opened w s y .intervals ≡ y .intervals + unit 4 w
+one-interval : (w : ℕ) (s : TagSaid) (y : Tally) → opened w s y .intervals ≡ y .intervals + unit 4 w
 one-interval w s y = one-or-none (eqb (roleOf w) 4) (y .intervals)
 
-module _ (rows : List ℕ) (kind n : ℕ) (q : ℕ) (s : Said) (inner after : Trees Said) (y : Tally) (not : roleOf (getD rows q 0) ≡ 3 → ⊥)
+module _ (rows : List ℕ) (kind n : ℕ) (q : ℕ) (s : TagSaid) (inner after : Trees TagSaid) (y : Tally) (not : roleOf (getD rows q 0) ≡ 3 → ⊥)
     (inside : Within (λ q. roleOf (getD rows q 0) ≡ 3 → ⊥) inner) where
   abbrev w : ℕ
   w = getD rows q 0
@@ -78,10 +78,10 @@ module _ (rows : List ℕ) (kind n : ℕ) (q : ℕ) (s : Said) (inner after : Tr
   abbrev y₁ : Tally
   y₁ = opened w s y
 
-  abbrev is : List Said
+  abbrev is : List TagSaid
   is = those (hasRole 9) rows inner
 
-  abbrev js : List Said
+  abbrev js : List TagSaid
   js = those (hasRole 9) rows after
 
   last-opened : y₁ .last ≡ cond (eqb (roleOf w) 9) (positionOf s) (y .last)
@@ -139,20 +139,20 @@ module _ (rows : List ℕ) (kind n : ℕ) (q : ℕ) (s : Said) (inner after : Tr
 -- R is what is known of the rows, I what is known of the tally along the walk
 module _ (kind : ℕ) (room : Room) (rows : List ℕ) (p₀ : Period) (R : ℕ → Type 0) (I : Tally → Type 0)
     (plain : (q : ℕ) → R q → Plain rows q)
-    (keep : (q : ℕ) (s : Said) (y : Tally) → R q → I y → I (opened (getD rows q 0) s y))
-    (fits : (q : ℕ) (s : Said) (y : Tally) → R q → I y → elementFits kind (y .period) (getD rows q 0) s ≡ elementFits kind p₀ (getD rows q 0) s)
+    (keep : (q : ℕ) (s : TagSaid) (y : Tally) → R q → I y → I (opened (getD rows q 0) s y))
+    (fits : (q : ℕ) (s : TagSaid) (y : Tally) → R q → I y → elementFits kind (y .period) (getD rows q 0) s ≡ elementFits kind p₀ (getD rows q 0) s)
     (now : (q : ℕ) (y : Tally) → R q → I y → formOf (getD rows q 0) ≡ 9 → y .period ≡ p₀) where
-  no-series : (c : Trees Said) → Within R c → Within (λ q. roleOf (getD rows q 0) ≡ 2 → ⊥) c
+  no-series : (c : Trees TagSaid) → Within R c → Within (λ q. roleOf (getD rows q 0) ≡ 2 → ⊥) c
   no-series c h = within-more (λ q r. plain q r .not-series) c h
 
-  no-period : (c : Trees Said) → Within R c → Within (λ q. roleOf (getD rows q 0) ≡ 3 → ⊥) c
+  no-period : (c : Trees TagSaid) → Within R c → Within (λ q. roleOf (getD rows q 0) ≡ 3 → ⊥) c
   no-period c h = within-more (λ q r. plain q r .not-period) c h
 
-  first-opened : (q : ℕ) (s : Said) (y : Tally) → R q → opened (getD rows q 0) s y .first ≡ y .first
+  first-opened : (q : ℕ) (s : TagSaid) (y : Tally) → R q → opened (getD rows q 0) s y .first ≡ y .first
   first-opened q s y r = other (y .intervals) (y .first) (ne-eqb (roleOf (getD rows q 0)) 2 (plain q r .not-series))
 
   -- after elements that fit
-  after-holds : (c : Trees Said) → Within R c → (y : Tally) → Holds kind room y → Segment kind room rows p₀ c y → Holds kind room (walked rows c y)
+  after-holds : (c : Trees TagSaid) → Within R c → (y : Tally) → Holds kind room y → Segment kind room rows p₀ c y → Holds kind room (walked rows c y)
   after-holds c h y a g =
       let i = intervals-walked rows c y in
       let f = first-walked rows c (no-series c h) y in
@@ -163,7 +163,7 @@ module _ (kind : ℕ) (room : Room) (rows : List ℕ) (p₀ : Period) (R : ℕ �
       }
 
   -- after a start tag
-  opened-holds : (q : ℕ) (s : Said) (y : Tally) → R q → Holds kind room y → y .intervals + unit 4 (getD rows q 0) ≤ room .intervals
+  opened-holds : (q : ℕ) (s : TagSaid) (y : Tally) → R q → Holds kind room y → y .intervals + unit 4 (getD rows q 0) ≤ room .intervals
       → Few kind (y .intervals - y .first + unit 4 (getD rows q 0)) → Holds kind room (opened (getD rows q 0) s y)
   opened-holds q s y r a m k =
       let i = one-interval (getD rows q 0) s y in
@@ -171,7 +171,7 @@ module _ (kind : ℕ) (room : Room) (rows : List ℕ) (p₀ : Period) (R : ℕ �
       record { begins = omega (arith, i, f, a .begins); fit = omega (arith, i, m); few = λ e. omega (arith, i, f, a .begins, k e) }
 
   -- where a start tag is taken, it is not one Interval too many
-  taken-fit : (w : ℕ) (s : Said) (y : Tally) → Holds kind room y → Taken kind room w s y
+  taken-fit : (w : ℕ) (s : TagSaid) (y : Tally) → Holds kind room y → Taken kind room w s y
       → (y .intervals + unit 4 w ≤ room .intervals) × Few kind (y .intervals - y .first + unit 4 w)
   taken-fit w s y a t =
       ⊎-elim
@@ -184,7 +184,7 @@ module _ (kind : ℕ) (room : Room) (rows : List ℕ) (p₀ : Period) (R : ℕ �
       (omega (arith, u, a .fit), λ k. omega (arith, u, a .few k)))
       (eqb-cases (roleOf w) 4)
 
-  passes-fit : (c : Trees Said) → Within R c → (y : Tally) → I y → Holds kind room y → Passes kind room rows c y → Segment kind room rows p₀ c y
+  passes-fit : (c : Trees TagSaid) → Within R c → (y : Tally) → I y → Holds kind room y → Passes kind room rows c y → Segment kind room rows p₀ c y
   unfolding Within Passes Each inTurn those walked quartersOf
   passes-fit none h y i a t =
       record { each = tt; turns = refl; few = λ k. let u = a .few k in omega (arith, u); fit = let u = a .fit in omega (arith, u) }
@@ -214,7 +214,7 @@ module _ (kind : ℕ) (room : Room) (rows : List ℕ) (p₀ : Period) (R : ℕ �
         fit = let u = g₂ .fit in omega (arith, l, n₁, n₂, u);
       }
 
-  fit-passes : (c : Trees Said) → Within R c → (y : Tally) → I y → Holds kind room y → Segment kind room rows p₀ c y → Passes kind room rows c y
+  fit-passes : (c : Trees TagSaid) → Within R c → (y : Tally) → I y → Holds kind room y → Segment kind room rows p₀ c y → Passes kind room rows c y
   unfolding Within Passes Each inTurn those walked quartersOf
   fit-passes none h y i a g = tt
   fit-passes (element q s inner after) h y i a g =
@@ -261,5 +261,5 @@ module _ (kind : ℕ) (room : Room) (rows : List ℕ) (p₀ : Period) (R : ℕ �
         fit-passes after (h .2) y₂ (invariant rows I R keep inner (h .1) y₁ i₁) (after-holds inner (h .1) y₁ a₁ g₁) g₂,
       )
 
-  pub passes-segment : (c : Trees Said) → Within R c → (y : Tally) → I y → Holds kind room y → Passes kind room rows c y ↔ Segment kind room rows p₀ c y
+  pub passes-segment : (c : Trees TagSaid) → Within R c → (y : Tally) → I y → Holds kind room y → Passes kind room rows c y ↔ Segment kind room rows p₀ c y
   passes-segment c h y i a = (passes-fit c h y i a, fit-passes c h y i a)

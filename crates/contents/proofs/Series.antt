@@ -2,14 +2,15 @@
 -- Assumes nothing.
 use Prim.Native.Nat.{ℕ, suc, _+_, _-_, _≤_, _<_}
 use mathlib.Core.Path.{_≡_, refl, sym, ap, subst, _∙_}
-use mathlib.Core.List.{List, [], _∷_, _++_, map}
+use mathlib.Core.List.{List, [], _++_, map}
 use mathlib.Core.Bool.{true, false}
 use mathlib.Core.Logic.{_⊎_, ⊎-elim}
 use native.Mathlib.Omega.{arith}
-use lib.ListN.{length, getD, set, drop, length-set}
+use lib.ListN.{length, getD, drop, length-set}
 use lib.Dec.{eqb}
 use lib.Seq.{getD-set-same, getD-set-other}
 use borrow.Author.Tests.{eq-eqb, ne-eqb}
+use Rattle.items.specs.Parts.{spanOf}
 use Rattle.lists.proofs.Cases.{zero-not-one}
 use Rattle.slices.specs.Run.{run}
 use Rattle.trims.specs.Trim.{space, dropped}
@@ -21,14 +22,14 @@ use Rattle.series.specs.Row.{cellOf, isView, cellsOf, cellAt, fieldAt, withFiel
 use Rattle.series.specs.declared.Field.{Field}
 use Rattle.series.specs.declared.Field.the-variants.{Identification, Object, BusinessType, Direction, Area, FirstRow, Count}
 use Rattle.series.proofs.Rows.{view-set, view-as, view-low, views-apart}
-use Rattle.reader.specs.Rows.{broughtBy, spanOf, quoted, fieldAfter, seriesWith, seriesAfter}
+use Rattle.reader.specs.Rows.{broughtBy, quoted, fieldAfter, seriesWith, seriesAfter}
 use Rattle.reader.specs.Reading.{Tables, tablesAfter}
 use Rattle.trees.specs.Trees.{Trees, none, element, rowsTaken, Stand, EachConforms}
-use Rattle.contents.specs.Said.{Said, bytes}
+use Rattle.contents.specs.Said.{TagSaid, bytes}
 use Rattle.contents.specs.Legal.{hasRole, those, positionOf}
 use Rattle.contents.specs.Shown.{lastOf, roleShown, partShown, saidFor}
 use Rattle.contents.proofs.Lists.{last-append, none-both}
-use Rattle.contents.proofs.Laid.{Layout, Valued}
+use Rattle.contents.proofs.Laid.{Layout, seriesAt, Valued}
 use Rattle.contents.proofs.Elements.{own, mapped-parts}
 use Rattle.contents.proofs.Shape.{later}
 use Rattle.contents.proofs.Walk.{Tally, opened, walked}
@@ -38,10 +39,10 @@ use Rattle.contents.proofs.Views.{whole-view, trimmed-view}
 use Rattle.contents.proofs.Roles.{Role, is-series, is-interval, is-object, is-business, is-id, is-pos, is-qty, is-direction, is-area, is-other, role-cases, role-tells, shownRole, not-shown}
 
 -- what an element in row w shows in each view
-abbrev pub valueShown : Field → Said → List ℕ
+abbrev pub valueShown : Field → TagSaid → List ℕ
 valueShown f s = partShown f (bytes (s .v))
 
-abbrev pub shownBy : ℕ → Said → Field → List (List ℕ)
+abbrev pub shownBy : ℕ → TagSaid → Field → List (List ℕ)
 shownBy role s f = map (valueShown f) (own (eqb role (roleShown f)) s)
 
 -- a count that stays
@@ -67,7 +68,7 @@ module _ {doc : List ℕ} {i : ℕ} {f : Field} {t : List ℕ} where
       }
 
 -- a view that is set to what an element says
-module _ (doc : List ℕ) (i : ℕ) (t : List ℕ) (g : Field) (v : isView g ≡ true) (a n : ℕ) (s : Said) (shows : view doc (withView t i g a n) i g ≡ valueShown g s) where
+module _ (doc : List ℕ) (i : ℕ) (t : List ℕ) (g : Field) (v : isView g ≡ true) (a n : ℕ) (s : TagSaid) (shows : view doc (withView t i g a n) i g ≡ valueShown g s) where
   set-viewed : Viewed doc i t (withView t i g a n) g (shownBy (roleShown g) s g)
   set-viewed = rw (eq-eqb (roleShown g) (roleShown g) refl) (record { shown = shows; kept = λ e. absurd (zero-not-one (cc)) })
 
@@ -147,7 +148,7 @@ module _ {doc : List ℕ} {i : ℕ} {y : Tally} {t : List ℕ} where
             views = λ f e. rw (unseen f e) (viewed-same refl refl);
           }
 
-      view-effect : (g : Field) → isView g ≡ true → (a n : ℕ) (s : Said) → view doc (withView t i g a n) i g ≡ valueShown g s
+      view-effect : (g : Field) → isView g ≡ true → (a n : ℕ) (s : TagSaid) → view doc (withView t i g a n) i g ≡ valueShown g s
           → Effect doc i y t y′ (withView t i g a n) (shownBy (roleShown g) s)
       view-effect g v a n s shows =
           let k = view-set t i g a n in
@@ -165,7 +166,7 @@ module _ {doc : List ℕ} {i : ℕ} {y : Tally} {t : List ℕ} where
           }
 
 -- what a role says that no view shows
-unshown : (r : ℕ) → shownRole r ≡ false → (s : Said) (f : Field) → isView f ≡ true → shownBy r s f ≡ []
+unshown : (r : ℕ) → shownRole r ≡ false → (s : TagSaid) (f : Field) → isView f ≡ true → shownBy r s f ≡ []
 unshown r z s f e = rw (not-shown r z f e)
 
 last-row : {n i : ℕ} → n ≡ suc i → n - 1 ≡ i
@@ -199,10 +200,10 @@ module _ (kind : ℕ) (doc : List ℕ) where
 -- ---- the elements in a series
 
 module _ (kind : ℕ) (rows : List ℕ) (p : ℕ) (L : Layout rows p) (W : Valued rows) (doc : List ℕ) where
-  pub no-series : (h q : ℕ) → 12 ≤ h → h < q → q < length rows → roleOf (getD rows q 0) ≡ 2 → ⊥
+  pub no-series : (h q : ℕ) → seriesAt L ≤ h → h < q → q < length rows → roleOf (getD rows q 0) ≡ 2 → ⊥
   no-series h q a b l e = let d = L .only-series q l e in omega (arith, a, b, d)
 
-  pub inside : (kids : Trees Placed) (h i : ℕ) (y : Tally) (t : Tables) → 12 ≤ h → h < length rows → Stand rows h (rowsTaken kids) → EachConforms rows kids
+  pub inside : (kids : Trees Placed) (h i : ℕ) (y : Tally) (t : Tables) → seriesAt L ≤ h → h < length rows → Stand rows h (rowsTaken kids) → EachConforms rows kids
       → Stands doc kids → HasValues rows kids → y .series ≡ suc i → cellsOf (i + 1) ≤ length (t .series)
       → Effect doc i y (t .series) (walked rows (saying kids) y) (filled kind rows kids y t .series)
       (saidFor rows (saying kids))

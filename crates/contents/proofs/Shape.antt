@@ -15,19 +15,19 @@ use Rattle.columns.specs.Columns.{roleOf}
 use Rattle.trees.specs.Trees.{Trees, none, element, rowsTaken, Stand, ComesAfter, InOrder, Among, Fits, EachConforms, Conforms}
 use Rattle.trees.proofs.Made.{made, child-after}
 use Rattle.contents.specs.Legal.{hasRole, those}
-use Rattle.contents.proofs.Laid.{home, Layout}
+use Rattle.contents.proofs.Laid.{home, Layout, seriesAt}
 use Rattle.contents.proofs.Elements.{Within, within-more, beside, those-of, no-role}
 
--- where row q stands: in row h
-data Place (p h q : ℕ) : Type 0 where
-  in-document : h ≡ 0 → q ≡ 1 → Place p h q
-  in-root : h ≡ 1 → 1 < q → q ≤ 12 → Place p h q
-  in-series : h ≡ 12 → 12 < q → q ≤ p → Place p h q
-  in-period : h ≡ p → p < q → q ≤ p + 3 → Place p h q
-  in-interval : h ≡ p + 3 → p + 3 < q → Place p h q
+-- where row q stands: in row h; r is the row of a series
+data Place (r p h q : ℕ) : Type 0 where
+  in-document : h ≡ 0 → q ≡ 1 → Place r p h q
+  in-root : h ≡ 1 → 1 < q → q ≤ r → Place r p h q
+  in-series : h ≡ r → r < q → q ≤ p → Place r p h q
+  in-period : h ≡ p → p < q → q ≤ p + 3 → Place r p h q
+  in-interval : h ≡ p + 3 → p + 3 < q → Place r p h q
 
-home-place : (p q : ℕ) → 0 < q → Place p (home p q) q
-home-place p q a =
+home-place : (r p q : ℕ) → 0 < q → Place r p (home r p q) q
+home-place r p q a =
     ⊎-elim
     (λ y. rw (y .1) (in-document refl (omega (arith, y .0, a))))
     (λ y. rw (y .1)
@@ -39,7 +39,7 @@ home-place p q a =
     (λ u. rw (u .1)
     (⊎-elim (λ v. rw (v .1) (in-period refl (u .0) (v .0))) (λ v. rw (v .1) (in-interval refl (v .0))) (leb-cases q (p + 3))))
     (leb-cases q p)))
-    (leb-cases q 12)))
+    (leb-cases q r)))
     (leb-cases q 1)
 
 element-is : {A : Type 0} {q k : ℕ} {tag : A} {inner other after : Trees A} → q ≡ k → inner ≡ other → after ≡ none
@@ -53,22 +53,25 @@ module _ (rows : List ℕ) (p : ℕ) (L : Layout rows p) where
   pub later : (h q : ℕ) → h < length rows → q < length rows → parentOf (getD rows q 0) ≡ h → h < q
   later h q a b e = child-after rows (made rows (L .well)) h q a b e
 
-  place : (h q : ℕ) → h < length rows → q < length rows → parentOf (getD rows q 0) ≡ h → Place p h q
+  place : (h q : ℕ) → h < length rows → q < length rows → parentOf (getD rows q 0) ≡ h → Place (seriesAt L) p h q
   place h q a b e =
       let l : 0 < q = omega (arith, later h q a b e) in
-      subst (λ (i : ℕ). Place p i q) (sym (L .stands q l b) ∙ e) (home-place p q l)
+      subst (λ (i : ℕ). Place (seriesAt L) p i q) (sym (L .stands q l b) ∙ e) (home-place (seriesAt L) p q l)
 
   -- the last row that stands in the document, in the root and in a series
   abbrev lastIn : ℕ → ℕ
-  lastIn h = cond (eqb h 0) 1 (cond (eqb h 1) 12 p)
+  lastIn h = cond (eqb h 0) 1 (cond (eqb h 1) (seriesAt L) p)
 
-  not-past : (h q : ℕ) → h ≤ 12 → q < length rows → parentOf (getD rows q 0) ≡ h → q ≤ lastIn h
+  last-in-series : lastIn (seriesAt L) ≡ p
+  last-in-series = rw (ne-eqb (seriesAt L) 0 (λ z. omega (arith, z)), ne-eqb (seriesAt L) 1 (λ z. omega (arith, z)))
+
+  not-past : (h q : ℕ) → h ≤ seriesAt L → q < length rows → parentOf (getD rows q 0) ≡ h → q ≤ lastIn h
   not-past h q a l e = by (place h q (let s = L .size in let w = L .wide in omega (arith, s, w, a)) l e)
     where
-      by : Place p h q → q ≤ lastIn h
+      by : Place (seriesAt L) p h q → q ≤ lastIn h
       by (in-document f g) = rw f (omega (arith, g))
       by (in-root f g k) = rw f k
-      by (in-series f g k) = rw f k
+      by (in-series f g k) = rw (f, last-in-series) k
       by (in-period f g k) = absurd (let w = L .wide in omega (arith, f, w, a))
       by (in-interval f g) = absurd (let w = L .wide in omega (arith, f, w, a))
 
@@ -79,34 +82,37 @@ module _ (rows : List ℕ) (p : ℕ) (L : Layout rows p) where
       let b = not-past 0 q (omega arith) l e in
       omega (arith, a, b)
 
-  pub under-root : (q : ℕ) → q < length rows → parentOf (getD rows q 0) ≡ 1 → (1 < q) × (q ≤ 12)
+  pub under-root : (q : ℕ) → q < length rows → parentOf (getD rows q 0) ≡ 1 → (1 < q) × (q ≤ seriesAt L)
   under-root q l e = let s = L .size in (later 1 q (omega (arith, s)) l e, not-past 1 q (omega arith) l e)
 
-  under-series : (q : ℕ) → q < length rows → parentOf (getD rows q 0) ≡ 12 → (12 < q) × (q ≤ p)
-  under-series q l e = let s = L .size in (later 12 q (omega (arith, s)) l e, not-past 12 q (omega arith) l e)
+  under-series : (q : ℕ) → q < length rows → parentOf (getD rows q 0) ≡ seriesAt L → (seriesAt L < q) × (q ≤ p)
+  under-series q l e = let s = L .size in (later (seriesAt L) q (omega (arith, s, L .wide)) l e, rw last-in-series at (not-past (seriesAt L) q (omega arith) l e))
 
-  pub series-in : parentOf (getD rows 12 0) ≡ 1
-  series-in = let s = L .size in L .stands 12 (omega arith) (omega (arith, s))
+  pub series-in : parentOf (getD rows (seriesAt L) 0) ≡ 1
+  series-in =
+      let s = L .size in
+      let w = L .wide in
+      L .stands (seriesAt L) (omega arith) (omega (arith, s, w)) ∙ rw (lt-leb (seriesAt L) 1 (omega arith), le-leb (seriesAt L) (seriesAt L) (omega arith)) refl
 
-  pub in-series-row : (k : ℕ) → 12 < k → k ≤ p → parentOf (getD rows k 0) ≡ 12
+  pub in-series-row : (k : ℕ) → seriesAt L < k → k ≤ p → parentOf (getD rows k 0) ≡ (seriesAt L)
   in-series-row k a b =
       let s = L .size in
-      L .stands k (omega (arith, a)) (omega (arith, s, b)) ∙ rw (lt-leb k 1 (omega (arith, a)), lt-leb k 12 a, le-leb k p b) refl
+      L .stands k (omega (arith, a)) (omega (arith, s, b)) ∙ rw (lt-leb k 1 (omega (arith, a)), lt-leb k (seriesAt L) a, le-leb k p b) refl
 
   pub in-interval-row : (k : ℕ) → p + 3 < k → k < length rows → parentOf (getD rows k 0) ≡ p + 3
   in-interval-row k a l =
       let w = L .wide in
       L .stands k (omega (arith, a)) l
-      ∙ rw (lt-leb k 1 (omega (arith, a)), lt-leb k 12 (omega (arith, a, w)), lt-leb k p (omega (arith, a)), lt-leb k (p + 3) a) refl
+      ∙ rw (lt-leb k 1 (omega (arith, a)), lt-leb k (seriesAt L) (omega (arith, a, w)), lt-leb k p (omega (arith, a)), lt-leb k (p + 3) a) refl
 
   -- a row that no row stands in: its elements have nothing in them
-  pub leaf : {A : Type 0} (q : ℕ) (inner : Trees A) → q < length rows → (q ≡ 0 → ⊥) → (q ≡ 1 → ⊥) → (q ≡ 12 → ⊥) → (q ≡ p → ⊥) → (q ≡ p + 3 → ⊥)
+  pub leaf : {A : Type 0} (q : ℕ) (inner : Trees A) → q < length rows → (q ≡ 0 → ⊥) → (q ≡ 1 → ⊥) → (q ≡ seriesAt L → ⊥) → (q ≡ p → ⊥) → (q ≡ p + 3 → ⊥)
       → Stand rows q (rowsTaken inner) → inner ≡ none
   unfolding rowsTaken Stand
   leaf q none l a b c d e s = refl
   leaf q (element r x inner after) l a b c d e s = absurd (by (place q r l (s .0) (s .1)))
     where
-      by : Place p q r → ⊥
+      by : Place (seriesAt L) p q r → ⊥
       by (in-document f g) = a f
       by (in-root f g h) = b f
       by (in-series f g h) = c f
@@ -114,7 +120,7 @@ module _ (rows : List ℕ) (p : ℕ) (L : Layout rows p) where
       by (in-interval f g) = e f
 
   -- a value of the root or of a series
-  value-bare : {A : Type 0} (q : ℕ) (inner : Trees A) → 1 < q → (q ≡ 12 → ⊥) → q < p → Stand rows q (rowsTaken inner) → inner ≡ none
+  value-bare : {A : Type 0} (q : ℕ) (inner : Trees A) → 1 < q → (q ≡ seriesAt L → ⊥) → q < p → Stand rows q (rowsTaken inner) → inner ≡ none
   value-bare q inner a c b s =
       let z = L .size in
       leaf q inner (omega (arith, z, b)) (λ e. omega (arith, e, a)) (λ e. omega (arith, e, a)) c (λ e. omega (arith, e, b)) (λ e. omega (arith, e, b)) s
@@ -212,16 +218,16 @@ module _ (rows : List ℕ) (p : ℕ) (L : Layout rows p) where
       pub tag : A
       pub inner : Trees A
       pub is : c ≡ beside head (element p tag inner none)
-      pub heads : Within (λ q. (12 < q) × (q < p)) head
+      pub heads : Within (λ q. (seriesAt L < q) × (q < p)) head
       pub deep : Within (λ q. (p < q) × (q < length rows)) inner
 
-    series-shape : (c : Trees A) → Stand rows 12 (rowsTaken c) → InOrder rows (rowsTaken c) → EachConforms rows c → Among p (rowsTaken c) → SeriesShape c
+    series-shape : (c : Trees A) → Stand rows (seriesAt L) (rowsTaken c) → InOrder rows (rowsTaken c) → EachConforms rows c → Among p (rowsTaken c) → SeriesShape c
     unfolding Stand rowsTaken InOrder EachConforms Among Within beside
     series-shape none s o each m = absurd m
     series-shape (element q tag inner after) s o each m =
         ⊎-elim
         (λ (y : (q ≡ p) × _).
-        let last = alone p 12 after period-once (λ r l e. under-series r l e .1) (subst (λ (i : ℕ). ComesAfter rows i (rowsTaken after)) (y .0) (o .0)) (s .2) in
+        let last = alone p (seriesAt L) after period-once (λ r l e. under-series r l e .1) (subst (λ (i : ℕ). ComesAfter rows i (rowsTaken after)) (y .0) (o .0)) (s .2) in
         record {
           head = none;
           tag = tag;
@@ -234,7 +240,7 @@ module _ (rows : List ℕ) (p : ℕ) (L : Layout rows p) where
         let u = under-series q (s .0) (s .1) in
         let h : q < p = let z = up q (u .1) (λ e. y .0 (sym e)) in omega (arith, z) in
         let t = series-shape after (s .2) (o .1) (each .2) (⊎-elim (λ (e : p ≡ q). absurd (y .0 (sym e))) (λ k. k) m) in
-        let n = value-bare q inner (omega (arith, u .0)) (λ (e : q ≡ 12). omega (arith, e, u .0)) h (each .0 .stand) in
+        let n = value-bare q inner (omega (arith, u .0)) (λ (e : q ≡ seriesAt L). omega (arith, e, u .0)) h (each .0 .stand) in
         record {
           head = element q tag none (t .head);
           tag = t .tag;
@@ -248,20 +254,20 @@ module _ (rows : List ℕ) (p : ℕ) (L : Layout rows p) where
     -- series side by side
     unfoldable pub AllSeries : Trees A → Type 0
     AllSeries none = Unit {0}
-    AllSeries (element q tag inner after) = (q ≡ 12) × SeriesShape inner × AllSeries after
+    AllSeries (element q tag inner after) = (q ≡ seriesAt L) × SeriesShape inner × AllSeries after
 
-    inner-shape : (inner : Trees A) → Fits rows 12 (rowsTaken inner) → EachConforms rows inner → SeriesShape inner
+    inner-shape : (inner : Trees A) → Fits rows (seriesAt L) (rowsTaken inner) → EachConforms rows inner → SeriesShape inner
     inner-shape inner f each =
         let s = L .size in
         let w = L .wide in
         series-shape inner (f .stand) (f .ordered) each (f .complete p (omega (arith, s)) (in-series-row p (omega (arith, w)) (omega arith)) (L .must-period))
 
-    series-follow : (c : Trees A) → ComesAfter rows 12 (rowsTaken c) → Stand rows 1 (rowsTaken c) → InOrder rows (rowsTaken c) → EachConforms rows c → AllSeries c
+    series-follow : (c : Trees A) → ComesAfter rows (seriesAt L) (rowsTaken c) → Stand rows 1 (rowsTaken c) → InOrder rows (rowsTaken c) → EachConforms rows c → AllSeries c
     unfolding Stand rowsTaken ComesAfter InOrder EachConforms AllSeries
     series-follow none f s o each = tt
     series-follow (element q tag inner after) f s o each =
         let u = under-root q (s .0) (s .1) in
-        let e : q ≡ 12 = ⊎-elim (λ (g : 12 < q). absurd (omega (arith, g, u .1))) (λ g. g .0) f in (
+        let e : q ≡ seriesAt L = ⊎-elim (λ (g : (seriesAt L) < q). absurd (omega (arith, g, u .1))) (λ g. g .0) f in (
           e,
           inner-shape inner (subst (λ (i : ℕ). Fits rows i (rowsTaken inner)) e (each .0)) (each .1),
           series-follow after (subst (λ (i : ℕ). ComesAfter rows i (rowsTaken after)) e (o .0)) (s .2) (o .1) (each .2),
@@ -274,7 +280,7 @@ module _ (rows : List ℕ) (p : ℕ) (L : Layout rows p) where
       pub head : Trees A
       pub tail : Trees A
       pub is : c ≡ beside head tail
-      pub heads : Within (λ q. (1 < q) × (q < 12)) head
+      pub heads : Within (λ q. (1 < q) × (q < seriesAt L)) head
       pub all : AllSeries tail
 
     root-shape : (c : Trees A) → Stand rows 1 (rowsTaken c) → InOrder rows (rowsTaken c) → EachConforms rows c → RootShape c
@@ -282,7 +288,7 @@ module _ (rows : List ℕ) (p : ℕ) (L : Layout rows p) where
     root-shape none s o each = record { head = none; tail = none; is = refl; heads = tt; all = tt }
     root-shape (element q tag inner after) s o each =
         ⊎-elim
-        (λ (y : (q ≡ 12) × _).
+        (λ (y : (q ≡ seriesAt L) × _).
         record {
           head = none;
           tail = element q tag inner after;
@@ -294,10 +300,10 @@ module _ (rows : List ℕ) (p : ℕ) (L : Layout rows p) where
             series-follow after (subst (λ (i : ℕ). ComesAfter rows i (rowsTaken after)) (y .0) (o .0)) (s .2) (o .1) (each .2),
           );
         })
-        (λ (y : (q ≡ 12 → ⊥) × _).
+        (λ (y : (q ≡ seriesAt L → ⊥) × _).
         let u = under-root q (s .0) (s .1) in
         let w = L .wide in
-        let h : q < 12 = let z = up q (u .1) (λ e. y .0 (sym e)) in omega (arith, z) in
+        let h : q < seriesAt L = let z = up q (u .1) (λ e. y .0 (sym e)) in omega (arith, z) in
         let t = root-shape after (s .2) (o .1) (each .2) in
         let n = value-bare q inner (u .0) (y .0) (omega (arith, h, w)) (each .0 .stand) in
         record {
@@ -307,7 +313,7 @@ module _ (rows : List ℕ) (p : ℕ) (L : Layout rows p) where
           heads = ((u .0, h), tt, t .heads);
           all = t .all;
         })
-        (eqb-cases q 12)
+        (eqb-cases q (seriesAt L))
 
     -- ---- the document
 

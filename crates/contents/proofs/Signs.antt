@@ -5,6 +5,7 @@ use mathlib.Core.Path.{_≡_, refl, sym, ap, subst, _∙_}
 use mathlib.Core.List.{List, [], _∷_, _++_}
 use mathlib.Core.Bool.{Bool, true, false}
 use lib.ListN.{getD}
+use Rattle.items.specs.Parts.{spanOf}
 use Rattle.structure.specs.Rows.{nameOf, startOf, endOf, overOf}
 use Rattle.structure.specs.declared.Due.{Due}
 use Rattle.structure.specs.declared.Due.the-variants.{Row, NotDue}
@@ -14,7 +15,7 @@ use Rattle.states.specs.Moves.{entryOf}
 use Rattle.states.specs.declared.Room.{Room}
 use Rattle.states.specs.declared.Entry.{Entry}
 use Rattle.reader.specs.Items.{Placed}
-use Rattle.reader.specs.Rows.{spanOf, usedBefore}
+use Rattle.reader.specs.Rows.{usedBefore}
 use Rattle.reader.specs.Reading.{Tables}
 use Rattle.trees.specs.Trees.{Sign, Opens, Closes, Trees, none, element, spell}
 use Rattle.trees.specs.Cursor.{onRow, follows, rowAfter, openAfter}

@@ -13,29 +13,33 @@ use borrow.Author.Tests.{eq-eqb, ne-eqb, le-ltb, lt-leb, eqb-true}
 use Rattle.lists.proofs.Cases.{bool-cases, by-cond, eqb-cases, zero-not-one, both-true}
 use Rattle.characters.specs.Says.{says}
 use Rattle.trims.specs.Trim.{dropped}
-use Rattle.forms.specs.Forms.{fixedVersion}
 use Rattle.numbers.specs.Number.{numberOf}
 use Rattle.numbers.specs.declared.Number.{Number}
 use Rattle.numbers.specs.declared.Number.the-variants.{Is, NotNumber}
 use Rattle.times.specs.Times.{interval}
 use Rattle.times.specs.declared.Interval.{Interval}
 use Rattle.times.specs.declared.Interval.the-variants.{Minutes, NotInterval}
+use Rattle.slices.specs.Part.{partOf}
+use Rattle.slices.specs.Same.{same}
+use Rattle.slices.specs.declared.Span.{Span}
+use Rattle.tags.specs.declared.Dtd.{Dtd}
 use Rattle.items.specs.declared.Tag.{Tag}
 use Rattle.columns.specs.Columns.{formOf, collapsed, schemeOf, roleOf}
-use Rattle.guideline.specs.Kinds.{kindAt, takesAnother}
+use Rattle.guideline.specs.Kinds.{dtdVersion, dtdRelease, dtdMessage, kindAt, fixedFor, takesAnother}
+use Rattle.guideline.specs.declared.Demands.{Demands}
 use Rattle.rules.specs.Rules.{refused, periodFits, judgePeriodBy, judgePeriod, positionFits, judgePositionBy, judgePosition, judge}
 use Rattle.rules.specs.declared.Held.{Held}
 use Rattle.rules.specs.declared.Judged.{Judged}
-use Rattle.states.specs.Attributes.{attributesFit, there, agree, asksV, asksScheme, noOthers, valueOf, schemeRefusal, least, alsoScheme, judgeTag}
-use Rattle.states.specs.Moves.{heldOf, cutShort, tooMany, noRoom, halfOriginals, startJudged, placed, oneSeries, oneInterval, oneOriginal, lastPos, covering, kept, entered, entryOf, closedAt, endRefusal}
+use Rattle.states.specs.Attributes.{attributesFit, there, agree, asksV, asksScheme, demandsAt, meets, dtdFits, noOthers, valueOf, schemeRefusal, least, alsoScheme, valueFixed, dtdFixed, judgeTag}
+use Rattle.states.specs.Moves.{heldOf, cutShort, tooMany, noRoom, halfOriginals, startJudged, atRow, oneSeries, oneInterval, oneOriginal, lastPos, covering, kept, entered, entryOf, closedAt, endRefusal}
 use Rattle.states.specs.declared.State.{State}
 use Rattle.states.specs.declared.Room.{Room}
 use Rattle.states.proofs.Judgements.{Passed, passed-judged, judged-passed, series-room, interval-room}
 use Rattle.states.proofs.Judgements.{one-more}
 use Rattle.trees.proofs.Made.{both}
-use Rattle.contents.specs.Said.{Said, bytes}
-use Rattle.contents.specs.Spelled.{saidBy}
-use Rattle.contents.specs.Legal.{periodBy, quartersOf, positionBy, positionOf, sayings, attributesAgree, schemeFits, valueFits, elementFits}
+use Rattle.contents.specs.Said.{Absent, Given, TagSaid, bytes}
+use Rattle.contents.specs.Spelled.{valueGiven, dtdOfTag, saidOfTag}
+use Rattle.contents.specs.Legal.{periodBy, quartersOf, positionBy, positionOf, sayings, dtdAgrees, attributesAgree, fixedFits, rootFits, schemeFits, valueFits, elementFits}
 use Rattle.contents.proofs.Laid.{Layout}
 use Rattle.contents.proofs.Walk.{Tally, quartersIn, opened, Taken, Ended}
 use Rattle.contents.proofs.Fill.{stateOf}
@@ -49,30 +53,41 @@ chained true true false d = refl
 chained true false c d = refl
 chained false b c d = refl
 
+chained-three : (a b c : Bool) → cond a (cond b c false) false ≡ (a && b && c)
+chained-three true true c = refl
+chained-three true false c = refl
+chained-three false b c = refl
+
 opposite : (t : Bool) → cond t false true ≡ false → t ≡ true
 opposite true e = refl
 opposite false e = absurd (zero-not-one (cc))
 
 -- ---- the attributes of a tag, by where they stand and by what they are
 
-attributes-same : (w : ℕ) (t : Tag) (s : List ℕ) → attributesFit w t ≡ attributesAgree w (saidBy t s)
-unfolding attributesFit attributesAgree saidBy
-attributes-same w t s =
-    rw (given-there (t .v) s, given-there (t .coding) s, given-there (t .version) s)
-    (chained (agree (asksV w) (there (t .v))) (agree (asksScheme w) (there (t .coding))) (agree (eqb (roleOf w) 1) (there (t .version)))
+dtd-same : (demands : Demands) (d : Dtd) (s : List ℕ) → dtdFits demands d ≡ dtdAgrees demands (dtdOfTag d s)
+unfolding dtdFits dtdAgrees dtdOfTag
+dtd-same demands d s =
+    rw (given-there (d .version) s, given-there (d .release) s, given-there (d .message) s)
+    (chained-three (meets (demands .version) (there (d .version))) (meets (demands .release) (there (d .release))) (meets (demands .message) (there (d .message))))
+
+attributes-same : (kind w : ℕ) (t : Tag) (s : List ℕ) → attributesFit kind w t ≡ attributesAgree kind w (saidOfTag t s)
+unfolding attributesFit attributesAgree saidOfTag
+attributes-same kind w t s =
+    rw (given-there (t .v) s, given-there (t .coding) s, ← dtd-same (demandsAt kind w) (t .dtd) s)
+    (chained (agree (asksV w) (there (t .v))) (agree (asksScheme w) (there (t .coding))) (dtdFits (demandsAt kind w) (t .dtd))
     (noOthers w (t .others) (t .passable)))
 
 -- ---- what the reader judges of a tag's values, by what the tag says
 
-unfoldable judgedSaid : ℕ → Held → Said → Judged
+unfoldable judgedSaid : ℕ → Held → TagSaid → Judged
 judgedSaid w h u =
-    cond (eqb (roleOf w) 1) (cond (fixedVersion (says (bytes (u .version)))) (refused 0) (refused 6))
+    cond (eqb (roleOf w) 1) (cond (rootFits (h .kind) (u .dtd)) (refused 0) (refused 6))
     (cond (eqb (formOf w) 0) (refused 0)
     (alsoScheme (cond (schemeFits w u) 0 7) (judge (formOf w) h (sayings w u))))
 
 scheme-same : (w : ℕ) (t : Tag) (s : List ℕ) → agree (asksScheme w) (there (t .coding)) ≡ true
-    → schemeRefusal w (t .coding) s ≡ cond (schemeFits w (saidBy t s)) 0 7
-unfolding schemeRefusal schemeFits saidBy asksScheme
+    → schemeRefusal w (t .coding) s ≡ cond (schemeFits w (saidOfTag t s)) 0 7
+unfolding schemeRefusal schemeFits saidOfTag asksScheme
 scheme-same w t s h =
     ⊎-elim
     (λ y. rw (y .1))
@@ -80,18 +95,32 @@ scheme-same w t s h =
     (eqb-cases (schemeOf w) 0)
 
 value-same : (w : ℕ) (t : Tag) (s : List ℕ) → agree (asksV w) (there (t .v)) ≡ true → eqb (formOf w) 0 ≡ false
-    → says (valueOf w (t .v) s) ≡ sayings w (saidBy t s)
-unfolding valueOf sayings saidBy asksV
+    → says (valueOf w (t .v) s) ≡ sayings w (saidOfTag t s)
+unfolding valueOf sayings saidOfTag asksV
 value-same w t s h e = rw (there-bytes (t .v) s (asked-there (asksV w) (there (t .v)) h (rw e)))
 
-tag-judged : (w : ℕ) (t : Tag) (h : Held) (s : List ℕ) → attributesFit w t ≡ true → judgeTag w t h s ≡ judgedSaid w h (saidBy t s)
-unfolding judgeTag judgedSaid attributesFit saidBy
-tag-judged w t h s f =
+fixed-same : (kind attribute : ℕ) (x : Span) (s : List ℕ) → valueFixed kind attribute x s ≡ fixedFits kind attribute (valueGiven x s)
+unfolding valueFixed fixedFits valueGiven
+fixed-same kind attribute x s = by (there x)
+  where
+    by : (t : Bool)
+        → cond t (same (fixedFor kind attribute) (says (partOf s (x .start) (x .len)))) true ≡ fixedFits kind attribute (cond t (Given (partOf s (x .start) (x .len))) Absent)
+    by true = refl
+    by false = refl
+
+root-same : (kind : ℕ) (d : Dtd) (s : List ℕ) → dtdFixed kind d s ≡ rootFits kind (dtdOfTag d s)
+unfolding dtdFixed rootFits dtdOfTag
+root-same kind d s =
+    rw (fixed-same kind dtdVersion (d .version) s, fixed-same kind dtdRelease (d .release) s, fixed-same kind dtdMessage (d .message) s)
+    (chained-three (fixedFits kind dtdVersion (valueGiven (d .version) s)) (fixedFits kind dtdRelease (valueGiven (d .release) s)) (fixedFits kind dtdMessage (valueGiven (d .message) s)))
+
+tag-judged : (kind w : ℕ) (t : Tag) (h : Held) (s : List ℕ) → attributesFit kind w t ≡ true → judgeTag w t h s ≡ judgedSaid w h (saidOfTag t s)
+unfolding judgeTag judgedSaid attributesFit saidOfTag
+tag-judged kind w t h s f =
     let a = both-true (agree (asksV w) (there (t .v))) f in
     let b = both-true (agree (asksScheme w) (there (t .coding))) (a .1) in
-    let c = both-true (agree (eqb (roleOf w) 1) (there (t .version))) (b .1) in
     ⊎-elim
-    (λ y. rw (y .1, there-bytes (t .version) s (asked-there (eqb (roleOf w) 1) (there (t .version)) (c .0) (y .1))))
+    (λ y. rw (y .1, root-same (h .kind) (t .dtd) s))
     (λ y.
     rw (y .1)
     (⊎-elim
@@ -113,14 +142,14 @@ least-some n =
     (eqb-cases n 0)
 
 -- the values fit, v telling it of the value `v`
-abbrev valuesFit : ℕ → Said → Bool → Bool
-valuesFit w u v = cond (eqb (roleOf w) 1) (fixedVersion (says (bytes (u .version)))) (cond (eqb (formOf w) 0) true (schemeFits w u && v))
+abbrev valuesFit : ℕ → ℕ → TagSaid → Bool → Bool
+valuesFit kind w u v = cond (eqb (roleOf w) 1) (rootFits kind (u .dtd)) (cond (eqb (formOf w) 0) true (schemeFits w u && v))
 
-judged-values : (w : ℕ) (h : Held) (u : Said)
-    → eqb (judgedSaid w h u .number) 0 ≡ valuesFit w u (eqb (judge (formOf w) h (sayings w u) .number) 0)
+judged-values : (w : ℕ) (h : Held) (u : TagSaid)
+    → eqb (judgedSaid w h u .number) 0 ≡ valuesFit (h .kind) w u (eqb (judge (formOf w) h (sayings w u) .number) 0)
 unfolding judgedSaid alsoScheme
 judged-values w h u =
-    by (eqb (roleOf w) 1) (fixedVersion (says (bytes (u .version)))) (eqb (formOf w) 0) (schemeFits w u) (judge (formOf w) h (sayings w u))
+    by (eqb (roleOf w) 1) (rootFits (h .kind) (u .dtd)) (eqb (formOf w) 0) (schemeFits w u) (judge (formOf w) h (sayings w u))
   where
     by : (r v f c : Bool) (j : Judged)
         → eqb (cond r (cond v (refused 0) (refused 6)) (cond f (refused 0) (alsoScheme (cond c 0 7) j)) .number) 0 ≡ cond r v (cond f true (c && eqb (j .number) 0))
@@ -213,7 +242,7 @@ whole-originals x role f =
 
 -- ---- the values beside a tally
 
-module _ (kind k₀ r : ℕ) (o : Bool) (y : Tally) (w : ℕ) (u : Said) where
+module _ (kind k₀ r : ℕ) (o : Bool) (y : Tally) (w : ℕ) (u : TagSaid) where
   -- what the value `v` is held against
   abbrev held : Held
   held = heldOf (stateOf k₀ r o y) kind
@@ -244,7 +273,7 @@ module _ (kind k₀ r : ℕ) (o : Bool) (y : Tally) (w : ℕ) (u : Said) where
       rw (pos-judged e c) (position-judged kind (quartersIn y) (y .last) (numberOf (says (dropped (bytes (u .v)))) 5))
 
   -- a row with a `v` that is no root's
-  value-alone : (v : Bool) → (roleOf w ≡ 1 → ⊥) → (formOf w ≡ 0 → ⊥) → valuesFit w u v ≡ (schemeFits w u && v)
+  value-alone : (v : Bool) → (roleOf w ≡ 1 → ⊥) → (formOf w ≡ 0 → ⊥) → valuesFit kind w u v ≡ (schemeFits w u && v)
   value-alone v a b = rw (ne-eqb (roleOf w) 1 a, ne-eqb (formOf w) 0 b)
 
   value-kept : (roleOf w ≡ 1 → ⊥) → (formOf w ≡ 0 → ⊥)
@@ -253,8 +282,8 @@ module _ (kind k₀ r : ℕ) (o : Bool) (y : Tally) (w : ℕ) (u : Said) where
   value-kept a b = rw (ne-eqb (roleOf w) 1 a, ne-eqb (formOf w) 0 b) (refl, refl)
 
   module _ (pos-row : formOf w ≡ 9 → (collapsed w ≡ true) × (roleOf w ≡ 1 → ⊥)) where
-    values-fit : valuesFit w u (eqb (valueJudged .number) 0) ≡ true
-        → (valuesFit w u (valueFits kind (y .period) w u) ≡ true)
+    values-fit : valuesFit kind w u (eqb (valueJudged .number) 0) ≡ true
+        → (valuesFit kind w u (valueFits kind (y .period) w u) ≡ true)
         × (formOf w ≡ 9 → positionFits kind (quartersIn y) (y .last) (positionOf u) ≡ true)
     values-fit h =
         ⊎-elim
@@ -266,9 +295,9 @@ module _ (kind k₀ r : ℕ) (o : Bool) (y : Tally) (w : ℕ) (u : Said) where
         (λ (e : (formOf w ≡ 9 → ⊥) × (eqb (formOf w) 9 ≡ false)). (rw (other-fits (e .0)) h, λ z. absurd (e .0 z)))
         (eqb-cases (formOf w) 9)
 
-    fit-values : valuesFit w u (valueFits kind (y .period) w u) ≡ true
+    fit-values : valuesFit kind w u (valueFits kind (y .period) w u) ≡ true
         → (formOf w ≡ 9 → positionFits kind (quartersIn y) (y .last) (positionOf u) ≡ true)
-        → valuesFit w u (eqb (valueJudged .number) 0) ≡ true
+        → valuesFit kind w u (eqb (valueJudged .number) 0) ≡ true
     fit-values h turn =
         ⊎-elim
         (λ (e : (formOf w ≡ 9) × (eqb (formOf w) 9 ≡ true)).
@@ -290,34 +319,34 @@ record Alone (role : ℕ) : Type 0 where
   original : role ≡ 5 → ⊥
   pos : role ≡ 9 → ⊥
 
-module _ (kind k₀ r : ℕ) (o : Bool) (y : Tally) (q w : ℕ) (u : Said) (j : Judged) (within : Bool) where
+module _ (kind k₀ r : ℕ) (o : Bool) (y : Tally) (q w : ℕ) (u : TagSaid) (j : Judged) (within : Bool) where
   abbrev after : State
   after = entered (stateOf k₀ r o y) kind q w j within
 
   after-series : roleOf w ≡ 2 → (formOf w ≡ 6 → ⊥) → y .series < 4294967295 → after ≡ stateOf kind q within (opened w u y)
-  unfolding entered placed kept oneSeries stateOf
+  unfolding entered atRow kept oneSeries stateOf
   after-series e f l = rw (e, ne-eqb (formOf w) 6 f, one-more (y .series) l)
 
   after-period : roleOf w ≡ 3 → (formOf w ≡ 6 → ⊥) → after ≡ stateOf kind q within (opened w u y)
-  unfolding entered placed kept lastPos stateOf
+  unfolding entered atRow kept lastPos stateOf
   after-period e f = rw (e, ne-eqb (formOf w) 6 f)
 
   after-interval : roleOf w ≡ 4 → (formOf w ≡ 6 → ⊥) → y .intervals < 4294967295 → after ≡ stateOf kind q within (opened w u y)
-  unfolding entered placed kept oneInterval stateOf
+  unfolding entered atRow kept oneInterval stateOf
   after-interval e f l = rw (e, ne-eqb (formOf w) 6 f, one-more (y .intervals) l)
 
   after-original : roleOf w ≡ 5 → (formOf w ≡ 6 → ⊥) → y .originals < 4294967295 → after ≡ stateOf kind q within (opened w u y)
-  unfolding entered placed kept oneOriginal stateOf
+  unfolding entered atRow kept oneOriginal stateOf
   after-original e f l = rw (e, ne-eqb (formOf w) 6 f, one-more (y .originals) l)
 
   after-pos : roleOf w ≡ 9 → (formOf w ≡ 6 → ⊥) → j .first ≡ positionOf u → after ≡ stateOf kind q within (opened w u y)
-  unfolding entered placed kept lastPos stateOf
+  unfolding entered atRow kept lastPos stateOf
   after-pos e f l = rw (e, ne-eqb (formOf w) 6 f, l)
 
   after-covered : formOf w ≡ 6 → Alone (roleOf w)
       → (j .first ≡ periodBy (interval (says (bytes (u .v)))) .start) × (j .second ≡ periodBy (interval (says (bytes (u .v)))) .end)
       → after ≡ stateOf kind q within (opened w u y)
-  unfolding entered placed kept covering stateOf
+  unfolding entered atRow kept covering stateOf
   after-covered e a l =
       rw (
         ne-eqb (roleOf w) 2 (a .series),
@@ -332,7 +361,7 @@ module _ (kind k₀ r : ℕ) (o : Bool) (y : Tally) (q w : ℕ) (u : Said) (j : 
 
   after-other : eqb (roleOf w) 2 ≡ false → eqb (roleOf w) 3 ≡ false → eqb (roleOf w) 4 ≡ false → eqb (roleOf w) 5 ≡ false → eqb (roleOf w) 9 ≡ false
       → eqb (formOf w) 6 ≡ false → after ≡ stateOf kind q within (opened w u y)
-  unfolding entered placed kept stateOf
+  unfolding entered atRow kept stateOf
   after-other a b c d e f = rw (a, b, c, d, e, f)
 
   after-opened : (formOf w ≡ 6 → Alone (roleOf w)) → (roleOf w ≡ 9 → j .first ≡ positionOf u)
@@ -395,8 +424,8 @@ module _ (kind : ℕ) (rows : List ℕ) (p : ℕ) (L : Layout rows p) (room : Ro
     abbrev row : ℕ
     row = getD rows q 0
 
-    abbrev said : Said
-    said = saidBy tag s
+    abbrev said : TagSaid
+    said = saidOfTag tag s
 
     abbrev verdict : Judged
     verdict = startJudged (stateOf k₀ r o y) kind rows q tag s empty room
@@ -407,16 +436,16 @@ module _ (kind : ℕ) (rows : List ℕ) (p : ℕ) (L : Layout rows p) (room : Ro
     passed-values : Passed (stateOf k₀ r o y) kind rows q tag empty room → verdict ≡ values
     passed-values c =
         passed-judged (stateOf k₀ r o y) kind rows q tag s empty room c ∙
-        tag-judged row tag (heldOf (stateOf k₀ r o y) kind) s (c .attributes)
+        tag-judged kind row tag (heldOf (stateOf k₀ r o y) kind) s (c .attributes)
 
     pub judged-taken : verdict .number ≡ 0 → Taken kind room row said y × (cutShort empty rows q ≡ false)
-    unfolding elementFits stateOf
+    unfolding elementFits stateOf heldOf
     judged-taken h =
         let x = stateOf k₀ r o y in
         let c = judged-passed x kind rows q tag s empty room h in
         let n : values .number ≡ 0 = ap (λ (j : Judged). j .number) (sym (passed-values c)) ∙ h in
         let v = values-fit kind k₀ r o y row said (pos-row q inside) (sym (judged-values row (heldOf x kind) said) ∙ eq-eqb (values .number) 0 n) in
-        let a : attributesAgree row said ≡ true = sym (attributes-same row tag s) ∙ c .attributes in (
+        let a : attributesAgree kind row said ≡ true = sym (attributes-same kind row tag s) ∙ c .attributes in (
           record {
             fits = rw (a, v .0);
             turn = v .1;
@@ -428,9 +457,9 @@ module _ (kind : ℕ) (rows : List ℕ) (p : ℕ) (L : Layout rows p) (room : Ro
         )
 
     module _ (t : Taken kind room row said y) (whole : cutShort empty rows q ≡ false) where
-      taken-fits : (attributesAgree row said ≡ true) × (valuesFit row said (valueFits kind (y .period) row said) ≡ true)
+      taken-fits : (attributesAgree kind row said ≡ true) × (valuesFit kind row said (valueFits kind (y .period) row said) ≡ true)
       unfolding elementFits
-      taken-fits = both (attributesAgree row said) (valuesFit row said (valueFits kind (y .period) row said)) (t .fits)
+      taken-fits = both (attributesAgree kind row said) (valuesFit kind row said (valueFits kind (y .period) row said)) (t .fits)
 
       taken-values : verdict ≡ values
       unfolding stateOf
@@ -441,11 +470,11 @@ module _ (kind : ℕ) (rows : List ℕ) (p : ℕ) (L : Layout rows p) (room : Ro
             whole = whole;
             few = not-many x (roleOf row) kind (λ e. t .another e .0);
             free = has-room x (roleOf row) room (t .series) (λ e. t .another e .1);
-            attributes = attributes-same row tag s ∙ taken-fits .0;
+            attributes = attributes-same kind row tag s ∙ taken-fits .0;
             originals = whole-originals x (roleOf row) (t .originals);
           })
 
-      taken-value : valuesFit row said (eqb (valueJudged kind k₀ r o y row said .number) 0) ≡ true
+      taken-value : valuesFit kind row said (eqb (valueJudged kind k₀ r o y row said .number) 0) ≡ true
       taken-value = fit-values kind k₀ r o y row said (pos-row q inside) (taken-fits .1) (t .turn)
 
       taken-first : formOf row ≡ 9 → verdict .first ≡ positionOf said
@@ -474,6 +503,7 @@ module _ (kind : ℕ) (rows : List ℕ) (p : ℕ) (L : Layout rows p) (room : Ro
           × (formOf row ≡ 9 → verdict .first ≡ positionOf said)
           × (formOf row ≡ 6 → (verdict .first ≡ periodBy (interval (says (bytes (said .v)))) .start)
           × (verdict .second ≡ periodBy (interval (says (bytes (said .v)))) .end))
+      unfolding heldOf
       taken-judged =
           let n : values .number ≡ 0 = eqb-true (values .number) 0 (judged-values row (heldOf (stateOf k₀ r o y) kind) said ∙ taken-value) in
           (ap (λ (j : Judged). j .number) taken-values ∙ n, taken-first, taken-period)

@@ -1,9 +1,9 @@
 -- A document is accepted exactly where it spells a legal content; answer and tables are those of the content, and no other content is spelled.
 -- Assumes nothing.
-use Prim.Native.Nat.{ℕ, _+_, _≤_, _<_}
+use Prim.Native.Nat.{ℕ, _≤_, _<_}
 use mathlib.Core.Path.{_≡_, refl, sym, ap, subst, _∙_}
 use mathlib.Core.List.{List, _∷_, map}
-use mathlib.Core.Logic.{_⊎_, inl, inr, ⊎-elim}
+use mathlib.Core.Logic.{_⊎_, ⊎-elim}
 use mathlib.Core.Bool.{true, false}
 use native.Mathlib.Omega.{arith}
 use native.Mathlib.Nat.{zero-add}
@@ -12,12 +12,10 @@ use lib.ListN.{length, getD, length-replicate, take}
 use lib.IntN.{pos}
 use borrow.Author.Tests.{le-ltb}
 use Rattle.lists.proofs.Cases.{leb-cases, never}
-use Rattle.slices.specs.Same.{same}
-use Rattle.elements.specs.Names.{names, numberIn, elementNo}
 use Rattle.structure.specs.Rows.{nameOf}
 use Rattle.prolog.specs.Prolog.{begin}
 use Rattle.prolog.specs.declared.Begin.{Begin}
-use Rattle.prolog.specs.declared.Begin.the-variants.{From, Unreadable}
+use Rattle.prolog.specs.declared.Begin.the-variants.{From, Misdeclared}
 use Rattle.guideline.specs.Kinds.{kindOf}
 use Rattle.guideline.specs.Rows.{rowsOf}
 use Rattle.states.specs.Moves.{begun}
@@ -29,11 +27,11 @@ use Rattle.reader.proofs.Sheets.{into-items, sheet-taken, read-noted}
 use Rattle.trees.specs.Trees.{Sign, Opens, Trees, none, spell, Conforms}
 use Rattle.trees.specs.Cursor.{rowAfter, openAfter}
 use Rattle.trees.proofs.Theorems.{one-tree}
-use Rattle.contents.specs.Said.{Said}
-use Rattle.contents.specs.Spelled.{signsOf, Spells, Alike}
+use Rattle.contents.specs.Said.{TagSaid}
+use Rattle.contents.specs.Spelled.{signsOf, Spells, SpellAlike}
 use Rattle.contents.specs.Legal.{periodOf, quartersOf, Legal, HasRoom}
 use Rattle.contents.specs.Shown.{sum, eachSeries, intervalCounts, Shows, RowShows, Tells, SameButPlaces}
-use Rattle.series.specs.Row.{isView, cellsOf, rowsIn, fieldAt, view}
+use Rattle.series.specs.Row.{isView, cellsOf, roomFor, fieldAt, view}
 use Rattle.series.specs.declared.Field.{Field}
 use Rattle.series.specs.declared.Field.the-variants.{Identification, Object, BusinessType, Direction, Area, FirstRow, Count}
 use Rattle.series.proofs.Rows.{rows-fit}
@@ -61,11 +59,11 @@ unfolding roomOf
 room-cells ns np na n m a b =
     ⊎-elim
     (λ (y : (np ≤ na) × (leb np na ≡ true)).
-    let c : n ≤ rowsIn ns = rw (y .1) at a in
+    let c : n ≤ roomFor ns = rw (y .1) at a in
     let d : m ≤ np = rw (y .1) at b in
     (rows-fit n ns c, d, omega (arith, d, y .0)))
     (λ (y : (na < np) × (leb np na ≡ false)).
-    let c : n ≤ rowsIn ns = rw (y .1) at a in
+    let c : n ≤ roomFor ns = rw (y .1) at a in
     let d : m ≤ na = rw (y .1) at b in
     (rows-fit n ns c, omega (arith, d, y .0), d))
     (leb-cases np na)
@@ -98,11 +96,11 @@ module _ (doc : List ℕ) (ns np na nb : ℕ) (wide : 16 ≤ nb) (small : length
   accepted-from : (b : Begin) → begin doc ≡ b → readInto doc (blank ns np na) .found .refusal ≡ 0 → (n : ℕ) × (begin doc ≡ From n) × (read n .found .refusal ≡ 0)
   unfolding readInto readAfter refusedAt
   accepted-from (From n) e z = (n, e, ap (λ (o : Out). o .found .refusal) (sym (into n e)) ∙ z)
-  accepted-from (Unreadable p) e z = let u : _≡_ {A = ℕ} 2 0 = rw e at z in absurd (omega (arith, u))
+  accepted-from (Misdeclared p) e z = let u : _≡_ {A = ℕ} 2 0 = rw e at z in absurd (omega (arith, u))
 
   -- ---- accepted documents spell legal contents
 
-  pub accepted-legal : readOf doc ns np na nb .answer .refusal ≡ 0 → (kind : ℕ) × (c : Trees Said) × Spells doc kind c × Legal kind c × HasRoom room kind c
+  pub accepted-legal : readOf doc ns np na nb .answer .refusal ≡ 0 → (kind : ℕ) × (c : Trees TagSaid) × Spells doc kind c × Legal kind c × HasRoom room kind c
   accepted-legal z =
       let g = accepted-from (begin doc) refl (sym outcome-refusal ∙ z) in
       let n = g .0 in
@@ -172,7 +170,7 @@ module _ (doc : List ℕ) (ns np na nb : ℕ) (wide : 16 ≤ nb) (small : length
               (shows kind rows (l .period) (l .layout) (l .valued) doc ns np na kids (r .conforms) (r .stands) (each-given kind _ rows kids (rules .elements)) (m .0) (m .1) (m .2));
         }
 
-  pub legal-accepted : (kind : ℕ) (c : Trees Said) → Spells doc kind c → Legal kind c → HasRoom room kind c → Tells doc (readOf doc ns np na nb) kind c
+  pub legal-accepted : (kind : ℕ) (c : Trees TagSaid) → Spells doc kind c → Legal kind c → HasRoom room kind c → Tells doc (readOf doc ns np na nb) kind c
   legal-accepted kind c s g h =
       let rows = rowsOf kind in
       let n = s .from in
@@ -202,18 +200,18 @@ module _ (doc : List ℕ) (ns np na nb : ℕ) (wide : 16 ≤ nb) (small : length
 -- ---- there is one content
 
 -- the first tag of a content that conforms is its root's
-first-tag : (kind : ℕ) → Known kind → (c : Trees Said) → Conforms (rowsOf kind) 0 c
-    → (s : Said) × (rest : List (Sign Said)) × (spell (rowsOf kind) c ≡ Opens s (nameOf (getD (rowsOf kind) 1 0)) ∷ rest)
+first-tag : (kind : ℕ) → Known kind → (c : Trees TagSaid) → Conforms (rowsOf kind) 0 c
+    → (s : TagSaid) × (rest : List (Sign TagSaid)) × (spell (rowsOf kind) c ≡ Opens s (nameOf (getD (rowsOf kind) 1 0)) ∷ rest)
 unfolding spell
 first-tag kind known c conforms =
     let l = laid kind known in
     let d = document-shape (rowsOf kind) (l .period) (l .layout) c conforms in
     (d .tag, _, ap (spell (rowsOf kind)) (d .is))
 
-opened-name : (s u : Said) (n m : ℕ) (l k : List (Sign Said)) → Opens s n ∷ l ≡ Opens u m ∷ k → n ≡ m
+opened-name : (s u : TagSaid) (n m : ℕ) (l k : List (Sign TagSaid)) → Opens s n ∷ l ≡ Opens u m ∷ k → n ≡ m
 opened-name s u n m l k e = cc
 
-same-names : (kind other : ℕ) → Known kind → Known other → (c d : Trees Said) → Conforms (rowsOf kind) 0 c → Conforms (rowsOf other) 0 d
+same-names : (kind other : ℕ) → Known kind → Known other → (c d : Trees TagSaid) → Conforms (rowsOf kind) 0 c → Conforms (rowsOf other) 0 d
     → spell (rowsOf kind) c ≡ spell (rowsOf other) d → nameOf (getD (rowsOf kind) 1 0) ≡ nameOf (getD (rowsOf other) 1 0)
 same-names kind other k o c d a b e =
     let f = first-tag kind k c a in
@@ -228,20 +226,20 @@ begins-once : (doc : List ℕ) (n m : ℕ) → begin doc ≡ From n → begin do
 begins-once doc n m a b = let e : From n ≡ From m = sym a ∙ b in cc
 
 -- "the content unambiguous": a document spells no two legal contents
-pub one-content : (doc : List ℕ) (kind other : ℕ) (c d : Trees Said) → Spells doc kind c → Spells doc other d → Legal kind c → Legal other d
+pub one-content : (doc : List ℕ) (kind other : ℕ) (c d : Trees TagSaid) → Spells doc kind c → Spells doc other d → Legal kind c → Legal other d
     → (kind ≡ other) × (c ≡ d)
 one-content doc kind other c d s u g h =
     let f = begins-once doc (s .from) (u .from) (s .begins) (u .begins) in
     let e : spell (rowsOf kind) c ≡ spell (rowsOf other) d = sym (s .tags) ∙ ap (λ n. signsOf (itemsFrom doc n)) f ∙ u .tags in
     let k = same-kind kind other (g .known) (h .known) (same-names kind other (g .known) (h .known) c d (g .conforms) (h .conforms) e) in (
       k,
-      one-tree Said (rowsOf other) (laid other (h .known) .layout .well) c d (subst (λ (i : ℕ). Conforms (rowsOf i) 0 c) k (g .conforms)) (h .conforms)
+      one-tree TagSaid (rowsOf other) (laid other (h .known) .layout .well) c d (subst (λ (i : ℕ). Conforms (rowsOf i) 0 c) k (g .conforms)) (h .conforms)
           (ap (λ (i : ℕ). spell (rowsOf i) c) (sym k) ∙ e),
     )
 
 -- ---- what may differ
 
-alike-spells : (x y : List ℕ) → Alike x y → (kind : ℕ) (c : Trees Said) → Spells x kind c → Spells y kind c
+alike-spells : (x y : List ℕ) → SpellAlike x y → (kind : ℕ) (c : Trees TagSaid) → Spells x kind c → Spells y kind c
 alike-spells x y a kind c s =
     record {
       from = a .other-from;
@@ -250,7 +248,7 @@ alike-spells x y a kind c s =
       tags = sym (a .tags) ∙ ap (λ n. signsOf (itemsFrom x n)) (begins-once x (a .from) (s .from) (a .begins) (s .begins)) ∙ s .tags;
     }
 
-module _ (x y : List ℕ) (o u : Outcome) (kind : ℕ) (c : Trees Said) (t : Tells x o kind c) (v : Tells y u kind c) where
+module _ (x y : List ℕ) (o u : Outcome) (kind : ℕ) (c : Trees TagSaid) (t : Tells x o kind c) (v : Tells y u kind c) where
   abbrev Row : List ℕ → Outcome → ℕ → Type 0
   Row doc r i =
       RowShows doc (r .tables .series) (rowsOf kind) i (getD (eachSeries (rowsOf kind) c) i none)
@@ -286,7 +284,7 @@ module _ (x y : List ℕ) (o u : Outcome) (kind : ℕ) (c : Trees Said) (t : Tel
       }
 
 -- "white text, comments, quotes, attribute order and the choice between an empty tag and a start with an end change nothing but places"
-pub nothing-but-places : (x y : List ℕ) (ns np na nb : ℕ) → 16 ≤ nb → length x ≤ 1048576 → length y ≤ 1048576 → Alike x y
+pub nothing-but-places : (x y : List ℕ) (ns np na nb : ℕ) → 16 ≤ nb → length x ≤ 1048576 → length y ≤ 1048576 → SpellAlike x y
     → readOf x ns np na nb .answer .refusal ≡ 0 → SameButPlaces x (readOf x ns np na nb) y (readOf y ns np na nb)
 nothing-but-places x y ns np na nb w a b l z =
     let g = accepted-legal x ns np na nb w a z in

@@ -9,9 +9,10 @@ use native.Mathlib.Omega.{arith}
 use lib.Dec.{eqb}
 use lib.ListN.{length, getD, length-replicate}
 use borrow.Author.Tests.{eq-eqb, ne-eqb, eqb-false}
+use Rattle.items.specs.Parts.{spanOf}
 use Rattle.lists.proofs.Cases.{eqb-cases, past-cond}
 use Rattle.slices.specs.Same.{same}
-use Rattle.tags.specs.declared.Span.{Span}
+use Rattle.slices.specs.declared.Span.{Span}
 use Rattle.columns.specs.Columns.{roleOf}
 use Rattle.states.specs.Attributes.{there}
 use Rattle.states.specs.Moves.{entryOf}
@@ -19,13 +20,13 @@ use Rattle.reader.specs.Items.{Placed}
 use Rattle.series.specs.Row.{cellsOf, cellAt, view}
 use Rattle.series.specs.declared.Field.the-variants.{Identification}
 use Rattle.series.proofs.Rows.{view-as}
-use Rattle.reader.specs.Rows.{broughtBy, spanOf, used, usedIn, usedWith, usedBefore}
+use Rattle.reader.specs.Rows.{broughtBy, used, usedIn, usedWith, usedBefore}
 use Rattle.reader.specs.Reading.{Tables, blank, tablesAfter}
 use Rattle.trees.specs.Trees.{Trees, none, element, rowsTaken, Stand, Fits, EachConforms, Conforms}
-use Rattle.contents.specs.Said.{Said, bytes}
+use Rattle.contents.specs.Said.{TagSaid, bytes}
 use Rattle.contents.specs.Legal.{hasRole, those, positionOf, All, isAmong, Apart, identifications}
 use Rattle.contents.proofs.Lists.{zero-all, all-both, joined, all-change}
-use Rattle.contents.proofs.Laid.{Layout, Valued}
+use Rattle.contents.proofs.Laid.{Layout, seriesAt, Valued}
 use Rattle.contents.proofs.Elements.{own, mapped-parts}
 use Rattle.contents.proofs.Shape.{later, document-shape}
 use Rattle.contents.proofs.Walk.{Tally, nothing, opened, walked}
@@ -37,7 +38,7 @@ use Rattle.contents.proofs.Series.{step-effect, no-series, inside}
 use Rattle.contents.proofs.Rows.{tallyIn, tablesIn, tallyOut, tablesOut, opened-series, opened-before, opened-size, rowed, untouched, once-in, more-series, those-plain, those-after}
 use Rattle.contents.proofs.Shown.{root-those, root-role, root-tally, root-cells}
 
-abbrev valueBytes : Said → List ℕ
+abbrev valueBytes : TagSaid → List ℕ
 valueBytes s = bytes (s .v)
 
 -- ---- no two are the same
@@ -153,7 +154,7 @@ ids-parts rows q x inner after = mapped-parts rows valueBytes (hasRole 8) q (sai
 module _ (kind : ℕ) (rows : List ℕ) (p : ℕ) (L : Layout rows p) (W : Valued rows) (doc : List ℕ) where
   -- ---- in a series
 
-  inside-unused : (kids : Trees Placed) (h i : ℕ) (y : Tally) (t : Tables) → 12 ≤ h → h < length rows → Stand rows h (rowsTaken kids) → EachConforms rows kids
+  inside-unused : (kids : Trees Placed) (h i : ℕ) (y : Tally) (t : Tables) → seriesAt L ≤ h → h < length rows → Stand rows h (rowsTaken kids) → EachConforms rows kids
       → Stands doc kids → HasValues rows kids → y .series ≡ suc i → cellsOf (i + 1) ≤ length (t .series)
       → Unused doc kind rows kids y t ↔ All (NotUsed doc (t .series) i) (identifications rows (saying kids))
   unfolding Unused rowsTaken Stand EachConforms Stands HasValues saying identifications those All tablesAfter
@@ -185,7 +186,7 @@ module _ (kind : ℕ) (rows : List ℕ) (p : ℕ) (L : Layout rows p) (W : Value
       (λ z. ((λ u. sym (keep z) ∙ u), (λ u. keep z ∙ u)))
       (λ z. ((λ u. sym (keep₂ z ∙ keep z) ∙ u), (λ u. keep₂ z ∙ keep z ∙ u)))
 
-  within-unused : (q : ℕ) (x : Placed) (inner : Trees Placed) (y : Tally) (t : Tables) (past : List (List ℕ)) (id : Said) → q ≡ 12 → q < length rows
+  within-unused : (q : ℕ) (x : Placed) (inner : Trees Placed) (y : Tally) (t : Tables) (past : List (List ℕ)) (id : TagSaid) → q ≡ seriesAt L → q < length rows
       → Fits rows q (rowsTaken inner) → EachConforms rows inner → Stands doc inner → HasValues rows inner → cellsOf (y .series + 1) ≤ length (t .series)
       → those (hasRole 8) rows (saying inner) ≡ id ∷ [] → Knows doc (t .series) (y .series) past
       → Unused doc kind rows inner (opened (getD rows q 0) (saidOf x) y) (tablesWith kind rows q x (opened (getD rows q 0) (saidOf x) y) t) ↔ (isAmong (valueBytes id) past ≡ false)
@@ -206,9 +207,9 @@ module _ (kind : ℕ) (rows : List ℕ) (p : ℕ) (L : Layout rows p) (W : Value
   -- ---- beside the series
 
   -- the identification of a series that says one
-  id-shown : (s : Trees Said) {v : List ℕ} (id : Said) → those (hasRole 8) rows s ≡ id ∷ [] → v ≡ lastOf [] (saidFor rows s Identification) → v ≡ valueBytes id
+  id-shown : (s : Trees TagSaid) {v : List ℕ} (id : TagSaid) → those (hasRole 8) rows s ≡ id ∷ [] → v ≡ lastOf [] (saidFor rows s Identification) → v ≡ valueBytes id
   unfolding saidFor
-  id-shown s id o e = e ∙ ap (λ (l : List Said). lastOf [] (map valueBytes l)) o
+  id-shown s id o e = e ∙ ap (λ (l : List TagSaid). lastOf [] (map valueBytes l)) o
 
   -- no identification is brought by a row that has another role
   step-none : (q : ℕ) (x : Placed) (y : Tally) (t : List ℕ) → eqb (roleOf (getD rows q 0)) 8 ≡ false
@@ -229,7 +230,7 @@ module _ (kind : ℕ) (rows : List ℕ) (p : ℕ) (L : Layout rows p) (W : Value
         (λ u. (none-used, rw e tt, rw e (h .1 (subst (NoneBefore past) (sym l) u)))),
       )
 
-  series-unused : (q : ℕ) (x : Placed) (inner after : Trees Placed) (y : Tally) (t : Tables) (past : List (List ℕ)) (id : Said) → eqb (roleOf (getD rows q 0)) 8 ≡ false
+  series-unused : (q : ℕ) (x : Placed) (inner after : Trees Placed) (y : Tally) (t : Tables) (past : List (List ℕ)) (id : TagSaid) → eqb (roleOf (getD rows q 0)) 8 ≡ false
       → those (hasRole 8) rows (saying inner) ≡ id ∷ []
       → Unused doc kind rows inner (opened (getD rows q 0) (saidOf x) y) (tablesWith kind rows q x (opened (getD rows q 0) (saidOf x) y) t) ↔ (isAmong (valueBytes id) past ≡ false)
       → Unused doc kind rows after (walked rows (saying inner) (opened (getD rows q 0) (saidOf x) y))
@@ -284,7 +285,7 @@ module _ (kind : ℕ) (rows : List ℕ) (p : ℕ) (L : Layout rows p) (W : Value
       (beside-unused after y₁ t₁ past (s .2) (c .2) (d .3) (g .2) (omega (arith, more, room, u, v))
       (λ j l. ap (λ (z : List ℕ). getD z j 0) (b .cells) ∙ blank j (omega (arith, l, u)))
       (λ z. ap (λ (l : List ℕ). used doc l (y₁ .series) z) (b .cells) ∙ ap (λ (m : ℕ). used doc (t .series) m z) (b .series) ∙ k z)))
-      (eqb-cases q 12)
+      (eqb-cases q (seriesAt L))
 
 module _ (kind : ℕ) (rows : List ℕ) (p : ℕ) (L : Layout rows p) (W : Valued rows) (doc : List ℕ) (ns np na : ℕ) where
   root-unused : (x : Placed) (inner : Trees Placed) → Conforms rows 0 (element 1 x inner none) → Stands doc (element 1 x inner none)

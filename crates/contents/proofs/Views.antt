@@ -7,17 +7,18 @@ use mathlib.Core.Bool.{Bool, true, false, cond}
 use native.Mathlib.Omega.{arith}
 use lib.ListN.{length, take, drop}
 use lib.Seq.{take-take, drop-drop}
+use Rattle.items.specs.Parts.{spanOf}
 use Rattle.slices.specs.Run.{run}
-use Rattle.attributes.specs.Attribute.{partOf}
+use Rattle.slices.specs.Part.{partOf}
 use Rattle.trims.specs.Trim.{space, dropped}
 use Rattle.trims.proofs.Trails.{part-place}
-use Rattle.tags.specs.declared.Span.{Span}
+use Rattle.slices.specs.declared.Span.{Span}
 use Rattle.states.specs.Attributes.{there}
 use Rattle.reader.specs.Items.{Placed}
 use Rattle.series.specs.Row.{cellAt, withView, view}
 use Rattle.series.specs.declared.Field.{Field}
 use Rattle.series.proofs.Rows.{view-shown}
-use Rattle.reader.specs.Rows.{spanOf, quoted}
+use Rattle.reader.specs.Rows.{quoted}
 use Rattle.reader.proofs.Spans.{dropped-in, quoted-le}
 use Rattle.contents.specs.Said.{bytes}
 use Rattle.contents.proofs.Fill.{saidOf}

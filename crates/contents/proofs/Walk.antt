@@ -16,7 +16,7 @@ use Rattle.guideline.specs.Kinds.{takesAnother}
 use Rattle.states.specs.Moves.{countRefusal}
 use Rattle.states.specs.declared.Room.{Room}
 use Rattle.trees.specs.Trees.{Trees, none, element}
-use Rattle.contents.specs.Said.{Said, bytes}
+use Rattle.contents.specs.Said.{TagSaid, bytes}
 use Rattle.contents.specs.Legal.{Period, periodBy, positionOf, elementFits}
 
 -- what is counted and kept so far: of the reading state all but its kind, its row and what follows from the period
@@ -35,7 +35,7 @@ abbrev pub quartersIn : Tally → ℕ
 quartersIn y = quarterHours (y .period .start) (y .period .end)
 
 -- after the start tag of an element of row w
-abbrev pub opened : ℕ → Said → Tally → Tally
+abbrev pub opened : ℕ → TagSaid → Tally → Tally
 opened w s y =
     record {
       series = cond (eqb (roleOf w) 2) (y .series + 1) (y .series);
@@ -46,12 +46,12 @@ opened w s y =
       originals = cond (eqb (roleOf w) 2) 0 (cond (eqb (roleOf w) 5) (y .originals + 1) (y .originals));
     }
 
-unfoldable pub walked : List ℕ → Trees Said → Tally → Tally
+unfoldable pub walked : List ℕ → Trees TagSaid → Tally → Tally
 walked rows none y = y
 walked rows (element q s inner after) y = walked rows after (walked rows inner (opened (getD rows q 0) s y))
 
 -- what a start tag of row w has to pass
-pub record Taken (kind : ℕ) (room : Room) (w : ℕ) (s : Said) (y : Tally) : Type 0 where
+pub record Taken (kind : ℕ) (room : Room) (w : ℕ) (s : TagSaid) (y : Tally) : Type 0 where
   pub fits : elementFits kind (y .period) w s ≡ true
   pub turn : formOf w ≡ 9 → positionFits kind (quartersIn y) (y .last) (positionOf s) ≡ true
   pub series : roleOf w ≡ 2 → y .series < room .series
@@ -62,7 +62,7 @@ pub record Taken (kind : ℕ) (room : Room) (w : ℕ) (s : Said) (y : Tally) : T
 abbrev pub Ended : ℕ → ℕ → Tally → Type 0
 Ended kind w y = roleOf w ≡ 3 → countRefusal kind (quartersIn y) (y .intervals - y .first) ≡ 0
 
-unfoldable pub Passes : ℕ → Room → List ℕ → Trees Said → Tally → Type 0
+unfoldable pub Passes : ℕ → Room → List ℕ → Trees TagSaid → Tally → Type 0
 Passes kind room rows none y = Unit {0}
 Passes kind room rows (element q s inner after) y =
     let w = getD rows q 0 in

@@ -11,7 +11,6 @@ use Rattle.slices.specs.Same.{same}
 use Rattle.characters.specs.Says.{says}
 use Rattle.trims.specs.Trim.{dropped}
 use Rattle.codes.specs.Lists.{listed, codesOf}
-use Rattle.forms.specs.Forms.{fixedVersion}
 use Rattle.numbers.specs.Number.{numberOf}
 use Rattle.numbers.specs.declared.Number.{Number}
 use Rattle.numbers.specs.declared.Number.the-variants.{Is, NotNumber}
@@ -21,12 +20,13 @@ use Rattle.times.specs.declared.Interval.{Interval}
 use Rattle.times.specs.declared.Interval.the-variants.{Minutes, NotInterval}
 use Rattle.rules.specs.Rules.{judge, positionFits}
 use Rattle.columns.specs.Columns.{formOf, collapsed, schemeOf, roleOf, noForm, periodForm, posForm, noScheme, byList, rootRole, seriesRole, intervalRole, originalRole, seriesIdRole, posRole}
-use Rattle.guideline.specs.Kinds.{kindAt, isKind, withinMost, hasEnough}
+use Rattle.guideline.specs.Kinds.{dtdVersion, dtdRelease, dtdMessage, kindAt, fixedFor, isKind, withinMost, hasEnough}
 use Rattle.guideline.specs.Rows.{rowsOf}
-use Rattle.states.specs.Attributes.{agree, asksV, asksScheme, noOthers}
+use Rattle.guideline.specs.declared.Demands.{Demands}
+use Rattle.states.specs.Attributes.{agree, asksV, asksScheme, demandsAt, meets, noOthers}
 use Rattle.states.specs.declared.Room.{Room}
 use Rattle.trees.specs.Trees.{Trees, none, element, Conforms}
-use Rattle.contents.specs.Said.{Said, given, bytes}
+use Rattle.contents.specs.Said.{AttributeValue, Absent, Given, DtdSaid, TagSaid, given, bytes}
 
 -- ---- the elements of a content
 
@@ -51,7 +51,7 @@ inEach test rows (element r tag inner after) =
 -- ---- what values say
 
 -- "Where the guideline says collapse, leading and trailing spaces are dropped; where it says preserve, or says nothing, none are."
-unfoldable pub sayings : ℕ → Said → List ℕ
+unfoldable pub sayings : ℕ → TagSaid → List ℕ
 sayings w s = says (cond (collapsed w) (dropped (bytes (s .v))) (bytes (s .v)))
 
 -- from one minute to another
@@ -64,11 +64,11 @@ periodBy (Minutes from to) = record { start = from; end = to }
 periodBy NotInterval = record { start = 0; end = 0 }
 
 -- TimePeriodCovered, of which a conforming content has one
-unfoldable pub periodIn : Period → List Said → Period
+unfoldable pub periodIn : Period → List TagSaid → Period
 periodIn p [] = p
 periodIn p (s ∷ ss) = periodIn (periodBy (interval (says (bytes (s .v))))) ss
 
-unfoldable pub periodOf : List ℕ → Trees Said → Period
+unfoldable pub periodOf : List ℕ → Trees TagSaid → Period
 periodOf rows c = periodIn (record { start = 0; end = 0 }) (those (hasForm periodForm) rows c)
 
 -- "N is TimePeriodCovered's length divided by 15 minutes"
@@ -80,32 +80,45 @@ unfoldable pub positionBy : Number → ℕ
 positionBy (Is p) = p
 positionBy NotNumber = 0
 
-unfoldable pub positionOf : Said → ℕ
+unfoldable pub positionOf : TagSaid → ℕ
 positionOf s = positionBy (numberOf (says (dropped (bytes (s .v)))) 5)
 
 -- ---- the rules of one element
 
+-- the attributes that a root may have are as its kind asks
+unfoldable pub dtdAgrees : Demands → DtdSaid → Bool
+dtdAgrees demands d =
+    meets (demands .version) (given (d .version)) && meets (demands .release) (given (d .release)) && meets (demands .message) (given (d .message))
+
 -- "5: attribute missing or unknown": those of the row are there, and no others
-unfoldable pub attributesAgree : ℕ → Said → Bool
-attributesAgree w s =
-    agree (asksV w) (given (s .v)) && agree (asksScheme w) (given (s .scheme)) && agree (hasRole rootRole w) (given (s .version)) &&
+unfoldable pub attributesAgree : ℕ → ℕ → TagSaid → Bool
+attributesAgree kind w s =
+    agree (asksV w) (given (s .v)) && agree (asksScheme w) (given (s .scheme)) && dtdAgrees (demandsAt kind w) (s .dtd) &&
     noOthers w (s .others) (s .passable)
 
 -- codingScheme, which is collapsed in every row that has it, by its code list
-unfoldable pub schemeFits : ℕ → Said → Bool
+unfoldable pub schemeFits : ℕ → TagSaid → Bool
 schemeFits w s = cond (eqb (schemeOf w) noScheme) true (listed (codesOf (schemeOf w - byList)) (says (dropped (bytes (s .scheme)))))
 
 -- `v` by its form or code list, and beside the period: "TimeInterval equals TimePeriodCovered". Pos is held against the one before it, below
-unfoldable pub valueFits : ℕ → Period → ℕ → Said → Bool
+unfoldable pub valueFits : ℕ → Period → ℕ → TagSaid → Bool
 valueFits kind p w s =
     cond (hasForm posForm w) true
     (eqb (judge (formOf w) (record { kind = kind; from = p .start; to = p .end; quarters = quartersOf p; last = 0 }) (sayings w s) .number) 0)
 
--- the root has its fixed version; elsewhere an element with a `v` has it by its form, and its codingScheme
-unfoldable pub elementFits : ℕ → Period → ℕ → Said → Bool
+-- an attribute of the root that is there has its "fixed value", of which nothing is dropped
+unfoldable pub fixedFits : ℕ → ℕ → AttributeValue → Bool
+fixedFits kind attribute Absent = true
+fixedFits kind attribute (Given b) = same (fixedFor kind attribute) (says b)
+
+unfoldable pub rootFits : ℕ → DtdSaid → Bool
+rootFits kind d = fixedFits kind dtdVersion (d .version) && fixedFits kind dtdRelease (d .release) && fixedFits kind dtdMessage (d .message)
+
+-- the root has its fixed values; elsewhere an element with a `v` has it by its form, and its codingScheme
+unfoldable pub elementFits : ℕ → Period → ℕ → TagSaid → Bool
 elementFits kind p w s =
-    attributesAgree w s &&
-    cond (hasRole rootRole w) (fixedVersion (says (bytes (s .version)))) (cond (eqb (formOf w) noForm) true (schemeFits w s && valueFits kind p w s))
+    attributesAgree kind w s &&
+    cond (hasRole rootRole w) (rootFits kind (s .dtd)) (cond (eqb (formOf w) noForm) true (schemeFits w s && valueFits kind p w s))
 
 -- each element of a content passes a test of its row and of what it says
 unfoldable pub Each : {A : Type 0} → (ℕ → A → Bool) → List ℕ → Trees A → Type 0
@@ -124,7 +137,7 @@ unfoldable pub countFits : ℕ → ℕ → ℕ → Bool
 countFits kind quarters n = hasEnough kind n && withinMost kind n && cond (kindAt kind .full) (eqb n quarters) true
 
 -- what stands in a series
-pub record SeriesFits (kind quarters : ℕ) (rows : List ℕ) (c : Trees Said) : Type 0 where
+pub record SeriesFits (kind quarters : ℕ) (rows : List ℕ) (c : Trees TagSaid) : Type 0 where
   pub positions : inTurn kind quarters 0 (map positionOf (those (hasRole posRole) rows c)) ≡ true
   pub intervals : countFits kind quarters (length (those (hasRole intervalRole) rows c)) ≡ true
   -- "The five Original elements are all there or all absent"
@@ -146,11 +159,11 @@ unfoldable pub Apart : List (List ℕ) → Type 0
 Apart [] = Unit {0}
 Apart (x ∷ xs) = (isAmong x xs ≡ false) × Apart xs
 
-unfoldable pub identifications : List ℕ → Trees Said → List (List ℕ)
-identifications rows c = map (λ (s : Said). bytes (s .v)) (those (hasRole seriesIdRole) rows c)
+unfoldable pub identifications : List ℕ → Trees TagSaid → List (List ℕ)
+identifications rows c = map (λ (s : TagSaid). bytes (s .v)) (those (hasRole seriesIdRole) rows c)
 
 -- A content that meets every rule of its kind.
-pub record Legal (kind : ℕ) (c : Trees Said) : Type 0 where
+pub record Legal (kind : ℕ) (c : Trees TagSaid) : Type 0 where
   pub known : isKind kind ≡ true
   -- "element order, how often each may come"
   pub conforms : Conforms (rowsOf kind) 0 c
@@ -160,6 +173,6 @@ pub record Legal (kind : ℕ) (c : Trees Said) : Type 0 where
   pub apart : Apart (identifications (rowsOf kind) c)
 
 -- "Room becomes the table length divided by 12.", "room is the shorter length": the rows of a content have room
-pub record HasRoom (room : Room) (kind : ℕ) (c : Trees Said) : Type 0 where
+pub record HasRoom (room : Room) (kind : ℕ) (c : Trees TagSaid) : Type 0 where
   pub series : length (those (hasRole seriesRole) (rowsOf kind) c) ≤ room .series
   pub intervals : length (those (hasRole intervalRole) (rowsOf kind) c) ≤ room .intervals

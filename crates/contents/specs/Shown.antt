@@ -17,11 +17,11 @@ use Rattle.guideline.specs.Rows.{rowsOf}
 use Rattle.reader.specs.Reading.{Tables}
 use Rattle.reader.specs.Answer.{Outcome}
 use Rattle.trees.specs.Trees.{Trees, none}
-use Rattle.contents.specs.Said.{Said, bytes}
+use Rattle.contents.specs.Said.{TagSaid, bytes}
 use Rattle.contents.specs.Legal.{hasRole, those, inEach, periodOf, quartersOf, positionOf}
 
 -- the amount that a Qty says, which is collapsed, in thousandths
-unfoldable pub amountIn : Said → ℤ
+unfoldable pub amountIn : TagSaid → ℤ
 amountIn s = thousandthsOf (amountOf (says (dropped (bytes (s .v)))))
 
 unfoldable pub sum : List ℕ → ℕ
@@ -54,33 +54,33 @@ partShown FirstRow b = b
 partShown Count b = b
 
 -- what a series says of it; no element that a view shows comes twice in a series, and where it does not come nothing is said
-unfoldable pub saidFor : List ℕ → Trees Said → Field → List (List ℕ)
-saidFor rows s f = map (λ (x : Said). partShown f (bytes (x .v))) (those (hasRole (roleShown f)) rows s)
+unfoldable pub saidFor : List ℕ → Trees TagSaid → Field → List (List ℕ)
+saidFor rows s f = map (λ (x : TagSaid). partShown f (bytes (x .v))) (those (hasRole (roleShown f)) rows s)
 
-unfoldable pub eachSeries : List ℕ → Trees Said → List (Trees Said)
+unfoldable pub eachSeries : List ℕ → Trees TagSaid → List (Trees TagSaid)
 eachSeries rows c = inEach (hasRole seriesRole) rows c
 
 -- how many intervals each series has
-unfoldable pub intervalCounts : List ℕ → List (Trees Said) → List ℕ
-intervalCounts rows ss = map (λ (s : Trees Said). length (those (hasRole intervalRole) rows s)) ss
+unfoldable pub intervalCounts : List ℕ → List (Trees TagSaid) → List ℕ
+intervalCounts rows ss = map (λ (s : Trees TagSaid). length (those (hasRole intervalRole) rows s)) ss
 
 -- "start and length of its TimeSeriesIdentification; of its object ..; of its BusinessType, spaces dropped; its first interval row; its interval count", and
 -- "after the BusinessType pair, start and length of Direction (spaces dropped) and of the area .., 0 and 0 where absent". Row i shows series s
-pub record RowShows (doc cells rows : List ℕ) (i : ℕ) (s : Trees Said) (first : ℕ) : Type 0 where
+pub record RowShows (doc cells rows : List ℕ) (i : ℕ) (s : Trees TagSaid) (first : ℕ) : Type 0 where
   pub views : (f : Field) → isView f ≡ true → view doc cells i f ≡ lastOf [] (saidFor rows s f)
   pub absent : (f : Field) → isView f ≡ true → saidFor rows s f ≡ [] → NoView cells i f
   pub begins : fieldAt cells i FirstRow ≡ first
   pub count : fieldAt cells i Count ≡ length (those (hasRole intervalRole) rows s)
 
 -- "Intervals take one position and one amount at the same index .. Rows come in document order. Cells past the last row are 0."
-pub record Shows (doc : List ℕ) (t : Tables) (rows : List ℕ) (c : Trees Said) : Type 0 where
+pub record Shows (doc : List ℕ) (t : Tables) (rows : List ℕ) (c : Trees TagSaid) : Type 0 where
   pub series : (i : ℕ) → i < length (those (hasRole seriesRole) rows c)
       → RowShows doc (t .series) rows i (getD (eachSeries rows c) i none) (sum (take i (intervalCounts rows (eachSeries rows c))))
   pub positions : (j : ℕ) → getD (t .positions) j 0 ≡ getD (map positionOf (those (hasRole posRole) rows c)) j 0
   pub amounts : (j : ℕ) → getD (t .amounts) j (pos 0) ≡ getD (map amountIn (those (hasRole qtyRole) rows c)) j (pos 0)
 
 -- what is answered, and left in the tables, where a document that spells the content is accepted
-pub record Tells (doc : List ℕ) (o : Outcome) (kind : ℕ) (c : Trees Said) : Type 0 where
+pub record Tells (doc : List ℕ) (o : Outcome) (kind : ℕ) (c : Trees TagSaid) : Type 0 where
   pub accepted : o .answer .refusal ≡ 0
   pub kinds : o .answer .kind ≡ kind
   pub series : o .answer .series ≡ length (those (hasRole seriesRole) (rowsOf kind) c)

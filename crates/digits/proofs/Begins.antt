@@ -14,13 +14,14 @@ use Rattle.slices.specs.Run.{run}
 use Rattle.slices.specs.Same.{same, begins}
 use Rattle.slices.specs.Text.{text}
 use Rattle.attributes.specs.Names.{nameStart, white}
-use Rattle.attributes.specs.Attribute.{attribute, pieceAfter, piece, partOf}
+use Rattle.slices.specs.Part.{partOf}
+use Rattle.attributes.specs.Attribute.{attribute, pieceAfter, piece}
 use Rattle.attributes.specs.declared.Piece.{Piece}
 use Rattle.attributes.specs.declared.Piece.the-variants.{Attribute, Close, CloseEmpty, Torn}
 use Rattle.attributes.proofs.Short.{byte-drop}
-use Rattle.prolog.specs.Prolog.{utf, declaredBy, declared, encodedBy, encoded, declarationBy, declaration, markLen, after, beginAfter, begin}
+use Rattle.prolog.specs.Prolog.{utf, declaredBy, declared, encodedBy, encoded, declarationBy, declaration, markLen, behindMark, beginAfter, begin}
 use Rattle.prolog.specs.declared.Begin.{Begin}
-use Rattle.prolog.specs.declared.Begin.the-variants.{From, Unreadable}
+use Rattle.prolog.specs.declared.Begin.the-variants.{From, Misdeclared}
 use Rattle.digits.proofs.Near.{Front, front-drop, long-drop, part-near, begins-near}
 use Rattle.digits.proofs.Spans.{PieceLaid, piece-laid}
 use Rattle.digits.proofs.Pieces.{white-near, piece-whole}
@@ -30,7 +31,7 @@ reached : {A : Type 0} {a b c : A} (t : Bool) → (b ≡ c → ⊥) → cond t a
 reached true other e = (refl, e)
 reached false other e = absurd (other e)
 
-not-from : (p k : ℕ) → Unreadable p ≡ From k → ⊥
+not-from : (p k : ℕ) → Misdeclared p ≡ From k → ⊥
 not-from p k e = zero-not-one (cc)
 
 -- no attribute begins with `?`
@@ -101,10 +102,10 @@ module _ (before : ℕ) (x y : List ℕ) (long : length x ≡ length y) (k : ℕ
   unfolding declaration
   declaration-same q = declaration-by (piece (drop 5 x)) refl (piece-laid (drop 5 x)) q
 
-after-same : (m n : ℕ) (x y : Begin) → ((k : ℕ) → m + k ≡ n → x ≡ From k → y ≡ From k) → after m x ≡ From n → (after m y ≡ From n) × (m ≤ n)
-unfolding after
+after-same : (m n : ℕ) (x y : Begin) → ((k : ℕ) → m + k ≡ n → x ≡ From k → y ≡ From k) → behindMark m x ≡ From n → (behindMark m y ≡ From n) × (m ≤ n)
+unfolding behindMark
 after-same m n (From k) y h q = let z : m + k ≡ n = cc in (rw (h k z refl) q, omega arith)
-after-same m n (Unreadable p) y h q = absurd (not-from p n q)
+after-same m n (Misdeclared p) y h q = absurd (not-from p n q)
 
 module _ (x y : List ℕ) (n : ℕ) (long : length x ≡ length y) (f : Front x y (n + 5)) where
   begin-after : (m : ℕ) → beginAfter x m ≡ From n → beginAfter y m ≡ From n

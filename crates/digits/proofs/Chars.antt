@@ -7,7 +7,7 @@ use mathlib.Core.Logic.{inl, inr, ⊎-elim}
 use native.Mathlib.Omega.{arith}
 use Rattle.lists.proofs.Cases.{bool-cases, never}
 use Rattle.slices.specs.Bytes.{byte}
-use Rattle.slices.specs.Walk.{Step, go, stop, walk}
+use Rattle.slices.specs.Walk.{WalkStep, go, stop, walk}
 use Rattle.characters.specs.Utf8.{charAt}
 use Rattle.characters.specs.declared.Char.{Char}
 use Rattle.characters.specs.declared.Char.the-variants.{Is}
@@ -49,7 +49,7 @@ like-char f h (same x) = refl
 like-char f h (digits {c} {d} p q) = h c d p q
 
 -- a walk whose every step is the same over alike lists
-module _ {A S R : Type 0} (look : List ℕ → A) (then : S → A → Step S R) (over : S → R)
+module _ {A S R : Type 0} (look : List ℕ → A) (then : S → A → WalkStep S R) (over : S → R)
     (h : (st : S) (x y : List ℕ) → Alike x y → then st (look x) ≡ then st (look y)) where
   alike-walk : {x y : List ℕ} → Alike x y → (st : S) (k : ℕ) → walk look then over st k x ≡ walk look then over st k y
   unfolding walk
@@ -58,7 +58,7 @@ module _ {A S R : Type 0} (look : List ℕ → A) (then : S → A → Step S R) 
   alike-walk (next {c} {d} {x} {y} e r) st zero =
       rw (walk, h st (c ∷ x) (d ∷ y) (next e r)) (both (then st (look (d ∷ y))) (alike-walk r))
     where
-      both : (z : Step S R) → ((st : S) (k : ℕ) → walk look then over st k x ≡ walk look then over st k y)
+      both : (z : WalkStep S R) → ((st : S) (k : ℕ) → walk look then over st k x ≡ walk look then over st k y)
           → _≡_ {A = R} (elim z [ go n st′ ↦ walk look then over st′ (pred n) x | stop a ↦ a ]) (elim z [ go n st′ ↦ walk look then over st′ (pred n) y | stop a ↦ a ])
       both (go n st′) f = f st′ (pred n)
       both (stop a) f = refl

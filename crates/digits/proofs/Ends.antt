@@ -8,13 +8,14 @@ use native.Mathlib.Omega.{arith}
 use lib.ListN.{length, drop}
 use Rattle.lists.proofs.Cases.{zero-not-one}
 use Rattle.slices.specs.Bytes.{byte}
-use Rattle.attributes.specs.Attribute.{value, piece, partOf}
+use Rattle.slices.specs.Part.{partOf}
+use Rattle.attributes.specs.Attribute.{value, piece}
 use Rattle.attributes.specs.declared.Piece.{Piece}
 use Rattle.attributes.specs.declared.Piece.the-variants.{Attribute, Close, CloseEmpty, Torn}
 use Rattle.attributes.proofs.Short.{byte-drop}
 use Rattle.tags.specs.Tail.{Attr, closed, onto, endsAfter}
 use Rattle.tags.proofs.Ends.{attr}
-use Rattle.tags.specs.declared.Span.{Span}
+use Rattle.slices.specs.declared.Span.{Span}
 use Rattle.digits.specs.Unseen.{Unseen, Or}
 use Rattle.digits.specs.Items.{InSpan}
 use Rattle.digits.proofs.Near.{Front, long-drop, part-near}

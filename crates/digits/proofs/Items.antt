@@ -16,17 +16,17 @@ use Rattle.slices.specs.Text.{text}
 use Rattle.slices.proofs.Firsts.{first-by}
 use Rattle.characters.specs.Says.{allChars}
 use Rattle.attributes.specs.Names.{nameStart, nameByte, white}
-use Rattle.attributes.specs.Attribute.{partOf}
+use Rattle.slices.specs.Part.{partOf}
 use Rattle.attributes.proofs.Short.{byte-drop}
-use Rattle.tags.specs.Known.{absent, noneKnown, noted}
-use Rattle.tags.specs.Tail.{Attr, Ends, closed, torn, ends, keep, twice}
-use Rattle.tags.specs.declared.Span.{Span}
+use Rattle.tags.specs.Known.{absent, dtdName, noneKnown, withAttribute}
+use Rattle.tags.specs.Tail.{Attr, Ends, closed, torn, ends, keptOf, twice}
+use Rattle.slices.specs.declared.Span.{Span}
 use Rattle.tags.specs.declared.Known.{Known}
 use Rattle.items.specs.Comment.{commentTo, comment}
 use Rattle.items.specs.Text.{textTo, textItem}
 use Rattle.items.specs.Item.{tagOf, tagItem, startTag, endTag, endName, endClose, commentItem, commentTag, item, itemRefusal, itemEnd}
 use Rattle.items.specs.declared.Item.{Item}
-use Rattle.items.specs.declared.Item.the-variants.{End, Text, Comment, Refused}
+use Rattle.items.specs.declared.Item.the-variants.{End, Text, Comment, Unreadable}
 use Rattle.digits.specs.Unseen.{Unseen, Or}
 use Rattle.digits.specs.Items.{InSpan, InV, JoinsV, SameButV, valueIn}
 use Rattle.digits.proofs.Near.{Front, front-drop, long-drop, take-near, first-near}
@@ -41,24 +41,24 @@ cond-same P false f g h = g h
 
 -- ---- the values of a tag: `v`, and those that share no place with it
 
-noted-v : (k : Known) (name : List ℕ) (a : Span) → (noted k name a .v ≡ a) ⊎ (noted k name a .v ≡ k .v)
-unfolding noted
+noted-v : (k : Known) (name : List ℕ) (a : Span) → (withAttribute k name a .v ≡ a) ⊎ (withAttribute k name a .v ≡ k .v)
+unfolding withAttribute
 noted-v k name a =
     by-cond P (same name (text "v")) (inl refl)
-    (by-cond P (same name (text "codingScheme")) (inr refl) (by-cond P (same name (text "DtdBDEWNachrichtenVersion")) (inr refl) (inr refl)))
+    (by-cond P (same name (text "codingScheme")) (inr refl) (by-cond P (dtdName name) (inr refl) (inr refl)))
   where
     P : Known → Type 0
     P x = (x .v ≡ a) ⊎ (x .v ≡ k .v)
 
 -- the value that is kept as that of `v` was there before, or is one of these
-kept-v : (more : List Attr) (k : Known) → (keep k more .v ≡ k .v) ⊎ OneOf (keep k more .v) more
-unfolding keep OneOf
+kept-v : (more : List Attr) (k : Known) → (keptOf k more .v ≡ k .v) ⊎ OneOf (keptOf k more .v) more
+unfolding keptOf OneOf
 kept-v [] k = inl refl
 kept-v (a ∷ more) k =
     ⊎-elim
     (λ e. ⊎-elim (λ z. inr (inl (sym (e ∙ z)))) (λ z. inl (e ∙ z)) (noted-v k (a .name) (a .value)))
     (λ o. inr (inr o))
-    (kept-v more (noted k (a .name) (a .value)))
+    (kept-v more (withAttribute k (a .name) (a .value)))
 
 none-left : (at : ℕ) → noneKnown .v .start + noneKnown .v .len ≤ at
 unfolding noneKnown absent
@@ -97,7 +97,7 @@ module _ {R : List ℕ → List ℕ → Type 0} (u : Unseen R) (before : ℕ) (s
   abbrev Held : Item → Type 0
   Held x = (itemRefusal x ≡ 0) × SameButV (Or R) x s s′
 
-  torn-held : {A : Type 0} → Held (Refused before) → A
+  torn-held : {A : Type 0} → Held (Unreadable before) → A
   torn-held h = absurd (omega (arith, h .0))
 
   -- an item without `v`
@@ -105,7 +105,7 @@ module _ {R : List ℕ → List ℕ → Type 0} (u : Unseen R) (before : ℕ) (s
   plain-front x none h i l = ⊎-elim (λ e. e) (λ z. absurd (none i z)) (h .1 .inside i (omega arith))
 
   abbrev vOf : List Attr → Span
-  vOf more = keep noneKnown more .v
+  vOf more = keptOf noneKnown more .v
 
   tag-held : (n : ℕ) (more : List Attr) (empty : Bool) (e : ℕ) → twice more ≡ false → Held (tagItem before n (closed more empty e))
       → ((i : ℕ) → i ≤ e → (byte s i ≡ byte s′ i) ⊎ InSpan i (vOf more)) × Or R (valueIn s (vOf more)) (valueIn s′ (vOf more))

@@ -15,7 +15,8 @@ use Rattle.slices.specs.Same.{begins, seek, here, firstAt}
 use Rattle.characters.specs.Utf8.{charAt}
 use Rattle.characters.specs.declared.Char.{Char}
 use Rattle.characters.specs.declared.Char.the-variants.{Is, NoChar}
-use Rattle.attributes.specs.Attribute.{quote, fit, valueNext, valueOver, value, partOf}
+use Rattle.slices.specs.Part.{partOf}
+use Rattle.attributes.specs.Attribute.{fit, valueNext, valueOver, value}
 use Rattle.attributes.specs.declared.Value.{Value}
 use Rattle.attributes.specs.declared.Value.the-variants.{Long, Broken}
 use Rattle.attributes.proofs.Short.{byte-drop}

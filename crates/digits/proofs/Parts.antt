@@ -14,25 +14,26 @@ use Rattle.slices.specs.Same.{same, firstAt}
 use Rattle.slices.specs.Text.{text}
 use Rattle.characters.specs.Says.{allChars}
 use Rattle.attributes.specs.Names.{nameStart, nameByte, white}
-use Rattle.attributes.specs.Attribute.{partOf}
+use Rattle.slices.specs.Part.{partOf}
 use Rattle.attributes.proofs.Short.{byte-drop}
-use Rattle.tags.specs.Known.{absent, noneKnown, noted}
-use Rattle.tags.specs.Tail.{Attr, Ends, closed, torn, ends, keep, twice}
-use Rattle.tags.specs.declared.Span.{Span}
+use Rattle.tags.specs.Known.{absent, dtdName, noDtd, withDtd, noneKnown, withAttribute}
+use Rattle.tags.specs.Tail.{Attr, Ends, closed, torn, ends, keptOf, twice}
+use Rattle.slices.specs.declared.Span.{Span}
+use Rattle.tags.specs.declared.Dtd.{Dtd}
 use Rattle.tags.specs.declared.Known.{Known}
 use Rattle.items.specs.Comment.{commentTo, comment}
 use Rattle.items.specs.Text.{textTo, textItem}
 use Rattle.items.specs.Item.{tagOf, tagItem, startTag, endTag, endName, endClose, commentItem, commentTag, item}
 use Rattle.items.specs.declared.Tag.{Tag}
 use Rattle.items.specs.declared.Item.the-variants.{End}
-use Rattle.digits.specs.Items.{InSpan, Stands, Apart, IsTag, ValuesLaid, TagLaid, Laid, valueIn, PartsSame}
+use Rattle.digits.specs.Items.{InSpan, Stands, IsTag, Beside, ValuesLaid, TagLaid, Laid, valueIn, PartsSame}
 use Rattle.trims.proofs.Low.{by-test}
 use Rattle.digits.proofs.Near.{part-near}
 use Rattle.digits.proofs.Spans.{Within, ends-ordered}
 
 -- what is kept of the attributes up to the place `to` of a tag whose name has n bytes
 abbrev Kept : ℕ → ℕ → Known → Type 0
-Kept n to k = ValuesLaid n to (k .v) (k .coding) (k .version)
+Kept n to k = ValuesLaid n to (k .v) (k .coding) (k .dtd)
 
 stands-on : (n to more : ℕ) (x : Span) → to ≤ more → Stands n to x → Stands n more x
 stands-on n to more x h (inl e) = inl e
@@ -54,41 +55,80 @@ module _ (n from : ℕ) (k : Known) (name : List ℕ) (a : Span) (low : 1 + n �
   apart : (x : Span) → Stands n (suc from) x → (i : ℕ) → InSpan i a → InSpan i x → ⊥
   apart x s i p q = let e = ended n (suc from) x s i q in omega (arith, p .0, e)
 
-  noted-kept : Kept n (suc (a .start + a .len)) (noted k name a)
-  unfolding noted
+  -- another value stays where it was, beside the old `v` or beside a
+  kept : (y : Span) → Beside n (suc from) (k .v) y → Beside n (suc (a .start + a .len)) (k .v) y
+  kept y b = record { stands = old y (b .stands); apart = b .apart }
+
+  beside : (y : Span) → Beside n (suc from) (k .v) y → Beside n (suc (a .start + a .len)) a y
+  beside y b = record { stands = old y (b .stands); apart = apart y (b .stands) }
+
+  -- a stands beside the old `v`
+  added : Beside n (suc (a .start + a .len)) (k .v) a
+  added = record { stands = new; apart = λ i p q. apart (k .v) (r .v) i q p }
+
+  noted-kept : Kept n (suc (a .start + a .len)) (withAttribute k name a)
+  unfolding withAttribute withDtd
   noted-kept =
       by-cond P (same name (text "v"))
-      (record { v = new; coding = old (k .coding) (r .coding); version = old (k .version) (r .version); v-coding = apart (k .coding) (r .coding); v-version = apart (k .version) (r .version) })
+      (record { v = new; coding = beside (k .coding) (r .coding); version = beside (k .dtd .version) (r .version); release = beside (k .dtd .release) (r .release); message = beside (k .dtd .message) (r .message) })
       (by-cond P (same name (text "codingScheme"))
-      (record { v = old (k .v) (r .v); coding = new; version = old (k .version) (r .version); v-coding = λ i p q. apart (k .v) (r .v) i q p; v-version = r .v-version })
-      (by-cond P (same name (text "DtdBDEWNachrichtenVersion"))
-      (record { v = old (k .v) (r .v); coding = old (k .coding) (r .coding); version = new; v-coding = r .v-coding; v-version = λ i p q. apart (k .v) (r .v) i q p })
-      (record { v = old (k .v) (r .v); coding = old (k .coding) (r .coding); version = old (k .version) (r .version); v-coding = r .v-coding; v-version = r .v-version })))
+      (with-dtd a added (k .dtd) version release message)
+      (by-cond P (dtdName name)
+      (by-cond D (same name (text "DtdVersion"))
+      (with-dtd (k .coding) coding (record { version = a; release = k .dtd .release; message = k .dtd .message }) added release message)
+      (by-cond D (same name (text "DtdRelease"))
+      (with-dtd (k .coding) coding (record { version = k .dtd .version; release = a; message = k .dtd .message }) version added message)
+      (with-dtd (k .coding) coding (record { version = k .dtd .version; release = k .dtd .release; message = a }) version release added)))
+      (with-dtd (k .coding) coding (k .dtd) version release message)))
     where
-      P : Known → Type 0
-      P = Kept n (suc (a .start + a .len))
+      to : ℕ
+      to = suc (a .start + a .len)
 
-keep-kept : (n from to : ℕ) (k : Known) (more : List Attr) → 1 + n ≤ from → from < to → Within from to more → Kept n (suc from) k → Kept n to (keep k more)
-unfolding keep Within
+      P : Known → Type 0
+      P = Kept n to
+
+      D : Dtd → Type 0
+      D d = ValuesLaid n to (k .v) (k .coding) d
+
+      coding : Beside n to (k .v) (k .coding)
+      coding = kept (k .coding) (r .coding)
+
+      version : Beside n to (k .v) (k .dtd .version)
+      version = kept (k .dtd .version) (r .version)
+
+      release : Beside n to (k .v) (k .dtd .release)
+      release = kept (k .dtd .release) (r .release)
+
+      message : Beside n to (k .v) (k .dtd .message)
+      message = kept (k .dtd .message) (r .message)
+
+      with-dtd : (y : Span) → Beside n to (k .v) y → (d : Dtd) → Beside n to (k .v) (d .version) → Beside n to (k .v) (d .release) → Beside n to (k .v) (d .message)
+          → ValuesLaid n to (k .v) y d
+      with-dtd y c d x z m = record { v = old (k .v) (r .v); coding = c; version = x; release = z; message = m }
+
+keep-kept : (n from to : ℕ) (k : Known) (more : List Attr) → 1 + n ≤ from → from < to → Within from to more → Kept n (suc from) k → Kept n to (keptOf k more)
+unfolding keptOf Within
 keep-kept n from to k [] l h w r =
     record {
       v = stands-on n (suc from) to (k .v) h (r .v);
-      coding = stands-on n (suc from) to (k .coding) h (r .coding);
-      version = stands-on n (suc from) to (k .version) h (r .version);
-      v-coding = r .v-coding;
-      v-version = r .v-version;
+      coding = on (k .coding) (r .coding);
+      version = on (k .dtd .version) (r .version);
+      release = on (k .dtd .release) (r .release);
+      message = on (k .dtd .message) (r .message);
     }
+  where
+    on : (y : Span) → Beside n (suc from) (k .v) y → Beside n to (k .v) y
+    on y b = record { stands = stands-on n (suc from) to y h (b .stands); apart = b .apart }
 keep-kept n from to k (a ∷ more) l h w r =
-    keep-kept n (a .value .start + a .value .len) to (noted k (a .name) (a .value)) more (omega (arith, w .0)) (w .1) (w .2)
+    keep-kept n (a .value .start + a .value .len) to (withAttribute k (a .name) (a .value)) more (omega (arith, w .0)) (w .1) (w .2)
     (noted-kept n from k (a .name) (a .value) l (w .0) r)
 
 none-kept : (n to : ℕ) → Kept n to noneKnown
-unfolding noneKnown absent
-none-kept n to =
-    record { v = inl (refl, refl); coding = inl (refl, refl); version = inl (refl, refl); v-coding = off; v-version = off }
+unfolding noneKnown noDtd absent
+none-kept n to = record { v = inl (refl, refl); coding = off; version = off; release = off; message = off }
   where
-    off : Apart (record { start = 0; len = 0 }) (record { start = 0; len = 0 })
-    off i p q = omega (arith, p .1)
+    off : Beside n to (record { start = 0; len = 0 }) (record { start = 0; len = 0 })
+    off = record { stands = inl (refl, refl); apart = λ i p q. omega (arith, p .1) }
 
 -- a name has a byte
 start-name : (b : ℕ) → nameStart b ≡ true → nameByte b ≡ true
@@ -114,7 +154,7 @@ module _ (before : ℕ) (s : List ℕ) where
   ends-laid n torn z q = tt
   ends-laid n (closed more empty e) z q = by-cond Laid (twice more) tt (by-cond Laid empty laid laid)
     where
-      laid : TagLaid (tagOf n (keep noneKnown more) e)
+      laid : TagLaid (tagOf n (keptOf noneKnown more) e)
       laid =
           let o = ends-ordered (drop (1 + n) s) 0 (1 + n) more empty e q in
           let k = keep-kept n (1 + n + 0) e noneKnown more (omega arith) (o .end) (o .values) (none-kept n _) in
@@ -166,8 +206,8 @@ value-same t x s s′ stands long h = part-near s s′ (x .start) (x .len) long 
 
 module _ (t : Tag) (laid : TagLaid t) (s s′ : List ℕ) (long : length s ≡ length s′)
     (h : (i : ℕ) → i < t .len → (byte s i ≡ byte s′ i) ⊎ InSpan i (t .v)) where
-  other : (x : Span) → Stands (t .name) (t .len) x → Apart (t .v) x → valueIn s x ≡ valueIn s′ x
-  other x stands apart = value-same t x s s′ stands long (λ i p q. ⊎-elim (λ e. e) (λ e. absurd (apart i e q)) (h i p))
+  other : (x : Span) → Beside (t .name) (t .len) (t .v) x → valueIn s x ≡ valueIn s′ x
+  other x b = value-same t x s s′ (b .stands) long (λ i p q. ⊎-elim (λ e. e) (λ e. absurd (b .apart i e q)) (h i p))
 
   behind : (i : ℕ) → i < 1 + t .name → InSpan i (t .v) → ⊥
   behind i p e = ⊎-elim (λ z. omega (arith, z .0, z .1, e .1)) (λ z. omega (arith, z .0, e .0)) (laid .values .v)
@@ -176,8 +216,10 @@ module _ (t : Tag) (laid : TagLaid t) (s s′ : List ℕ) (long : length s ≡ l
   parts =
       record {
         name = part-near s s′ 1 (t .name) long (λ i p q. ⊎-elim (λ e. e) (λ e. absurd (behind i q e)) (h i (omega (arith, laid .name))));
-        coding = other (t .coding) (laid .values .coding) (laid .values .v-coding);
-        version = other (t .version) (laid .values .version) (laid .values .v-version);
+        coding = other (t .coding) (laid .values .coding);
+        version = other (t .dtd .version) (laid .values .version);
+        release = other (t .dtd .release) (laid .values .release);
+        message = other (t .dtd .message) (laid .values .message);
       }
 
 module _ (before : ℕ) (s : List ℕ) (t : Tag) (is : IsTag (item before s) t) where

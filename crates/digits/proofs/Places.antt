@@ -6,7 +6,7 @@ use mathlib.Core.Logic.{inl, _↔_}
 use native.Mathlib.Omega.{arith}
 use lib.ListN.{length, take}
 use Rattle.slices.specs.Bytes.{byte}
-use Rattle.attributes.specs.Attribute.{partOf}
+use Rattle.slices.specs.Part.{partOf}
 use Rattle.numbers.specs.Alike.{Like, Alike, none, next}
 use Rattle.numbers.proofs.Blind.{alike-drop}
 

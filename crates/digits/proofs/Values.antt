@@ -12,8 +12,8 @@ use Rattle.characters.specs.declared.Char.{Char}
 use Rattle.characters.specs.declared.Char.the-variants.{Is, NoChar}
 use Rattle.characters.specs.declared.Said.{Said}
 use Rattle.characters.specs.declared.Said.the-variants.{Says, Over}
-use Rattle.trims.specs.Trim.{space, dropLead, keep, dropTrail, dropped}
-use Rattle.numbers.specs.Amount.{minus, unsigned, amountForm, thousandths, signed, amountOf}
+use Rattle.trims.specs.Trim.{space, dropLead, keptBefore, dropTrail, dropped}
+use Rattle.numbers.specs.Amount.{minus, unsigned, writtenAmount, thousandths, signed, amountOf}
 use Rattle.numbers.specs.declared.Amount.the-variants.{Thousandths, NotAmount}
 use Rattle.numbers.proofs.Blind.{blind}
 use Rattle.rules.specs.Rules.{amountBy, amount, formRefusal, judge}
@@ -32,8 +32,8 @@ unfolding dropLead
 alike-lead none = none
 alike-lead (next {c} {d} e r) = rw (like-test blind-space e) (choice (space d) (alike-lead r) (next e r))
 
-alike-keep : {c d : ℕ} {x y : List ℕ} → Like c d → Alike x y → Alike (keep c x) (keep d y)
-unfolding keep
+alike-keep : {c d : ℕ} {x y : List ℕ} → Like c d → Alike x y → Alike (keptBefore c x) (keptBefore d y)
+unfolding keptBefore
 alike-keep {c} {d} e none = rw (like-test blind-space e) (choice (space d) none (next e none))
 alike-keep e (next f r) = next e (next f r)
 
@@ -73,9 +73,9 @@ pub alike-says : {x y : List ℕ} → Alike x y → Alike (says x) (says y)
 unfolding says
 alike-says r = alike-after r 0
 
-by-form : (l : List ℕ) → amountBy (amountOf l) ≡ amountForm l
+by-form : (l : List ℕ) → amountBy (amountOf l) ≡ writtenAmount l
 unfolding amountOf amountBy
-by-form l = taken (amountForm l) (signed (minus l) (thousandths (unsigned l)))
+by-form l = taken (writtenAmount l) (signed (minus l) (thousandths (unsigned l)))
   where
     taken : (t : Bool) (z : ℤ) → amountBy (cond t (Thousandths z) NotAmount) ≡ t
     taken true z = refl

@@ -5,12 +5,13 @@ use mathlib.Core.List.{List}
 use mathlib.Core.Logic.{_⊎_}
 use lib.ListN.{length}
 use Rattle.slices.specs.Bytes.{byte}
-use Rattle.attributes.specs.Attribute.{partOf}
-use Rattle.tags.specs.declared.Span.{Span}
+use Rattle.slices.specs.Part.{partOf}
+use Rattle.slices.specs.declared.Span.{Span}
+use Rattle.tags.specs.declared.Dtd.{Dtd}
 use Rattle.items.specs.Item.{itemEnd}
 use Rattle.items.specs.declared.Tag.{Tag}
 use Rattle.items.specs.declared.Item.{Item}
-use Rattle.items.specs.declared.Item.the-variants.{Start, Empty, End, Text, Comment, Refused}
+use Rattle.items.specs.declared.Item.the-variants.{Start, Empty, End, Text, Comment, Unreadable}
 
 abbrev pub InSpan : ℕ → Span → Type 0
 InSpan i x = (x .start ≤ i) × (i < x .start + x .len)
@@ -22,7 +23,7 @@ InV (Empty t) i = InSpan i (t .v)
 InV (End n e) i = ⊥
 InV (Text w e) i = ⊥
 InV (Comment e) i = ⊥
-InV (Refused p) i = ⊥
+InV (Unreadable p) i = ⊥
 
 -- a value's bytes
 abbrev pub valueIn : List ℕ → Span → List ℕ
@@ -35,7 +36,7 @@ JoinsV R (Empty t) s s′ = R (valueIn s (t .v)) (valueIn s′ (t .v))
 JoinsV R (End n e) s s′ = Unit {0}
 JoinsV R (Text w e) s s′ = Unit {0}
 JoinsV R (Comment e) s s′ = Unit {0}
-JoinsV R (Refused p) s s′ = Unit {0}
+JoinsV R (Unreadable p) s s′ = Unit {0}
 
 -- s and s′ are as long as each other; in the item x at their front, and in the byte behind it, they differ in its `v` alone, and there as R says
 pub record SameButV (R : List ℕ → List ℕ → Type 0) (x : Item) (s s′ : List ℕ) : Type 0 where
@@ -48,26 +49,31 @@ abbrev pub Stands : ℕ → ℕ → Span → Type 0
 Stands name len x = ((x .start ≡ 0) × (x .len ≡ 0)) ⊎ ((3 + name < x .start) × (x .start + x .len < len))
 
 -- two values that share no place
-abbrev pub Apart : Span → Span → Type 0
-Apart x y = (i : ℕ) → InSpan i x → InSpan i y → ⊥
+abbrev pub Disjoint : Span → Span → Type 0
+Disjoint x y = (i : ℕ) → InSpan i x → InSpan i y → ⊥
 
 -- the item is this tag
 abbrev pub IsTag : Item → Tag → Type 0
 IsTag x t = (x ≡ Start t) ⊎ (x ≡ Empty t)
 
--- where the values x of `v`, y of codingScheme and z of DtdBDEWNachrichtenVersion stand
-pub record ValuesLaid (name len : ℕ) (x y z : Span) : Type 0 where
+-- the value y of another attribute stands in the tag, and shares no place with the value x of `v`
+pub record Beside (name len : ℕ) (x y : Span) : Type 0 where
+  pub stands : Stands name len y
+  pub apart : Disjoint x y
+
+-- where the values x of `v`, y of codingScheme and d of the attributes of a root stand
+pub record ValuesLaid (name len : ℕ) (x y : Span) (d : Dtd) : Type 0 where
   pub v : Stands name len x
-  pub coding : Stands name len y
-  pub version : Stands name len z
-  pub v-coding : Apart x y
-  pub v-version : Apart x z
+  pub coding : Beside name len x y
+  pub version : Beside name len x (d .version)
+  pub release : Beside name len x (d .release)
+  pub message : Beside name len x (d .message)
 
 -- where the parts of a tag stand
 pub record TagLaid (t : Tag) : Type 0 where
   pub some : 0 < t .name
   pub name : 1 + t .name < t .len
-  pub values : ValuesLaid (t .name) (t .len) (t .v) (t .coding) (t .version)
+  pub values : ValuesLaid (t .name) (t .len) (t .v) (t .coding) (t .dtd)
 
 unfoldable pub Laid : Item → Type 0
 Laid (Start t) = TagLaid t
@@ -75,10 +81,12 @@ Laid (Empty t) = TagLaid t
 Laid (End n e) = 2 + n < e
 Laid (Text w e) = Unit {0}
 Laid (Comment e) = Unit {0}
-Laid (Refused p) = Unit {0}
+Laid (Unreadable p) = Unit {0}
 
 -- what a tag says in s and in s′ is the same, its `v` left aside
 pub record PartsSame (t : Tag) (s s′ : List ℕ) : Type 0 where
   pub name : partOf s 1 (t .name) ≡ partOf s′ 1 (t .name)
   pub coding : valueIn s (t .coding) ≡ valueIn s′ (t .coding)
-  pub version : valueIn s (t .version) ≡ valueIn s′ (t .version)
+  pub version : valueIn s (t .dtd .version) ≡ valueIn s′ (t .dtd .version)
+  pub release : valueIn s (t .dtd .release) ≡ valueIn s′ (t .dtd .release)
+  pub message : valueIn s (t .dtd .message) ≡ valueIn s′ (t .dtd .message)

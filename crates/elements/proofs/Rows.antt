@@ -1,6 +1,6 @@
 -- A loop over the entries of a row. Assumes nothing.
 use Prim.Native.Nat.{ℕ, _+_, _-_, _*_, _%_, _≤_, _<_}
-use mathlib.Core.Path.{_≡_, refl, sym, ap, _∙_}
+use mathlib.Core.Path.{_≡_, sym, _∙_}
 use mathlib.Core.List.{List}
 use mathlib.Core.Logic.{⊎-elim}
 use native.Mathlib.Omega.{arith}
@@ -12,7 +12,6 @@ use Rattle.lists.proofs.Cases.{ltb-cases}
 use Rattle.lists.proofs.Loans.{rest-part}
 use Rattle.slices.specs.Bytes.{byte}
 use Rattle.slices.specs.Same.{same}
-use Rattle.slices.specs.Walk.{go, stop}
 use Rattle.slices.proofs.Walks.{Walked, walked-go, walked-stop, walked-end}
 use Rattle.elements.specs.Row.{picked, entry, toldIn}
 

@@ -7,13 +7,13 @@ use lib.Dec.{leb}
 use lib.ListN.{length, take}
 use Rattle.slices.specs.Bytes.{byte}
 use Rattle.slices.specs.Same.{same}
-use Rattle.slices.specs.Walk.{Step, go, stop, walk}
+use Rattle.slices.specs.Walk.{WalkStep, go, stop, walk}
 
 -- the number of the entry at the front of l where its letters are the name, else `other`
 unfoldable pub picked : ℕ → List ℕ → ℕ → List ℕ → ℕ
 picked n name other l = cond (same (take n l) name) (byte l n % 16 * 10 + byte l (n + 1) % 16) other
 
-unfoldable pub entry : ℕ → List ℕ → ℕ → List ℕ → Step ℕ ℕ
+unfoldable pub entry : ℕ → List ℕ → ℕ → List ℕ → WalkStep ℕ ℕ
 entry n name k l = cond (leb (n + 2) (length l)) (go (n + 3) (picked n name k l)) (stop k)
 
 -- the number of the last entry whose letters are the name, 0 where none is

@@ -4,7 +4,7 @@ use mathlib.Core.Path.{_≡_}
 use mathlib.Core.List.{List}
 use mathlib.Core.Bool.{Bool}
 use Rattle.characters.specs.Says.{says}
-use Rattle.forms.specs.Forms.{identification, marketPartner, resourceObject, party, fixedVersion, quarterHour}
+use Rattle.forms.specs.Forms.{identification, marketPartner, resourceObject, party, quarterHour}
 use Rattle.lists.proofs.Unique.{one}
 
 pub is-identification-one : (v : List ℕ) {r r′ : Bool} → r ≡ identification (says v) → r′ ≡ identification (says v) → r ≡ r′
@@ -18,9 +18,6 @@ is-resource-object-one v = one
 
 pub is-party-one : (v : List ℕ) {r r′ : Bool} → r ≡ party (says v) → r′ ≡ party (says v) → r ≡ r′
 is-party-one v = one
-
-pub is-version-fixed-one : (v : List ℕ) {r r′ : Bool} → r ≡ fixedVersion (says v) → r′ ≡ fixedVersion (says v) → r ≡ r′
-is-version-fixed-one v = one
 
 pub is-quarter-hour-one : (v : List ℕ) {r r′ : Bool} → r ≡ quarterHour (says v) → r′ ≡ quarterHour (says v) → r ≡ r′
 is-quarter-hour-one v = one

@@ -24,10 +24,6 @@ resourceObject l = held (firstThree ∷ replicate 9 capitalOrDigit ++ digit ∷ 
 unfoldable pub party : List ℕ → Bool
 party l = held (replicate 16 partyChar) l
 
--- the "fixed value" of DtdBDEWNachrichtenVersion
-unfoldable pub fixedVersion : List ℕ → Bool
-fixedVersion l = same (text "1.0") l
-
 -- "Resolution is `PT15M`"
 unfoldable pub quarterHour : List ℕ → Bool
 quarterHour l = same (text "PT15M") l

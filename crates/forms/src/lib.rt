@@ -4,7 +4,7 @@ use pictures::fits;
 use pictures::is_said;
 ghost use mathlib.Core.Path.{_≡_};
 ghost use Rattle.characters.specs.Says.{says};
-ghost use Rattle.forms.specs.Forms.{identification, marketPartner, resourceObject, party, fixedVersion, quarterHour};
+ghost use Rattle.forms.specs.Forms.{identification, marketPartner, resourceObject, party, quarterHour};
 
 // Ruled out: false for twenty `ä`, whose bytes are forty; false for an empty value; true for 36 characters.
 pub fn is_identification(v: &[u8]) -> bool
@@ -32,13 +32,6 @@ pub fn is_party(v: &[u8]) -> bool
     ensures { λ r. ⌜ r ≡ party (says (now (v .entry))) ⌝ }
 {
     fits(b"################", v)
-}
-
-// Ruled out: true for `1.1`, for `1.0` with a space after it, or for an empty value.
-pub fn is_version_fixed(v: &[u8]) -> bool
-    ensures { λ r. ⌜ r ≡ fixedVersion (says (now (v .entry))) ⌝ }
-{
-    is_said(b"1.0", v)
 }
 
 // Ruled out: true for `PT60M`, for `PT900S`, or for an empty value.

@@ -60,7 +60,7 @@ fn print_forms(v: &[u8]) {
     print_flag(forms::is_market_partner(v));
     print_flag(forms::is_resource_object(v));
     print_flag(forms::is_party(v));
-    print_flag(forms::is_version_fixed(v));
+    print_flag(guideline::is_fixed(1, guideline::DTD_MESSAGE, v));
 }
 
 fn print_numbers(v: &[u8]) {

@@ -1,25 +1,59 @@
 -- What differs by kind, but for the rows: told here, kind by kind, and asked for by name everywhere else. Which element is the series, the object or Pos of a
 -- kind is told by the roles of its rows.
 use Prim.Native.Nat.{ℕ, suc}
+use mathlib.Core.List.{List, []}
 use mathlib.Core.Bool.{Bool, true, false, cond}
 use lib.Dec.{eqb, leb}
 use Rattle.slices.specs.Text.{text}
 use Rattle.elements.specs.Names.{elementNo}
+use Rattle.guideline.specs.declared.Demands.{Demands}
 use Rattle.guideline.specs.declared.Kind.{Kind}
 
 -- no bound to the number of Intervals
 abbrev pub unbounded : ℕ
 unbounded = 0
 
+-- ---- the attributes that a root may have: DtdVersion, DtdRelease, DtdBDEWNachrichtenVersion
+
+abbrev pub dtdVersion : ℕ
+dtdVersion = 0
+
+abbrev pub dtdRelease : ℕ
+dtdRelease = 1
+
+abbrev pub dtdMessage : ℕ
+dtdMessage = 2
+
+-- what a kind asks of each: the root may not have it, has it, or may have it
+abbrev pub notKnown : ℕ
+notKnown = 0
+
+abbrev pub asked : ℕ
+asked = 1
+
+abbrev pub optional : ℕ
+optional = 2
+
+-- none of the three is known
+unfoldable pub noDemands : Demands
+noDemands = record { version = notKnown; release = notKnown; message = notKnown }
+
+-- DtdBDEWNachrichtenVersion has to come, and the others are not known
+unfoldable pub messageAlone : Demands
+messageAlone = record { version = notKnown; release = notKnown; message = asked }
+
+-- ---- the kinds
+
 -- 0, before the root, and any other number that is no kind: no element has the name of its root, and it has no rows
 unfoldable pub noKind : Kind
-noKind = record { root = 0; first = 0; count = 0; daily = false; least = 0; most = unbounded; full = false; counted = false }
+noKind = record { root = 0; dtd = noDemands; first = 0; count = 0; daily = false; least = 0; most = unbounded; full = false; counted = false }
 
 -- "Beschaffungsanforderung 1.0, kind 1": TimePeriodCovered is a delivery day; Interval is 92..100, and there are N of them; Pos is "1, 2, 3 and so on"
 unfoldable pub kindOne : Kind
 kindOne =
     record {
       root = elementNo (text "Beschaffungsanforderung");
+      dtd = messageAlone;
       first = 0;
       count = 32;
       daily = true;
@@ -34,6 +68,7 @@ unfoldable pub kindTwo : Kind
 kindTwo =
     record {
       root = elementNo (text "Kostenblatt");
+      dtd = messageAlone;
       first = 32;
       count = 34;
       daily = false;
@@ -45,6 +80,16 @@ kindTwo =
 
 unfoldable pub kindAt : ℕ → Kind
 kindAt k = cond (eqb k 1) kindOne (cond (eqb k 2) kindTwo noKind)
+
+-- the "fixed value" of an attribute of the root; no text for an attribute that the kind does not know
+unfoldable pub fixedOne : ℕ → List ℕ
+fixedOne attribute = cond (eqb attribute dtdMessage) (text "1.0") []
+
+unfoldable pub fixedTwo : ℕ → List ℕ
+fixedTwo attribute = cond (eqb attribute dtdMessage) (text "1.0") []
+
+unfoldable pub fixedFor : ℕ → ℕ → List ℕ
+fixedFor kind attribute = cond (eqb kind 1) (fixedOne attribute) (cond (eqb kind 2) (fixedTwo attribute) [])
 
 unfoldable pub isKind : ℕ → Bool
 isKind k = cond (eqb k 1) true (eqb k 2)

@@ -89,16 +89,63 @@ use elements::STATUS;
 use elements::TIME_INTERVAL;
 use elements::TIME_PERIOD_COVERED;
 use elements::TIME_SERIES_IDENTIFICATION;
+use pictures::is_said;
 use structure::DOCUMENT;
 ghost use mathlib.Core.Path.{_≡_};
 ghost use lib.ListN.{length, take, drop};
+ghost use Rattle.slices.specs.Same.{same};
+ghost use Rattle.characters.specs.Says.{says};
 ghost use Rattle.guideline.specs.Rows.{everyRow, rowsIn};
-ghost use Rattle.guideline.specs.Kinds.{kindAt, kindOf, takesAnother, hasEnough};
+ghost use Rattle.guideline.specs.Kinds.{noDemands, messageAlone, kindAt, kindOf, fixedOne, fixedTwo, fixedFor, takesAnother, hasEnough};
 
-// What differs by kind, but for the rows.
+// What a kind asks of each of the attributes that a root may have.
+pub struct Demands {
+    pub version: usize,
+    pub release: usize,
+    pub message: usize,
+}
+
+pub const NOT_KNOWN: usize = 0;
+
+pub const ASKED: usize = 1;
+
+pub const OPTIONAL: usize = 2;
+
+impl Demands {
+    // Ruled out: one of the three asked for, or let through.
+    pub fn none() -> Demands
+        ensures { λ r. ⌜ r ≡ noDemands ⌝ }
+    {
+        Demands {
+            version: NOT_KNOWN,
+            release: NOT_KNOWN,
+            message: NOT_KNOWN,
+        }
+    }
+
+    fn message_alone() -> Demands
+        ensures { λ r. ⌜ r ≡ messageAlone ⌝ }
+    {
+        Demands {
+            version: NOT_KNOWN,
+            release: NOT_KNOWN,
+            message: ASKED,
+        }
+    }
+}
+
+// Those attributes: DtdVersion, DtdRelease, DtdBDEWNachrichtenVersion.
+pub const DTD_VERSION: usize = 0;
+
+pub const DTD_RELEASE: usize = 1;
+
+pub const DTD_MESSAGE: usize = 2;
+
+// What differs by kind, but for the rows and the fixed values.
 pub struct Kind {
     // the number of the root's name
     pub root: usize,
+    pub dtd: Demands,
     // the first of its rows among those of all kinds, and how many they are
     pub first: usize,
     pub count: usize,
@@ -245,8 +292,10 @@ pub fn kind_at(kind: u32) -> Kind
     ensures { λ r. ⌜ r ≡ kindAt kind ⌝ }
 {
     if kind == 1 {
+        let dtd = Demands::message_alone();
         return Kind {
             root: BESCHAFFUNGSANFORDERUNG,
+            dtd,
             first: 0,
             count: 32,
             daily: true,
@@ -257,8 +306,10 @@ pub fn kind_at(kind: u32) -> Kind
         };
     }
     if kind == 2 {
+        let dtd = Demands::message_alone();
         return Kind {
             root: KOSTENBLATT,
+            dtd,
             first: 32,
             count: 34,
             daily: false,
@@ -268,8 +319,10 @@ pub fn kind_at(kind: u32) -> Kind
             counted: false,
         };
     }
+    let dtd = Demands::none();
     Kind {
         root: 0,
+        dtd,
         first: 0,
         count: 0,
         daily: false,
@@ -315,6 +368,36 @@ pub fn kind_of_root(name: usize) -> u32
         return 2;
     }
     0
+}
+
+fn is_fixed_one(attribute: usize, v: &[u8]) -> bool
+    ensures { λ r. ⌜ r ≡ same (fixedOne attribute) (says (now (v .entry))) ⌝ }
+{
+    if attribute == DTD_MESSAGE {
+        return is_said(b"1.0", v);
+    }
+    is_said(b"", v)
+}
+
+fn is_fixed_two(attribute: usize, v: &[u8]) -> bool
+    ensures { λ r. ⌜ r ≡ same (fixedTwo attribute) (says (now (v .entry))) ⌝ }
+{
+    if attribute == DTD_MESSAGE {
+        return is_said(b"1.0", v);
+    }
+    is_said(b"", v)
+}
+
+// Whether a value is the fixed one of an attribute of the root, which is no text for an attribute that the kind does not know.
+// Ruled out, of DtdBDEWNachrichtenVersion in both kinds: true for `1.1`, for `1.0` with a space after it, or for an empty value.
+pub fn is_fixed(kind: u32, attribute: usize, v: &[u8]) -> bool
+    ensures { λ r. ⌜ r ≡ same (fixedFor kind attribute) (says (now (v .entry))) ⌝ }
+{
+    match kind {
+        1 => is_fixed_one(attribute, v),
+        2 => is_fixed_two(attribute, v),
+        _ => is_said(b"", v),
+    }
 }
 
 // Whether a Period that has n Intervals takes another. Ruled out: a 101st in kind 1; an end to the Intervals of kind 2.

@@ -19,7 +19,7 @@ use Rattle.items.specs.Item.{tagItem, startTag, endTag, endName, endClos
 use Rattle.items.specs.declared.Reach.{Reach}
 use Rattle.items.specs.declared.Reach.the-variants.{Upto, Unread}
 use Rattle.items.specs.declared.Item.{Item}
-use Rattle.items.specs.declared.Item.the-variants.{Start, Empty, End, Text, Comment, Refused}
+use Rattle.items.specs.declared.Item.the-variants.{Start, Empty, End, Text, Comment, Unreadable}
 
 -- "The place of an item is the index of its first byte"
 unfoldable pub Placed : ℕ → Item → Type 0
@@ -28,7 +28,7 @@ Placed before (Empty t) = Unit {0}
 Placed before (End n e) = Unit {0}
 Placed before (Text w e) = Unit {0}
 Placed before (Comment e) = Unit {0}
-Placed before (Refused p) = p ≡ before
+Placed before (Unreadable p) = p ≡ before
 
 module _ (before : ℕ) (s : List ℕ) where
   tag-placed : (n : ℕ) (x : Ends) → Placed before (tagItem before n x)
@@ -81,4 +81,4 @@ refused-two (Empty t) = inl refl
 refused-two (End n e) = inl refl
 refused-two (Text w e) = inl refl
 refused-two (Comment e) = inl refl
-refused-two (Refused p) = inr refl
+refused-two (Unreadable p) = inr refl

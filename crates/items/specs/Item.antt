@@ -9,7 +9,7 @@ use Rattle.slices.specs.Bytes.{byte}
 use Rattle.slices.specs.Run.{run}
 use Rattle.attributes.specs.Names.{nameStart, nameByte, white}
 use Rattle.tags.specs.Known.{noneKnown}
-use Rattle.tags.specs.Tail.{Ends, closed, torn, ends, keep, twice}
+use Rattle.tags.specs.Tail.{Ends, closed, torn, ends, keptOf, twice}
 use Rattle.tags.specs.declared.Known.{Known}
 use Rattle.items.specs.Comment.{comment}
 use Rattle.items.specs.Text.{textItem}
@@ -17,40 +17,40 @@ use Rattle.items.specs.declared.Reach.{Reach}
 use Rattle.items.specs.declared.Reach.the-variants.{Upto, Unread}
 use Rattle.items.specs.declared.Tag.{Tag}
 use Rattle.items.specs.declared.Item.{Item}
-use Rattle.items.specs.declared.Item.the-variants.{Start, Empty, End, Text, Comment, Refused}
+use Rattle.items.specs.declared.Item.the-variants.{Start, Empty, End, Text, Comment, Unreadable}
 
 unfoldable pub tagOf : ℕ → Known → ℕ → Tag
 tagOf n k e =
-    record { name = n; v = k .v; coding = k .coding; version = k .version; others = k .others; passable = k .passable; len = e }
+    record { name = n; v = k .v; coding = k .coding; dtd = k .dtd; others = k .others; passable = k .passable; len = e }
 
 -- `<`, a name of n bytes, and what follows it: "An attribute twice in a tag .. makes the item unreadable."
 unfoldable pub tagItem : ℕ → ℕ → Ends → Item
 tagItem before n (closed more empty e) =
-    cond (twice more) (Refused before) (cond empty (Empty (tagOf n (keep noneKnown more) e)) (Start (tagOf n (keep noneKnown more) e)))
-tagItem before n torn = Refused before
+    cond (twice more) (Unreadable before) (cond empty (Empty (tagOf n (keptOf noneKnown more) e)) (Start (tagOf n (keptOf noneKnown more) e)))
+tagItem before n torn = Unreadable before
 
 unfoldable pub startTag : ℕ → List ℕ → Item
 startTag before s =
-    cond (nameStart (byte s 1)) (tagItem before (run nameByte (drop 1 s)) (ends s (1 + run nameByte (drop 1 s)))) (Refused before)
+    cond (nameStart (byte s 1)) (tagItem before (run nameByte (drop 1 s)) (ends s (1 + run nameByte (drop 1 s)))) (Unreadable before)
 
 -- `</`, a name of n bytes, white space, and `>` at the place e
 unfoldable pub endClose : ℕ → List ℕ → ℕ → ℕ → Item
-endClose before s n e = cond (eqb (byte s e) 0x3E) (End n (e + 1)) (Refused before)
+endClose before s n e = cond (eqb (byte s e) 0x3E) (End n (e + 1)) (Unreadable before)
 
 unfoldable pub endName : ℕ → List ℕ → ℕ → Item
 endName before s n = endClose before s n (2 + n + run white (drop (2 + n) s))
 
 unfoldable pub endTag : ℕ → List ℕ → Item
-endTag before s = cond (nameStart (byte s 2)) (endName before s (run nameByte (drop 2 s))) (Refused before)
+endTag before s = cond (nameStart (byte s 2)) (endName before s (run nameByte (drop 2 s))) (Unreadable before)
 
 -- `<!--`, and the rest of the comment
 unfoldable pub commentItem : ℕ → Reach → Item
 commentItem before (Upto e) = Comment (4 + e)
-commentItem before Unread = Refused before
+commentItem before Unread = Unreadable before
 
 unfoldable pub commentTag : ℕ → List ℕ → Item
 commentTag before s =
-    cond (eqb (byte s 2) 0x2D) (cond (eqb (byte s 3) 0x2D) (commentItem before (comment (drop 4 s))) (Refused before)) (Refused before)
+    cond (eqb (byte s 2) 0x2D) (cond (eqb (byte s 3) 0x2D) (commentItem before (comment (drop 4 s))) (Unreadable before)) (Unreadable before)
 
 -- "no DOCTYPE, CDATA or other processing instruction": after `<!` only a comment, after `<?` nothing
 unfoldable pub item : ℕ → List ℕ → Item
@@ -68,7 +68,7 @@ itemRefusal (Empty t) = 0
 itemRefusal (End n e) = 0
 itemRefusal (Text w e) = 0
 itemRefusal (Comment e) = 0
-itemRefusal (Refused p) = 2
+itemRefusal (Unreadable p) = 2
 
 -- how many bytes a reader passes
 abbrev pub itemEnd : Item → ℕ
@@ -77,7 +77,7 @@ itemEnd (Empty t) = t .len
 itemEnd (End n e) = e
 itemEnd (Text w e) = e
 itemEnd (Comment e) = e
-itemEnd (Refused p) = 1
+itemEnd (Unreadable p) = 1
 
 -- where the value of `v` ends
 abbrev pub itemValue : Item → ℕ
@@ -86,7 +86,7 @@ itemValue (Empty t) = t .v .start + t .v .len
 itemValue (End n e) = 0
 itemValue (Text w e) = 0
 itemValue (Comment e) = 0
-itemValue (Refused p) = 0
+itemValue (Unreadable p) = 0
 
 abbrev pub readEnd : Reach → ℕ
 readEnd (Upto e) = e

@@ -10,18 +10,18 @@ use Rattle.slices.specs.Text.{text}
 use Rattle.characters.specs.Says.{allChars}
 use Rattle.attributes.specs.Names.{white}
 use Rattle.items.specs.declared.Item.{Item}
-use Rattle.items.specs.declared.Item.the-variants.{Text, Refused}
+use Rattle.items.specs.declared.Item.the-variants.{Text, Unreadable}
 
 -- Of n bytes, at least one: "only space, tab, CR and LF", or other XML characters;
 -- "with `&`, `]]>` or bytes that aren't XML characters in UTF-8 the item is unreadable"
 unfoldable pub textTo : ℕ → List ℕ → ℕ → Item
 textTo before s n =
-    cond (eqb n 0) (Refused before)
+    cond (eqb n 0) (Unreadable before)
     (cond (eqb (run white s) n) (Text true n)
     (cond (allChars (take n s))
-    (cond (ltb (firstAt (text "&") (take n s)) n) (Refused before)
-    (cond (ltb (firstAt (text "]]>") (take n s)) n) (Refused before) (Text false n)))
-    (Refused before)))
+    (cond (ltb (firstAt (text "&") (take n s)) n) (Unreadable before)
+    (cond (ltb (firstAt (text "]]>") (take n s)) n) (Unreadable before) (Text false n)))
+    (Unreadable before)))
 
 -- "Text is a longest run of bytes without `<`."
 unfoldable pub textItem : ℕ → List ℕ → Item

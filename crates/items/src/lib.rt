@@ -4,12 +4,14 @@ use attributes::name_len;
 use attributes::white_len;
 use characters::all_chars;
 use repeats::has_twice;
+use slices::Span;
 use slices::byte_at;
 use slices::first_at;
 use slices::front;
+use slices::part;
 use slices::rest;
+use tags::Dtd;
 use tags::Known;
-use tags::Span;
 use tags::Tail;
 use tags::tail_at;
 ghost use mathlib.Core.Path.{_≡_};
@@ -21,6 +23,7 @@ ghost use Rattle.tags.specs.Tail.{ends, twiceIn};
 ghost use Rattle.items.specs.Comment.{comment};
 ghost use Rattle.items.specs.Text.{textItem};
 ghost use Rattle.items.specs.Item.{tagOf, startTag, endTag, commentTag, item, itemEnd, itemValue, readEnd};
+ghost use Rattle.items.specs.Parts.{nameIn, spanOf, passed};
 
 // A start or empty tag: `<` and the name, whose length is `name`; the values of the attributes that the guideline knows; whether it
 // has others, and whether all of those may be passed over on a root; how many bytes it takes.
@@ -28,7 +31,7 @@ pub struct Tag {
     pub name: usize,
     pub v: Span,
     pub coding: Span,
-    pub version: Span,
+    pub dtd: Dtd,
     pub others: bool,
     pub passable: bool,
     pub len: usize,
@@ -42,8 +45,8 @@ pub enum Item {
     // whether it is white space only, and how many bytes it takes
     Text(bool, usize),
     Comment(usize),
-    // unreadable: its place
-    Refused(usize),
+    // its place
+    Unreadable(usize),
 }
 
 // How far a comment reaches, or that it is unreadable.
@@ -73,11 +76,11 @@ fn comment_tag(before: usize, s: &[u8]) -> Item
         if byte_at(s, 3) == 0x2D {
             return match comment_at(rest(s, 4)) {
                 Reach::Upto(e) => Item::Comment(4 + e),
-                Reach::Unread => Item::Refused(before),
+                Reach::Unread => Item::Unreadable(before),
             };
         }
     }
-    Item::Refused(before)
+    Item::Unreadable(before)
 }
 
 fn any_text(before: usize, s: &[u8]) -> Item
@@ -86,7 +89,7 @@ fn any_text(before: usize, s: &[u8]) -> Item
 {
     let n = first_at(b"<", s);
     if n == 0 {
-        return Item::Refused(before);
+        return Item::Unreadable(before);
     }
     if white_len(s) == n {
         return Item::Text(true, n);
@@ -94,14 +97,14 @@ fn any_text(before: usize, s: &[u8]) -> Item
     let t = front(s, n);
     if all_chars(t) {
         if first_at(b"&", t) < n {
-            return Item::Refused(before);
+            return Item::Unreadable(before);
         }
         if first_at(b"]]>", t) < n {
-            return Item::Refused(before);
+            return Item::Unreadable(before);
         }
         return Item::Text(false, n);
     }
-    Item::Refused(before)
+    Item::Unreadable(before)
 }
 
 // White space up to a tag, which nearly every text is, is told in one walk.
@@ -124,12 +127,12 @@ fn tag_of(n: usize, k: Known, len: usize) -> Tag
 {
     let v = k.v;
     let coding = k.coding;
-    let version = k.version;
+    let dtd = k.dtd;
     Tag {
         name: n,
         v,
         coding,
-        version,
+        dtd,
         others: k.others,
         passable: k.passable,
         len,
@@ -156,7 +159,7 @@ fn start_tag(before: usize, s: &[u8]) -> Item
         match tail_at(s, b) {
             Tail::Shut(k, empty, e) => {
                 if is_repeated(k, s, b) {
-                    return Item::Refused(before);
+                    return Item::Unreadable(before);
                 }
                 let t = tag_of(n, k, e);
                 if empty {
@@ -164,10 +167,10 @@ fn start_tag(before: usize, s: &[u8]) -> Item
                 }
                 return Item::Start(t);
             }
-            Tail::Breaks => return Item::Refused(before),
+            Tail::Breaks => return Item::Unreadable(before),
         }
     }
-    Item::Refused(before)
+    Item::Unreadable(before)
 }
 
 fn end_tag(before: usize, s: &[u8]) -> Item
@@ -182,7 +185,7 @@ fn end_tag(before: usize, s: &[u8]) -> Item
             return Item::End(n, e + 1);
         }
     }
-    Item::Refused(before)
+    Item::Unreadable(before)
 }
 
 // The item at the front of s, the part of the document after its first `before` bytes.
@@ -203,4 +206,62 @@ pub fn item_at(before: usize, s: &[u8]) -> Item
         return start_tag(before, s);
     }
     text_at(before, s)
+}
+
+// How many bytes the item takes; an unreadable one is passed by no loop, and tells 1.
+// Ruled out: the bytes of its name alone.
+pub fn item_len(item: Item) -> usize
+    ensures { λ r. ⌜ r ≡ itemEnd item ⌝ }
+{
+    match item {
+        Item::Start(t) => t.len,
+        Item::Empty(t) => t.len,
+        Item::End(_, n) => n,
+        Item::Text(_, n) => n,
+        Item::Comment(n) => n,
+        Item::Unreadable(_) => 1,
+    }
+}
+
+// The name of a tag, and of any other item none.
+// Ruled out: a name with its `/`; the name of a start tag for its end tag's place.
+pub fn name_in(item: Item, s: &[u8]) -> &[u8]
+    ensures { λ r. ⌜ now r ≡ nameIn item (now (s .entry)) ⌝ }
+{
+    match item {
+        Item::Start(t) => part(s, 1, t.name),
+        Item::Empty(t) => part(s, 1, t.name),
+        Item::End(n, _) => part(s, 2, n),
+        Item::Text(_, _) => part(s, 0, 0),
+        Item::Comment(_) => part(s, 0, 0),
+        Item::Unreadable(_) => part(s, 0, 0),
+    }
+}
+
+// Where the value of `v` stands in the item. Ruled out: another attribute's value.
+pub fn span_of(item: Item) -> Span
+    ensures { λ r. ⌜ r ≡ spanOf item ⌝ }
+{
+    match item {
+        Item::Start(t) => t.v,
+        Item::Empty(t) => t.v,
+        Item::End(_, _) => Span { start: 0, len: 0 },
+        Item::Text(_, _) => Span { start: 0, len: 0 },
+        Item::Comment(_) => Span { start: 0, len: 0 },
+        Item::Unreadable(_) => Span { start: 0, len: 0 },
+    }
+}
+
+// Whether the item moves nothing: white text, or a comment. Ruled out: true for any other text.
+pub fn is_passed(item: Item) -> bool
+    ensures { λ r. ⌜ r ≡ passed item ⌝ }
+{
+    match item {
+        Item::Start(_) => false,
+        Item::Empty(_) => false,
+        Item::End(_, _) => false,
+        Item::Text(white, _) => white,
+        Item::Comment(_) => true,
+        Item::Unreadable(_) => false,
+    }
 }

@@ -8,7 +8,7 @@ ghost use lib.ListN.{length};
 use items::Item;
 use items::Tag;
 use prolog::Begin;
-use tags::Span;
+use slices::Span;
 
 fn show_number(n: usize) {
     lines::print_text(b" ");
@@ -39,7 +39,8 @@ fn show_spans(t: Tag) {
     lines::print_text(b" coding");
     show_span(t.coding);
     lines::print_text(b" version");
-    show_span(t.version);
+    let dtd = t.dtd;
+    show_span(dtd.message);
 }
 
 fn show_tag(t: Tag) {
@@ -110,7 +111,7 @@ fn show_item(before: usize, s: &[u8]) -> usize
             show_comment(n);
             n
         }
-        Item::Refused(place) => {
+        Item::Unreadable(place) => {
             show_refused(place);
             0
         }
@@ -137,7 +138,7 @@ fn show_document(doc: &[u8]) {
             show_number(at);
             show_items(doc, at);
         }
-        Begin::Unreadable(at) => {
+        Begin::Misdeclared(at) => {
             lines::print_text(b"unreadable");
             show_number(at);
             show_items(doc, at);

@@ -8,9 +8,9 @@ use Rattle.notes.specs.Reader.{noteIn}
 use Rattle.reader.specs.Answer.{readOf}
 use Rattle.reader.proofs.Unique.{read-one}
 use Rattle.library.specs.Cells.{PermittedCall, PermittedNote}
-use Rattle.library.specs.Version.{version}
+use Rattle.library.specs.Version.{libraryVersion}
 
-pub lumintayag-version-one : {r r′ : ℕ} → r ≡ version → r′ ≡ version → r ≡ r′
+pub lumintayag-version-one : {r r′ : ℕ} → r ≡ libraryVersion → r′ ≡ libraryVersion → r ≡ r′
 lumintayag-version-one = one
 
 pub lumintayag-read-one : (doc : List ℕ) (ns np na nb k : ℕ) {r r′ : ℕ} {s s′ p p′ : List ℕ} {m m′ : List ℤ} {n n′ a a′ : List ℕ}

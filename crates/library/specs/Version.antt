@@ -2,5 +2,5 @@
 use Prim.Native.Nat.{ℕ}
 
 -- a.b.c is 10000 a + 100 b + c, and this is 0.2.0; library/lumintayag.h has the same number
-abbrev pub version : ℕ
-version = 200
+abbrev pub libraryVersion : ℕ
+libraryVersion = 200

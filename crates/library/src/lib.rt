@@ -12,7 +12,7 @@ ghost use lib.ListN.{length};
 ghost use Rattle.notes.specs.Reader.{noteIn};
 ghost use Rattle.reader.specs.Answer.{outcomeOf};
 ghost use Rattle.library.specs.Cells.{cells, sevenOf, PermittedCall, PermittedNote};
-ghost use Rattle.library.specs.Version.{version};
+ghost use Rattle.library.specs.Version.{libraryVersion};
 
 // A function whose arguments, cells or rows are laid out anew gets a new name, so that no program is linked with a layout it does not know.
 const VERSION: u32 = 200;
@@ -20,7 +20,7 @@ const VERSION: u32 = 200;
 // The version of the exported functions, by which a program tells whether it was compiled with the header of this archive.
 #[no_mangle]
 pub extern "C" fn lumintayag_version() -> u32
-    ensures { λ r. ⌜ r ≡ version ⌝ }
+    ensures { λ r. ⌜ r ≡ libraryVersion ⌝ }
 {
     VERSION
 }

@@ -9,8 +9,8 @@ use lib.Dec.{eqb}
 use lib.ListN.{drop}
 use borrow.Author.Tests.{ne-eqb}
 use Rattle.pictures.specs.Picture.{digit}
-use Rattle.numbers.specs.Digits.{digits, ended, onlyDigits}
-use Rattle.numbers.specs.Amount.{minus, unsigned, fractionForm, unsignedForm, amountForm}
+use Rattle.numbers.specs.Digits.{digits, nothingLeft, onlyDigits}
+use Rattle.numbers.specs.Amount.{minus, unsigned, fractionForm, unsignedForm, writtenAmount}
 use Rattle.numbers.specs.Alike.{Like, Alike, none, next}
 use Rattle.numbers.proofs.Reading.{digit-range}
 
@@ -38,8 +38,8 @@ alike-drop zero r = r
 alike-drop (suc n) none = none
 alike-drop (suc n) (next e r) = alike-drop n r
 
-like-ended : {l m : List ℕ} → Alike l m → ended l ≡ ended m
-unfolding ended
+like-ended : {l m : List ℕ} → Alike l m → nothingLeft l ≡ nothingLeft m
+unfolding nothingLeft
 like-ended none = refl
 like-ended (next e r) = refl
 
@@ -67,6 +67,6 @@ like-sign {l} {m} r =
     rw (like-minus r) (elim (minus m) as (λ (t : Bool). Alike (cond t (drop 1 l) l) (cond t (drop 1 m) m)) [ true ↦ alike-drop 1 r | false ↦ r ])
 
 -- the one has the form of an amount exactly when the other has
-pub blind : {l m : List ℕ} → Alike l m → amountForm l ≡ amountForm m
-unfolding amountForm
+pub blind : {l m : List ℕ} → Alike l m → writtenAmount l ≡ writtenAmount m
+unfolding writtenAmount
 blind r = like-unsigned (like-sign r)

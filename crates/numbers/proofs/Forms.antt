@@ -21,9 +21,9 @@ use Rattle.characters.specs.declared.Said.{Said}
 use Rattle.characters.specs.declared.Said.the-variants.{Says, Over}
 use Rattle.characters.proofs.Saying.{says-char, says-over}
 use Rattle.pictures.specs.Picture.{digit}
-use Rattle.numbers.specs.Digits.{digits, numberFrom, ended, onlyDigits}
+use Rattle.numbers.specs.Digits.{digits, numberFrom, nothingLeft, onlyDigits}
 use Rattle.numbers.specs.Number.{numberForm, numberWithin}
-use Rattle.numbers.specs.Amount.{minus, unsigned, fractionForm, unsignedForm, amountForm, filled, thousandths, signed, amountOf}
+use Rattle.numbers.specs.Amount.{minus, unsigned, fractionForm, unsignedForm, writtenAmount, filled, thousandths, signed, amountOf}
 use Rattle.numbers.specs.Parts.{pointOf, fractionOf, unsignedOf, signedOf}
 use Rattle.numbers.specs.declared.Number.the-variants.{Is, NotNumber}
 use Rattle.numbers.specs.declared.Amount.the-variants.{Thousandths, NotAmount}
@@ -44,12 +44,12 @@ module _ (w : List ℕ) {x : Said} (e : x ≡ saidAt w) where
   pub first-char : {c n : ℕ} → x ≡ Says c n → 1 ≤ n → says w ≡ c ∷ says (drop n w)
   first-char {c} {n} q m = char-of w c n m (sym e ∙ q)
 
-pub over-yes : {l : List ℕ} → l ≡ [] → true ≡ ended l
-unfolding ended
+pub over-yes : {l : List ℕ} → l ≡ [] → true ≡ nothingLeft l
+unfolding nothingLeft
 over-yes e = rw e
 
-pub over-no : {l t : List ℕ} {c : ℕ} → l ≡ c ∷ t → false ≡ ended l
-unfolding ended
+pub over-no : {l t : List ℕ} {c : ℕ} → l ≡ c ∷ t → false ≡ nothingLeft l
+unfolding nothingLeft
 over-no e = rw e
 
 digits-le : (k : ℕ) (l : List ℕ) → (digits k l ≤ k) × (digits k l ≤ length l)
@@ -67,7 +67,7 @@ module _ (most : ℕ) (l : List ℕ) {k : ℕ} (count : k ≡ digits most l) whe
   unfolding onlyDigits
   only-none z = rw (← count, eq-eqb _ _ z)
 
-  pub only-over : (k ≡ 0 → ⊥) → {t e : List ℕ} → t ≡ e → says e ≡ drop k l → {f : Bool} → f ≡ ended (says t) → onlyDigits most l ≡ f
+  pub only-over : (k ≡ 0 → ⊥) → {t e : List ℕ} → t ≡ e → says e ≡ drop k l → {f : Bool} → f ≡ nothingLeft (says t) → onlyDigits most l ≡ f
   unfolding onlyDigits
   only-over z {t} {e} cut left {f} over = rw (← count, ne-eqb _ _ z, ← left, ← cut, ← over)
 
@@ -138,7 +138,7 @@ module _ {l t : List ℕ} {c : ℕ} (e : l ≡ c ∷ t) where
   sign-none q = (rw (e, ne-eqb _ _ q), rw (e, ne-eqb _ _ q))
 
 signed-amount : (l : List ℕ) → signedOf (minus l) (unsignedOf (unsigned l)) ≡ amountOf l
-unfolding signedOf unsignedOf amountOf amountForm
+unfolding signedOf unsignedOf amountOf writtenAmount
 signed-amount l =
     let u = unsigned l in
     elim (unsignedForm u) as (λ (b : Bool). signedOf (minus l) (cond b (Parts (thousandths u)) NoParts) ≡ cond b (Thousandths (signed (minus l) (thousandths u))) NotAmount)

@@ -27,8 +27,8 @@ fractionForm (c ∷ l) = cond (eqb c (code ".")) (onlyDigits 3 l) false
 unfoldable pub unsignedForm : List ℕ → Bool
 unsignedForm l = cond (eqb (digits 12 l) 0) false (fractionForm (drop (digits 12 l) l))
 
-unfoldable pub amountForm : List ℕ → Bool
-amountForm l = unsignedForm (unsigned l)
+unfoldable pub writtenAmount : List ℕ → Bool
+writtenAmount l = unsignedForm (unsigned l)
 
 -- the digits after the point, filled up to three by zeros
 unfoldable pub filled : List ℕ → List ℕ
@@ -42,4 +42,4 @@ unfoldable pub signed : Bool → ℕ → ℤ
 signed m n = cond m (negℤ (pos n)) (pos n)
 
 unfoldable pub amountOf : List ℕ → Amount
-amountOf l = cond (amountForm l) (Thousandths (signed (minus l) (thousandths (unsigned l)))) NotAmount
+amountOf l = cond (writtenAmount l) (Thousandths (signed (minus l) (thousandths (unsigned l)))) NotAmount

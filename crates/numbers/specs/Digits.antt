@@ -18,10 +18,10 @@ unfoldable pub numberFrom : ℕ → List ℕ → ℕ
 numberFrom n [] = n
 numberFrom n (c ∷ l) = numberFrom (n * 10 + (c - code "0")) l
 
-unfoldable pub ended : List ℕ → Bool
-ended [] = true
-ended (c ∷ l) = false
+unfoldable pub nothingLeft : List ℕ → Bool
+nothingLeft [] = true
+nothingLeft (c ∷ l) = false
 
 -- one digit or more, up to k, and nothing after them
 unfoldable pub onlyDigits : ℕ → List ℕ → Bool
-onlyDigits k l = cond (eqb (digits k l) 0) false (ended (drop (digits k l) l))
+onlyDigits k l = cond (eqb (digits k l) 0) false (nothingLeft (drop (digits k l) l))

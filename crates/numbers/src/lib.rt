@@ -8,7 +8,7 @@ ghost use Prim.Native.Nat.{_+_, _*_, _<_, _≤_, _^_};
 ghost use lib.Dec.{ltb};
 ghost use lib.ListN.{take, drop};
 ghost use Rattle.characters.specs.Says.{says};
-ghost use Rattle.numbers.specs.Digits.{digits, numberFrom, ended};
+ghost use Rattle.numbers.specs.Digits.{digits, numberFrom, nothingLeft};
 ghost use Rattle.numbers.specs.Number.{atMostNine, numberWithin, numberOf};
 ghost use Rattle.numbers.specs.Amount.{minus, unsigned, amountOf};
 ghost use Rattle.numbers.specs.Parts.{pointOf, fractionOf, unsignedOf, signedOf, partsOf};
@@ -67,7 +67,7 @@ fn digits_of(v: &[u8], most: usize, before: u64) -> Digits
 }
 
 fn is_over(v: &[u8]) -> bool
-    ensures { λ r. ⌜ r ≡ ended (says (now (v .entry))) ⌝ }
+    ensures { λ r. ⌜ r ≡ nothingLeft (says (now (v .entry))) ⌝ }
 {
     match said_at(v) {
         Said::Over => true,

@@ -4,10 +4,10 @@ use mathlib.Core.List.{List, [], _∷_}
 use lib.ListN.{take, drop}
 
 -- `0` to `9` are 30 to 39 in hexadecimal, so a digit's value is what 16 leaves over; of more than four digits the last four count
-unfoldable pub numberOf : ℕ → List ℕ → ℕ
-numberOf shown [] = shown
-numberOf shown (c ∷ cs) = numberOf ((shown * 10 + c % 16) % 10000) cs
+unfoldable pub shownNumber : ℕ → List ℕ → ℕ
+shownNumber shown [] = shown
+shownNumber shown (c ∷ cs) = shownNumber ((shown * 10 + c % 16) % 10000) cs
 
 -- the number that n characters from the place `from` on show; where fewer are left, those
 unfoldable pub numberAt : ℕ → ℕ → List ℕ → ℕ
-numberAt from n cs = numberOf 0 (take n (drop from cs))
+numberAt from n cs = shownNumber 0 (take n (drop from cs))

@@ -16,22 +16,23 @@ use Rattle.slices.specs.Run.{run}
 use Rattle.slices.specs.Same.{same, begins}
 use Rattle.slices.specs.Text.{text}
 use Rattle.attributes.specs.Names.{white}
-use Rattle.attributes.specs.Attribute.{piece, partOf}
+use Rattle.slices.specs.Part.{partOf}
+use Rattle.attributes.specs.Attribute.{piece}
 use Rattle.attributes.specs.declared.Piece.{Piece}
 use Rattle.attributes.specs.declared.Piece.the-variants.{Attribute, Close, CloseEmpty, Torn}
-use Rattle.prolog.specs.Prolog.{utf, declaredBy, declared, encodedBy, encoded, declarationBy, declaration, markLen, after, beginAfter, begin, beginRefusal}
+use Rattle.prolog.specs.Prolog.{utf, declaredBy, declared, encodedBy, encoded, declarationBy, declaration, markLen, behindMark, beginAfter, begin, beginRefusal}
 use Rattle.prolog.specs.declared.Begin.{Begin}
-use Rattle.prolog.specs.declared.Begin.the-variants.{From, Unreadable}
+use Rattle.prolog.specs.declared.Begin.the-variants.{From, Misdeclared}
 
 -- "2: the item is unreadable", and no other number
 pub begin-refused : (x : Begin) → (beginRefusal x ≡ 0) ⊎ (beginRefusal x ≡ 2)
 begin-refused (From n) = inl refl
-begin-refused (Unreadable p) = inr refl
+begin-refused (Misdeclared p) = inr refl
 
 -- "The place of an item is the index of its first byte"
 unfoldable pub Placed : ℕ → Begin → Type 0
 Placed before (From n) = Unit {0}
-Placed before (Unreadable p) = p ≡ before
+Placed before (Misdeclared p) = p ≡ before
 
 module _ (before : ℕ) (s : List ℕ) where
   declared-placed : (a : ℕ) → Placed before (declared before s a)
@@ -60,10 +61,10 @@ module _ (before : ℕ) (s : List ℕ) where
   declaration-placed (CloseEmpty n) = refl
   declaration-placed Torn = refl
 
-after-placed : (before m : ℕ) (x : Begin) → Placed before x → Placed before (after m x)
-unfolding after Placed
+after-placed : (before m : ℕ) (x : Begin) → Placed before x → Placed before (behindMark m x)
+unfolding behindMark Placed
 after-placed before m (From n) h = tt
-after-placed before m (Unreadable p) h = h
+after-placed before m (Misdeclared p) h = h
 
 -- the refusal's place is that of the declaration, right after the mark
 pub begin-placed : (doc : List ℕ) → Placed (markLen doc) (begin doc)
@@ -82,7 +83,7 @@ pub undeclared : (doc : List ℕ) → begins (text "<?xml") (drop (markLen doc) 
 unfolding begin beginAfter
 undeclared doc h = rw h refl
 
-module _ (doc : List ℕ) (p : ℕ) (e : begin doc ≡ Unreadable p) where
+module _ (doc : List ℕ) (p : ℕ) (e : begin doc ≡ Misdeclared p) where
   pub refused-at : p ≡ markLen doc
   unfolding Placed
   refused-at = rw e at (begin-placed doc)
@@ -93,5 +94,5 @@ module _ (doc : List ℕ) (p : ℕ) (e : begin doc ≡ Unreadable p) where
   pub refused-declaration : begins (text "<?xml") (drop p doc) ≡ true
   refused-declaration =
       rw refused-at (⊎-elim (λ y. y)
-      (λ n. let w : From (markLen doc) ≡ Unreadable p = rw (undeclared doc n) at e in absurd (zero-not-one (cc)))
+      (λ n. let w : From (markLen doc) ≡ Misdeclared p = rw (undeclared doc n) at e in absurd (zero-not-one (cc)))
       (bool-cases (begins (text "<?xml") (drop (markLen doc) doc))))

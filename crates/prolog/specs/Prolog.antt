@@ -11,11 +11,12 @@ use Rattle.slices.specs.Run.{run}
 use Rattle.slices.specs.Same.{same, begins}
 use Rattle.slices.specs.Text.{text}
 use Rattle.attributes.specs.Names.{white}
-use Rattle.attributes.specs.Attribute.{piece, partOf}
+use Rattle.slices.specs.Part.{partOf}
+use Rattle.attributes.specs.Attribute.{piece}
 use Rattle.attributes.specs.declared.Piece.{Piece}
 use Rattle.attributes.specs.declared.Piece.the-variants.{Attribute, Close, CloseEmpty, Torn}
 use Rattle.prolog.specs.declared.Begin.{Begin}
-use Rattle.prolog.specs.declared.Begin.the-variants.{From, Unreadable}
+use Rattle.prolog.specs.declared.Begin.the-variants.{From, Misdeclared}
 
 -- "in any letter case": A to Z as a to z
 unfoldable pub lower : ℕ → ℕ
@@ -33,7 +34,7 @@ utf v =
 
 -- white space and `?>` at the place e, after what is read of the declaration
 unfoldable pub declaredBy : ℕ → List ℕ → ℕ → Begin
-declaredBy before s e = cond (eqb (byte s e) 0x3F) (cond (eqb (byte s (e + 1)) 0x3E) (From (e + 2)) (Unreadable before)) (Unreadable before)
+declaredBy before s e = cond (eqb (byte s e) 0x3F) (cond (eqb (byte s (e + 1)) 0x3E) (From (e + 2)) (Misdeclared before)) (Misdeclared before)
 
 unfoldable pub declared : ℕ → List ℕ → ℕ → Begin
 declared before s a = declaredBy before s (a + run white (drop a s))
@@ -42,8 +43,8 @@ declared before s a = declaredBy before s (a + run white (drop a s))
 unfoldable pub encodedBy : ℕ → List ℕ → ℕ → Piece → Begin
 encodedBy before s a (Attribute w n v m e) =
     cond (same (partOf (drop a s) w n) (text "encoding"))
-    (cond (utf (partOf (drop a s) v m)) (declared before s (a + e)) (Unreadable before))
-    (Unreadable before)
+    (cond (utf (partOf (drop a s) v m)) (declared before s (a + e)) (Misdeclared before))
+    (Misdeclared before)
 encodedBy before s a (Close n) = declared before s a
 encodedBy before s a (CloseEmpty n) = declared before s a
 encodedBy before s a Torn = declared before s a
@@ -55,11 +56,11 @@ encoded before s a = encodedBy before s a (piece (drop a s))
 unfoldable pub declarationBy : ℕ → List ℕ → Piece → Begin
 declarationBy before s (Attribute w n v m e) =
     cond (same (partOf (drop 5 s) w n) (text "version"))
-    (cond (same (partOf (drop 5 s) v m) (text "1.0")) (encoded before s (5 + e)) (Unreadable before))
-    (Unreadable before)
-declarationBy before s (Close n) = Unreadable before
-declarationBy before s (CloseEmpty n) = Unreadable before
-declarationBy before s Torn = Unreadable before
+    (cond (same (partOf (drop 5 s) v m) (text "1.0")) (encoded before s (5 + e)) (Misdeclared before))
+    (Misdeclared before)
+declarationBy before s (Close n) = Misdeclared before
+declarationBy before s (CloseEmpty n) = Misdeclared before
+declarationBy before s Torn = Misdeclared before
 
 unfoldable pub declaration : ℕ → List ℕ → Begin
 declaration before s = declarationBy before s (piece (drop 5 s))
@@ -69,13 +70,13 @@ unfoldable pub markLen : List ℕ → ℕ
 markLen doc = cond (begins (0xEF ∷ 0xBB ∷ 0xBF ∷ []) doc) 3 0
 
 -- the declaration is read from the byte after the mark on, so the place of the first item has the m bytes of the mark before it
-unfoldable pub after : ℕ → Begin → Begin
-after m (From n) = From (m + n)
-after m (Unreadable p) = Unreadable p
+unfoldable pub behindMark : ℕ → Begin → Begin
+behindMark m (From n) = From (m + n)
+behindMark m (Misdeclared p) = Misdeclared p
 
 -- after a mark of m bytes: a declaration if `<?xml` stands there, else the first item
 unfoldable pub beginAfter : List ℕ → ℕ → Begin
-beginAfter doc m = cond (begins (text "<?xml") (drop m doc)) (after m (declaration m (drop m doc))) (From m)
+beginAfter doc m = cond (begins (text "<?xml") (drop m doc)) (behindMark m (declaration m (drop m doc))) (From m)
 
 -- where the items of a document begin
 unfoldable pub begin : List ℕ → Begin
@@ -84,9 +85,9 @@ begin doc = beginAfter doc (markLen doc)
 -- the paper's number for each answer: 0 for none, or 2, "the item is unreadable"; the refusal's place is in the answer itself
 abbrev pub beginRefusal : Begin → ℕ
 beginRefusal (From n) = 0
-beginRefusal (Unreadable p) = 2
+beginRefusal (Misdeclared p) = 2
 
 -- how far the part before the first item reaches
 abbrev pub beginUse : Begin → ℕ
 beginUse (From n) = n
-beginUse (Unreadable p) = 0
+beginUse (Misdeclared p) = 0

@@ -1,11 +1,11 @@
 // Where the items of a document begin: after the byte order mark and the XML declaration.
 use attributes::Piece;
-use attributes::part;
 use attributes::piece_at;
 use attributes::white_len;
 use slices::begins_with;
 use slices::byte_at;
 use slices::is_same;
+use slices::part;
 use slices::rest;
 ghost use mathlib.Core.Path.{_≡_};
 ghost use Prim.Native.Nat.{_+_, _≤_};
@@ -16,7 +16,7 @@ pub enum Begin {
     // the place of the first item, or the end
     From(usize),
     // a declaration that is unreadable: its place
-    Unreadable(usize),
+    Misdeclared(usize),
 }
 
 fn lower_of(b: u8) -> u8
@@ -63,7 +63,7 @@ fn declared_to(before: usize, s: &[u8], a: usize) -> Begin
             return Begin::From(e + 2);
         }
     }
-    Begin::Unreadable(before)
+    Begin::Misdeclared(before)
 }
 
 // What follows the version in a declaration, which is read up to a.
@@ -86,7 +86,7 @@ fn encoding_at(before: usize, s: &[u8], a: usize) -> Begin
                     return declared_to(before, s, a + next);
                 }
             }
-            Begin::Unreadable(before)
+            Begin::Misdeclared(before)
         }
         Piece::Close(_) => declared_to(before, s, a),
         Piece::CloseEmpty(_) => declared_to(before, s, a),
@@ -113,11 +113,11 @@ fn declaration_at(before: usize, s: &[u8]) -> Begin
                     return encoding_at(before, s, 5 + next);
                 }
             }
-            Begin::Unreadable(before)
+            Begin::Misdeclared(before)
         }
-        Piece::Close(_) => Begin::Unreadable(before),
-        Piece::CloseEmpty(_) => Begin::Unreadable(before),
-        Piece::Torn => Begin::Unreadable(before),
+        Piece::Close(_) => Begin::Misdeclared(before),
+        Piece::CloseEmpty(_) => Begin::Misdeclared(before),
+        Piece::Torn => Begin::Misdeclared(before),
     }
 }
 
@@ -143,7 +143,7 @@ pub fn first_item(doc: &[u8]) -> Begin
     if begins_with(b"<?xml", s) {
         return match declaration_at(m, s) {
             Begin::From(n) => Begin::From(m + n),
-            Begin::Unreadable(p) => Begin::Unreadable(p),
+            Begin::Misdeclared(p) => Begin::Misdeclared(p),
         };
     }
     Begin::From(m)

@@ -19,7 +19,7 @@ use Rattle.reader.specs.Reading.{Out, blank, refusedAt, readSheet}
 use Rattle.reader.specs.Answer.{Outcome, noteFor, answerOf, told, noted, unnoted, readOf}
 use Rattle.reader.proofs.Sheets.{read-unnoted, read-noted}
 use Rattle.promises.specs.Rows.{ZeroPast, InRoom, Sized}
-use Rattle.promises.specs.Answers.{fiveOf, atOnce}
+use Rattle.promises.specs.Answers.{fiveTold, atOnce}
 use Rattle.guideline.specs.Kinds.{seriesElement}
 use Rattle.promises.specs.Items.{before, starts, kindIn, intervalElement, itemsIn, PlaceOf}
 use Rattle.promises.proofs.Places.{sheet-here}
@@ -158,10 +158,10 @@ module _ (doc : List ℕ) (ns np na nb : ℕ) where
       (ltb-cases 1048576 (length doc))
 
   pub note-told : 16 ≤ nb
-      → (outcome .answer .note ≡ length (noteOf (fiveOf (outcome .answer))))
+      → (outcome .answer .note ≡ length (noteOf (fiveTold (outcome .answer))))
       × (outcome .answer .note ≤ 15)
-      × (outcome .note ≡ padded nb (noteOf (fiveOf (outcome .answer))))
-      × (noteIn (take (outcome .answer .note) (outcome .note)) ≡ Taken (fiveOf (outcome .answer)))
+      × (outcome .note ≡ padded nb (noteOf (fiveTold (outcome .answer))))
+      × (noteIn (take (outcome .answer .note) (outcome .note)) ≡ Taken (fiveTold (outcome .answer)))
   unfolding noted told answerOf noteFor
   note-told h =
       let n = noteFor (sheet .found) in

@@ -7,9 +7,10 @@ use native.Mathlib.Omega.{arith}
 use lib.IntN.{ℤ, pos}
 use lib.ListN.{length, set, replicate, length-set, getD-replicate, List·getD-eq-default, length-replicate}
 use lib.Seq.{getD-set-other}
+use Rattle.items.specs.Parts.{spanOf}
 use Rattle.lists.proofs.Cases.{ltb-cases}
 use Rattle.slices.specs.Run.{run}
-use Rattle.tags.specs.declared.Span.{Span}
+use Rattle.slices.specs.declared.Span.{Span}
 use Rattle.trims.specs.Trim.{space, dropped}
 use Rattle.states.specs.declared.State.{State}
 use Rattle.states.specs.declared.Room.{Room}
@@ -21,7 +22,7 @@ use Rattle.series.specs.Row.{cellOf, rowWidth, cellsOf, cellAt, withField, with
 use Rattle.series.specs.declared.Field.{Field}
 use Rattle.series.specs.declared.Field.the-variants.{Identification, Object, BusinessType, Direction, Area, FirstRow, Count}
 use Rattle.series.proofs.Rows.{view-set}
-use Rattle.reader.specs.Rows.{broughtBy, spanOf, quoted, fieldAfter, seriesWith, positionsWith, amountsWith, seriesAfter, positionsAfter, amountsAfter}
+use Rattle.reader.specs.Rows.{broughtBy, quoted, fieldAfter, seriesWith, positionsWith, amountsWith, seriesAfter, positionsAfter, amountsAfter}
 use Rattle.reader.specs.Reading.{Tables, blank, tablesAfter}
 use Rattle.promises.specs.Rows.{ZeroFrom, ZeroPast, Sized}
 use Rattle.promises.proofs.Steps.{Fits, Stepped}

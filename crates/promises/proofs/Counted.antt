@@ -10,10 +10,11 @@ use lib.Dec.{leb, eqb}
 use lib.ListN.{length, drop, length-drop}
 use borrow.Author.Tests.{lt-ltb, le-ltb, ne-eqb}
 use Rattle.lists.proofs.Cases.{by-cond, bool-cases, leb-cases, ltb-cases, eqb-cases}
+use Rattle.items.specs.Parts.{spanOf}
 use Rattle.items.specs.Item.{item, itemEnd}
 use Rattle.prolog.specs.Prolog.{begin}
 use Rattle.prolog.specs.declared.Begin.{Begin}
-use Rattle.prolog.specs.declared.Begin.the-variants.{From, Unreadable}
+use Rattle.prolog.specs.declared.Begin.the-variants.{From, Misdeclared}
 use Rattle.structure.specs.Rows.{overOf}
 use Rattle.guideline.specs.Kinds.{kindOf, seriesElement}
 use Rattle.guideline.specs.Rows.{rowsOf}
@@ -24,7 +25,7 @@ use Rattle.states.specs.declared.Entry.{Entry}
 use Rattle.states.specs.declared.Step.{Step}
 use Rattle.states.specs.declared.Step.the-variants.{Next, Refused}
 use Rattle.reader.specs.Items.{Placed, placed, itemsAfter, itemsFrom}
-use Rattle.reader.specs.Rows.{spanOf, usedBefore}
+use Rattle.reader.specs.Rows.{usedBefore}
 use Rattle.reader.specs.Reading.{Tables, Out, blank, roomIn, refusedAt, acceptedAt, endedAt, withoutUsed, stepOf, tablesAfter, readItems, itemsRead, readAfter, readInto, orBlank, readSheet}
 use Rattle.reader.proofs.Ran.{read-next, read-stop, items-over}
 use Rattle.states.proofs.Judgements.{one-more}
@@ -230,7 +231,7 @@ module _ (doc : List ℕ) (ns np na : ℕ) (t : Tables) (z : ZeroPast 0 0 t) (m 
       subst (λ (xs : List Placed). Told doc (readItems doc (roomIn t) xs begun t)) (sym l)
       (begun-counted 0 [] _ (rw e l) (ended-counted doc small (roomIn t) ns np na 0 begun t (omega arith))))
       (leb-cases n (length doc))
-  after-told (Unreadable p) e = begun-counted p [] _ (rw e refl) (refused-counted doc small (roomIn t) ns np na 2 p [] begun t (none-left p))
+  after-told (Misdeclared p) e = begun-counted p [] _ (rw e refl) (refused-counted doc small (roomIn t) ns np na 2 p [] begun t (none-left p))
 
   into-told : Told doc (readInto doc t)
   unfolding readInto

@@ -9,7 +9,7 @@ use Rattle.series.specs.Row.{cellsOf}
 use Rattle.reader.specs.declared.Answer.{Answer}
 use Rattle.reader.specs.Answer.{readOf}
 use Rattle.library.specs.Cells.{cells, sevenOf, PermittedCall}
-use Rattle.replies.specs.Reply.{noteIn, replyTo, PermittedReply}
+use Rattle.replies.specs.Reply.{noteWritten, replyTo, PermittedReply}
 use Rattle.blindness.specs.Readable.{DifferInQty}
 use Rattle.blindness.specs.Blind.{OwnDigitsDiffer}
 use Rattle.blindness.proofs.Blind.{blind}
@@ -30,7 +30,7 @@ module _ (x y : List ℕ) (d : DifferInQty x y) where
       )
 
   same-reply : replyTo x ≡ replyTo y
-  unfolding replyTo noteIn
+  unfolding replyTo noteWritten
   same-reply = let b = blind x y (cellsOf 64) 2048 2048 16 d in rw (d .long, b .answer, b .note)
 
   pub two-replies : (out : List ℕ) {r r′ : ℕ} {b b′ : List ℕ} → PermittedReply (replyTo x) out r b → PermittedReply (replyTo y) out r′ b′ → (r ≡ r′) × (b ≡ b′)

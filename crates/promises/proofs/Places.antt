@@ -11,7 +11,7 @@ use Rattle.lists.proofs.Cases.{by-cond}
 use Rattle.items.specs.Item.{item, itemEnd}
 use Rattle.prolog.specs.Prolog.{begin}
 use Rattle.prolog.specs.declared.Begin.{Begin}
-use Rattle.prolog.specs.declared.Begin.the-variants.{From, Unreadable}
+use Rattle.prolog.specs.declared.Begin.the-variants.{From, Misdeclared}
 use Rattle.structure.specs.Rows.{overOf}
 use Rattle.guideline.specs.Rows.{rowsOf}
 use Rattle.states.specs.Moves.{begun}
@@ -73,7 +73,7 @@ after-here : (doc : List ℕ) (t : Tables) (b : Begin) → begin doc ≡ b → P
 unfolding readAfter itemsRead itemsFrom itemsIn itemsBy refusedAt
 after-here doc t (From n) e =
     rw e (⊎-elim (λ h. inl h) (λ h. inr (inl h)) (items-here doc (roomIn t) 0 n (drop n doc) begun t))
-after-here doc t (Unreadable p) e = inr (inr e)
+after-here doc t (Misdeclared p) e = inr (inr e)
 
 pub sheet-here : (doc : List ℕ) (ns np na : ℕ) → length doc ≤ 1048576 → PlaceOf doc (readSheet doc ns np na .found .place)
 unfolding readSheet orBlank readInto

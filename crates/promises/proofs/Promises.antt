@@ -24,12 +24,12 @@ use Rattle.blindness.specs.Readable.{DifferInQty}
 use Rattle.blindness.specs.Blind.{OwnDigitsDiffer}
 use Rattle.blindness.proofs.Outcomes.{two-runs}
 use Rattle.trees.specs.Trees.{Trees}
-use Rattle.contents.specs.Said.{Said}
-use Rattle.contents.specs.Spelled.{Spells, Alike}
+use Rattle.contents.specs.Said.{TagSaid}
+use Rattle.contents.specs.Spelled.{Spells, SpellAlike}
 use Rattle.contents.specs.Legal.{Legal, HasRoom}
 use Rattle.contents.specs.Shown.{Tells, SameButPlaces}
 use Rattle.contents.proofs.Theorems.{accepted-legal, legal-accepted, one-content, nothing-but-places}
-use Rattle.promises.specs.Answers.{fiveOf, atOnce}
+use Rattle.promises.specs.Answers.{fiveTold, atOnce}
 use Rattle.promises.specs.Rows.{ZeroPast, InRoom, Sized}
 use Rattle.guideline.specs.Kinds.{seriesElement}
 use Rattle.promises.specs.Items.{before, starts, kindIn, intervalElement, itemsIn, PlaceOf}
@@ -102,10 +102,10 @@ module _ (doc : List ℕ) (ns np na nb : ℕ) where
   -- "The note is five numbers: refusal, place, kind, series, intervals."; it is in the buffer, "and the bytes after it are 0"; read back, it gives the
   -- five numbers
   pub note-of-answer : 16 ≤ nb
-      → (outcome .answer .note ≡ length (noteOf (fiveOf (outcome .answer))))
+      → (outcome .answer .note ≡ length (noteOf (fiveTold (outcome .answer))))
       × (outcome .answer .note ≤ 15)
-      × (outcome .note ≡ padded nb (noteOf (fiveOf (outcome .answer))))
-      × (noteIn (take (outcome .answer .note) (outcome .note)) ≡ Taken (fiveOf (outcome .answer)))
+      × (outcome .note ≡ padded nb (noteOf (fiveTold (outcome .answer))))
+      × (noteIn (take (outcome .answer .note) (outcome .note)) ≡ Taken (fiveTold (outcome .answer)))
   note-of-answer = note-told doc ns np na nb
 
   -- "Room for series is the table length divided by 8, rounded down. .. room is the shorter length.": every row that is counted has its cells
@@ -119,21 +119,21 @@ module _ (doc : List ℕ) (ns np na nb : ℕ) where
   -- "A document is accepted exactly when it meets every rule of the format descriptions": where the note buffer and the document's length keep to 01's limits, it is
   -- accepted exactly when it spells a legal content for which the tables have room; and then answer and tables are those of the content
   pub accepted-exactly : 16 ≤ nb → length doc ≤ 1048576
-      → (outcome .answer .refusal ≡ 0 → (kind : ℕ) × (c : Trees Said) × Spells doc kind c × Legal kind c × HasRoom (roomOf ns np na) kind c)
-      × ((kind : ℕ) (c : Trees Said) → Spells doc kind c → Legal kind c → HasRoom (roomOf ns np na) kind c → Tells doc outcome kind c)
+      → (outcome .answer .refusal ≡ 0 → (kind : ℕ) × (c : Trees TagSaid) × Spells doc kind c × Legal kind c × HasRoom (roomOf ns np na) kind c)
+      × ((kind : ℕ) (c : Trees TagSaid) → Spells doc kind c → Legal kind c → HasRoom (roomOf ns np na) kind c → Tells doc outcome kind c)
   accepted-exactly wide small = (accepted-legal doc ns np na nb wide small, legal-accepted doc ns np na nb wide small)
 
 -- and there is one: the content of the sheet above
-pub a-content : (kind : ℕ) × (c : Trees Said) × Spells sheet kind c × Legal kind c × HasRoom (roomOf 25 4 4) kind c
+pub a-content : (kind : ℕ) × (c : Trees TagSaid) × Spells sheet kind c × Legal kind c × HasRoom (roomOf 25 4 4) kind c
 a-content = sheet-content
 
 -- a document spells one legal content at most, so that its content is unambiguous
-pub content-alone : (doc : List ℕ) (kind other : ℕ) (c d : Trees Said) → Spells doc kind c → Spells doc other d → Legal kind c → Legal other d
+pub content-alone : (doc : List ℕ) (kind other : ℕ) (c d : Trees TagSaid) → Spells doc kind c → Spells doc other d → Legal kind c → Legal other d
     → (kind ≡ other) × (c ≡ d)
 content-alone = one-content
 
 -- white text, comments, quotes, the order of attributes and the choice between an empty tag and a start with an end change nothing but places
-pub places-alone : (x y : List ℕ) (ns np na nb : ℕ) → 16 ≤ nb → length x ≤ 1048576 → length y ≤ 1048576 → Alike x y
+pub places-alone : (x y : List ℕ) (ns np na nb : ℕ) → 16 ≤ nb → length x ≤ 1048576 → length y ≤ 1048576 → SpellAlike x y
     → readOf x ns np na nb .answer .refusal ≡ 0 → SameButPlaces x (readOf x ns np na nb) y (readOf y ns np na nb)
 places-alone = nothing-but-places
 

@@ -12,10 +12,11 @@ use borrow.Author.Tests.{lt-ltb, ne-eqb}
 use Rattle.lists.proofs.Cases.{by-cond, leb-cases, ltb-cases}
 use Rattle.slices.specs.Same.{same, begins}
 use Rattle.slices.proofs.Sames.{sames-long}
+use Rattle.items.specs.Parts.{spanOf}
 use Rattle.items.specs.Item.{item, itemEnd}
 use Rattle.prolog.specs.Prolog.{markLen, begin}
 use Rattle.prolog.specs.declared.Begin.{Begin}
-use Rattle.prolog.specs.declared.Begin.the-variants.{From, Unreadable}
+use Rattle.prolog.specs.declared.Begin.the-variants.{From, Misdeclared}
 use Rattle.prolog.proofs.Promises.{refused-at}
 use Rattle.structure.specs.Rows.{overOf}
 use Rattle.guideline.specs.Rows.{rowsOf}
@@ -26,7 +27,7 @@ use Rattle.states.specs.declared.Entry.{Entry}
 use Rattle.states.specs.declared.Step.{Step}
 use Rattle.states.specs.declared.Step.the-variants.{Next, Refused}
 use Rattle.reader.specs.Items.{Placed, placed, itemsAfter, itemsFrom}
-use Rattle.reader.specs.Rows.{spanOf, usedBefore}
+use Rattle.reader.specs.Rows.{usedBefore}
 use Rattle.reader.specs.Reading.{Tables, Out, blank, roomOf, roomIn, refusedAt, acceptedAt, endedAt, withoutUsed, stepOf, tablesAfter, readItems, itemsRead, readAfter, readInto, orBlank, readSheet}
 use Rattle.reader.proofs.Ran.{read-next, read-stop, items-over}
 use Rattle.contents.proofs.Theorems.{room-cells}
@@ -201,7 +202,7 @@ module _ (doc : List ℕ) (ns np na : ℕ) (t : Tables) (z : ZeroPast 0 0 t) (m 
       subst (λ (xs : List Placed). Fine doc (roomIn t) ns np na (readItems doc (roomIn t) xs begun t)) (sym l)
       (ended-fine doc (roomIn t) ns np na 0 begun t (begun-held 0 (omega arith))))
       (leb-cases n (length doc))
-  after-fine (Unreadable p) e =
+  after-fine (Misdeclared p) e =
       let h : p ≤ length doc = rw (refused-at doc p e) (mark-within doc) in
       refused-fine doc (roomIn t) ns np na 0 begun t (begun-held 0 (omega arith)) 2 p h (λ q. omega arith) refl
 

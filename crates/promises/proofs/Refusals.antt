@@ -8,10 +8,10 @@ use lib.Dec.{leb, eqb}
 use lib.ListN.{getD}
 use Rattle.lists.proofs.Cases.{by-cond, leb-cases, zero-not-one}
 use Rattle.characters.specs.Says.{says}
-use Rattle.attributes.specs.Attribute.{partOf}
+use Rattle.slices.specs.Part.{partOf}
 use Rattle.trims.specs.Trim.{dropped}
 use Rattle.codes.specs.Lists.{listed, codesOf}
-use Rattle.forms.specs.Forms.{fixedVersion, quarterHour}
+use Rattle.forms.specs.Forms.{quarterHour}
 use Rattle.times.specs.Times.{interval}
 use Rattle.times.specs.declared.Interval.{Interval}
 use Rattle.times.specs.declared.Interval.the-variants.{Minutes, NotInterval}
@@ -20,12 +20,12 @@ use Rattle.numbers.specs.declared.Number.{Number}
 use Rattle.numbers.specs.declared.Number.the-variants.{Is, NotNumber}
 use Rattle.columns.specs.Columns.{formOf, schemeOf, roleOf}
 use Rattle.guideline.specs.Kinds.{kindAt, hasEnough}
-use Rattle.rules.specs.Rules.{unless, version, formRefusal, periodFits, judgePeriodBy, judgePeriod, judgeIntervalBy, judgeInterval, positionFits, judgePositionBy, judgePosition, judge}
+use Rattle.rules.specs.Rules.{unless, formRefusal, periodFits, judgePeriodBy, judgePeriod, judgeIntervalBy, judgeInterval, positionFits, judgePositionBy, judgePosition, judge}
 use Rattle.rules.specs.declared.Held.{Held}
 use Rattle.rules.specs.declared.Judged.{Judged}
 use Rattle.items.specs.declared.Tag.{Tag}
-use Rattle.tags.specs.declared.Span.{Span}
-use Rattle.states.specs.Attributes.{attributesFit, valueOf, schemeRefusal, least, alsoScheme, judgeTag}
+use Rattle.slices.specs.declared.Span.{Span}
+use Rattle.states.specs.Attributes.{attributesFit, valueOf, schemeRefusal, least, alsoScheme, dtdFixed, judgeTag}
 use Rattle.states.specs.Moves.{heldOf, cutShort, tooMany, noRoom, halfOriginals, valuesJudged, judgedAt, startJudged, countRefusal, endRefusal}
 use Rattle.states.specs.declared.State.{State}
 use Rattle.states.specs.declared.Room.{Room}
@@ -102,7 +102,7 @@ tag-given : (w : ℕ) (t : Tag) (h : Held) (s : List ℕ) → GivenBy (judgeTag 
 unfolding judgeTag alsoScheme
 tag-given w t h s =
     by-cond GivenBy (eqb (roleOf w) 1)
-    (by-cond GivenBy (fixedVersion (says (partOf s (t .version .start) (t .version .len)))) refl refl)
+    (by-cond GivenBy (dtdFixed (h .kind) (t .dtd) s) refl refl)
     (by-cond GivenBy (eqb (formOf w) 0) refl
     (least-given (judge (formOf w) h (says (valueOf w (t .v) s)) .number) (schemeRefusal w (t .coding) s)
     (judge-given (formOf w) h (says (valueOf w (t .v) s))) (scheme-given w (t .coding) s)))
@@ -115,7 +115,7 @@ module _ (x : State) (kind : ℕ) (rows : List ℕ) (r : ℕ) (t : Tag) (s : Lis
       by-cond GivenBy (cutShort empty rows r) refl
       (by-cond GivenBy (tooMany x (roleOf w) kind) refl
       (by-cond GivenBy (noRoom x (roleOf w) room) refl
-      (by-cond GivenBy (attributesFit w t) (by-cond GivenBy (halfOriginals x (roleOf w)) refl (tag-given w t (heldOf x kind) s)) refl)))
+      (by-cond GivenBy (attributesFit kind w t) (by-cond GivenBy (halfOriginals x (roleOf w)) refl (tag-given w t (heldOf x kind) s)) refl)))
 
 pub end-given : (x : State) (rows : List ℕ) (r : ℕ) → Given (endRefusal x rows r)
 unfolding endRefusal countRefusal

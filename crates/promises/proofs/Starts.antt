@@ -4,13 +4,11 @@ use mathlib.Core.Path.{_≡_, refl, sym, ap, _∙_}
 use mathlib.Core.List.{List}
 use mathlib.Core.Bool.{Bool, true, false, cond, not}
 use mathlib.Core.Logic.{⊎-elim}
-use native.Mathlib.Omega.{arith}
 use lib.Dec.{eqb}
 use lib.ListN.{getD, length}
-use Rattle.lists.proofs.Cases.{by-cond, bool-cases, eqb-cases, zero-not-one}
+use Rattle.lists.proofs.Cases.{by-cond, bool-cases, eqb-cases}
 use Rattle.slices.specs.Same.{same}
-use Rattle.slices.specs.Text.{text}
-use Rattle.attributes.specs.Attribute.{partOf}
+use Rattle.slices.specs.Part.{partOf}
 use Rattle.elements.specs.Names.{names, numberIn, elementNo}
 use Rattle.structure.specs.Rows.{nameOf, startOf, endOf}
 use Rattle.structure.specs.declared.Due.{Due}
@@ -21,10 +19,9 @@ use Rattle.guideline.specs.Rows.{rowsOf}
 use Rattle.guideline.proofs.Each.{kind-some}
 use Rattle.items.specs.declared.Tag.{Tag}
 use Rattle.items.specs.declared.Item.{Item}
-use Rattle.items.specs.declared.Item.the-variants.{Start, Empty, End, Text, Comment}
-use Rattle.items.specs.declared.Item.the-variants.{Refused as Unreadable}
+use Rattle.items.specs.declared.Item.the-variants.{Start, Empty, End, Text, Comment, Unreadable}
 use Rattle.rules.specs.declared.Judged.{Judged}
-use Rattle.states.specs.Moves.{oneMore, placed, oneSeries, oneInterval, oneOriginal, lastPos, covering, kept, entered, startJudged, startedBy, startedAt, started, closedAt, endRefusal, endedAt, ended, moved, rootKind, kindTold, step}
+use Rattle.states.specs.Moves.{oneMore, atRow, oneSeries, oneInterval, oneOriginal, lastPos, covering, kept, entered, startJudged, startedBy, startedAt, started, closedAt, endRefusal, afterEndAt, afterEnd, moved, rootKind, kindTold, step}
 use Rattle.states.specs.declared.State.{State}
 use Rattle.states.specs.declared.Room.{Room}
 use Rattle.states.specs.declared.Step.{Step}
@@ -108,12 +105,12 @@ module _ (x : State) (kind : ℕ) where
 
   entered-raises : (r name : ℕ) → startOf rows (x .row) (x .inside) name ≡ Row r → kind ≡ kindAfter name (x .kind)
       → (j : Judged) (within : Bool) → Raised name x (entered x kind r (getD rows r 0) j within)
-  unfolding entered placed
+  unfolding entered atRow
   entered-raises r name e told j within =
       let known = due-known kind (x .row) (x .inside) name r e in
       let tab = table kind known in
       let w = getD rows r 0 in
-      let p = placed x kind r within in
+      let p = atRow x kind r within in
       let k = kept-keeps p w j in
       let inside : r < length rows = due-within rows (tab .rooted) (x .row) name r (x .inside) e in
       let n : nameOf w ≡ name = due-named rows (tab .rooted) (x .row) name r (x .inside) e in
@@ -138,14 +135,14 @@ module _ (x : State) (kind : ℕ) where
     unfolding started
     started-raises = started-at (startOf rows (x .row) (x .inside) name) refl
 
-  ended-at : (d : Due) → Raises 0 x (endedAt x rows d)
-  unfolding endedAt closedAt
+  ended-at : (d : Due) → Raises 0 x (afterEndAt x rows d)
+  unfolding afterEndAt closedAt
   ended-at NotDue = tt
   ended-at (Row r) = by-cond (Raises 0 x) (eqb (endRefusal x rows r) 0) (unraised x (closedAt x r) refl refl refl) tt
 
   moved-raises : (item : Item) (s : List ℕ) (room : Room) → kind ≡ kindAfter (startedIn item s) (x .kind)
       → Raises (startedIn item s) x (moved x kind rows item s room)
-  unfolding moved startedIn ended
+  unfolding moved startedIn afterEnd
   moved-raises (Start t) s room told = started-raises (elementNo (partOf s 1 (t .name))) t s false room told
   moved-raises (Empty t) s room told = started-raises (elementNo (partOf s 1 (t .name))) t s true room told
   moved-raises (End n e) s room told = ended-at (endOf rows (x .row) (x .inside) (elementNo (partOf s 2 n)))

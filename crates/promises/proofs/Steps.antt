@@ -9,7 +9,7 @@ use native.Mathlib.Nat.{le-refl}
 use lib.Dec.{ltb, eqb}
 use lib.ListN.{getD, length}
 use Rattle.lists.proofs.Cases.{by-cond, leb-cases, eqb-cases, ltb-cases, never}
-use Rattle.attributes.specs.Attribute.{partOf}
+use Rattle.slices.specs.Part.{partOf}
 use Rattle.elements.specs.Names.{elementNo}
 use Rattle.structure.specs.Rows.{startOf, endOf}
 use Rattle.structure.specs.declared.Due.{Due}
@@ -20,10 +20,9 @@ use Rattle.guideline.specs.Rows.{rowsOf}
 use Rattle.guideline.proofs.Each.{kind-some, rowWith}
 use Rattle.items.specs.declared.Tag.{Tag}
 use Rattle.items.specs.declared.Item.{Item}
-use Rattle.items.specs.declared.Item.the-variants.{Start, Empty, End, Text, Comment}
-use Rattle.items.specs.declared.Item.the-variants.{Refused as Unreadable}
+use Rattle.items.specs.declared.Item.the-variants.{Start, Empty, End, Text, Comment, Unreadable}
 use Rattle.rules.specs.declared.Judged.{Judged}
-use Rattle.states.specs.Moves.{oneMore, begun, placed, oneSeries, oneInterval, oneOriginal, lastPos, covering, kept, entered, entryOf, startJudged, startedBy, startedAt, started, closedAt, endRefusal, endedAt, ended, moved, rootKind, kindTold, step}
+use Rattle.states.specs.Moves.{oneMore, begun, atRow, oneSeries, oneInterval, oneOriginal, lastPos, covering, kept, entered, entryOf, startJudged, startedBy, startedAt, started, closedAt, endRefusal, afterEndAt, afterEnd, moved, rootKind, kindTold, step}
 use Rattle.states.specs.declared.State.{State}
 use Rattle.states.specs.declared.Room.{Room}
 use Rattle.states.specs.declared.Entry.{Entry}
@@ -32,7 +31,7 @@ use Rattle.states.specs.declared.Step.{Step}
 use Rattle.states.specs.declared.Step.the-variants.{Next, Refused}
 use Rattle.states.proofs.Judgements.{judged-passed, series-room, interval-room}
 use Rattle.promises.proofs.Refusals.{Given, start-given, end-given}
-use Rattle.promises.proofs.Marks.{Mark, due-within, end-back, counted, forSeries, forInterval, seriesRow, intervalRow, table, due-known, end-known}
+use Rattle.promises.proofs.Marks.{due-within, end-back, counted, forSeries, forInterval, seriesRow, intervalRow, table, due-known, end-known}
 
 -- a row of the kind that is not before the first with this role
 abbrev Past : ℕ → ℕ → ℕ → Type 0
@@ -183,12 +182,12 @@ module _ (x : State) (kind : ℕ) (b : Before x kind) where
   entered-steps : (r name : ℕ) → startOf rows (x .row) (x .inside) name ≡ Row r → (j : Judged) (within : Bool) (room : Room)
       → (roleOf (getD rows r 0) ≡ seriesRole → x .series < room .series) → (roleOf (getD rows r 0) ≡ intervalRole → x .intervals < room .intervals)
       → Stepped room x (entered x kind r (getD rows r 0) j within) (entryOf (roleOf (getD rows r 0)) (j .first))
-  unfolding entered placed
+  unfolding entered atRow
   entered-steps r name e j within room f g =
       let known = due-known kind (x .row) (x .inside) name r e in
       let tab = table kind known in
       let w = getD rows r 0 in
-      let p = placed x kind r within in
+      let p = atRow x kind r within in
       let y = kept p w j in
       let k = kept-keeps p w j in
       let inside : r < length rows = due-within rows (tab .rooted) (x .row) name r (x .inside) e in
@@ -255,8 +254,8 @@ module _ (x : State) (kind : ℕ) (b : Before x kind) where
         housed = λ h. record { series = h .series; intervals = h .intervals };
       }
 
-  ended-at : (room : Room) (name : ℕ) (d : Due) → endOf rows (x .row) (x .inside) name ≡ d → Rises room x (endedAt x rows d)
-  unfolding endedAt
+  ended-at : (room : Room) (name : ℕ) (d : Due) → endOf rows (x .row) (x .inside) name ≡ d → Rises room x (afterEndAt x rows d)
+  unfolding afterEndAt
   ended-at room name NotDue e = (λ z. omega arith, refl)
   ended-at room name (Row r) e =
       let tab = table kind (end-known kind (x .row) (x .inside) name r e) in
@@ -265,8 +264,8 @@ module _ (x : State) (kind : ℕ) (b : Before x kind) where
       (λ y. rw (y .1) (y .0, end-given x rows r))
       (eqb-cases (endRefusal x rows r) 0)
 
-  ended-rises : (room : Room) (name : ℕ) → Rises room x (ended x rows name)
-  unfolding ended
+  ended-rises : (room : Room) (name : ℕ) → Rises room x (afterEnd x rows name)
+  unfolding afterEnd
   ended-rises room name = ended-at room name (endOf rows (x .row) (x .inside) name) refl
 
   still : (room : Room) → Stepped room x x Nothing

@@ -4,8 +4,8 @@ use Rattle.notes.specs.declared.Note.{Note}
 use Rattle.reader.specs.declared.Answer.{Answer}
 
 -- "The note is five numbers: refusal, place, kind, series, intervals."
-abbrev pub fiveOf : Answer → Note
-fiveOf a = record { refusal = a .refusal; place = a .place; kind = a .kind; series = a .series; intervals = a .intervals }
+abbrev pub fiveTold : Answer → Note
+fiveTold a = record { refusal = a .refusal; place = a .place; kind = a .kind; series = a .series; intervals = a .intervals }
 
 -- a refusal at 0 with nothing counted, and the note's length
 abbrev pub atOnce : ℕ → ℕ → Answer

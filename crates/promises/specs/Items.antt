@@ -7,20 +7,20 @@ use mathlib.Core.Bool.{Bool, true, false, cond}
 use lib.Dec.{eqb, ltb}
 use lib.ListN.{length}
 use Rattle.slices.specs.Text.{text}
-use Rattle.attributes.specs.Attribute.{partOf}
+use Rattle.slices.specs.Part.{partOf}
 use Rattle.elements.specs.Names.{elementNo}
 use Rattle.guideline.specs.Kinds.{kindOf}
 use Rattle.prolog.specs.Prolog.{begin}
 use Rattle.prolog.specs.declared.Begin.{Begin}
-use Rattle.prolog.specs.declared.Begin.the-variants.{From, Unreadable}
+use Rattle.prolog.specs.declared.Begin.the-variants.{From, Misdeclared}
 use Rattle.items.specs.declared.Item.{Item}
-use Rattle.items.specs.declared.Item.the-variants.{Start, Empty, End, Text, Comment, Refused}
+use Rattle.items.specs.declared.Item.the-variants.{Start, Empty, End, Text, Comment, Unreadable}
 use Rattle.reader.specs.Items.{Placed, itemsFrom}
 
 -- the items of a document; none where its XML declaration is unreadable
 unfoldable pub itemsBy : List ℕ → Begin → List Placed
 itemsBy doc (From n) = itemsFrom doc n
-itemsBy doc (Unreadable p) = []
+itemsBy doc (Misdeclared p) = []
 
 unfoldable pub itemsIn : List ℕ → List Placed
 itemsIn doc = itemsBy doc (begin doc)
@@ -32,7 +32,7 @@ standsAt place (x ∷ xs) = let rest = standsAt place xs in cond (eqb (x .at) pl
 
 -- "item or length": at the length, at an item, or at the XML declaration, which is read before the items
 abbrev pub PlaceOf : List ℕ → ℕ → Type 0
-PlaceOf doc place = (place ≡ length doc) ⊎ ((standsAt place (itemsIn doc) ≡ true) ⊎ (begin doc ≡ Unreadable place))
+PlaceOf doc place = (place ≡ length doc) ⊎ ((standsAt place (itemsIn doc) ≡ true) ⊎ (begin doc ≡ Misdeclared place))
 
 -- the number of the element that an item starts, 0 for none: "An empty tag is a start and an end in one item."
 unfoldable pub startedIn : Item → List ℕ → ℕ
@@ -41,7 +41,7 @@ startedIn (Empty t) s = elementNo (partOf s 1 (t .name))
 startedIn (End n e) s = 0
 startedIn (Text white e) s = 0
 startedIn (Comment e) s = 0
-startedIn (Refused p) s = 0
+startedIn (Unreadable p) s = 0
 
 -- the items before a place
 unfoldable pub before : ℕ → List Placed → List Placed

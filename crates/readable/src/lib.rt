@@ -7,11 +7,11 @@ use slices::rest;
 ghost use mathlib.Core.Path.{_≡_};
 ghost use Prim.Native.Nat.{_+_, _≤_};
 ghost use lib.ListN.{length};
-ghost use Rattle.readable.specs.Readable.{passed, readable};
+ghost use Rattle.readable.specs.Readable.{passedBytes, readable};
 
 // How many bytes of items that can be read stand at the front of s.
 fn passed_len(s: &[u8]) -> usize
-    ensures len { λ r. ⌜ r ≡ passed (now (s .entry)) ⌝ }
+    ensures len { λ r. ⌜ r ≡ passedBytes (now (s .entry)) ⌝ }
     ensures size { λ r. ⌜ r ≤ length (now (s .entry)) + 8 ⌝ }
 {
     let mut i = 0;
@@ -32,7 +32,7 @@ fn passed_len(s: &[u8]) -> usize
             Item::Comment(n) => {
                 i += n;
             }
-            Item::Refused(_) => return i,
+            Item::Unreadable(_) => return i,
         }
     }
     i
@@ -46,6 +46,6 @@ pub extern "C" fn lumintayag_readable_len(doc: &[u8]) -> usize
 {
     match first_item(doc) {
         Begin::From(n) => n + passed_len(rest(doc, n)),
-        Begin::Unreadable(p) => p,
+        Begin::Misdeclared(p) => p,
     }
 }

@@ -9,7 +9,7 @@ use borrow.Author.Tests.{lt-ltb, le-ltb, eq-eqb, ne-eqb}
 use Rattle.lists.specs.Zeros.{zeros}
 use Rattle.notes.specs.Note.{noteOf, left}
 use Rattle.prolog.specs.Prolog.{begin}
-use Rattle.prolog.specs.declared.Begin.the-variants.{From, Unreadable}
+use Rattle.prolog.specs.declared.Begin.the-variants.{From, Misdeclared}
 use Rattle.states.specs.Moves.{begun}
 use Rattle.reader.specs.declared.Found.{Found}
 use Rattle.reader.specs.declared.Answer.{Answer}
@@ -21,7 +21,7 @@ module _ (doc : List ℕ) (t : Tables) where
   unfolding readInto readAfter
   into-items n e = rw e refl
 
-  pub into-unread : (p : ℕ) → begin doc ≡ Unreadable p → record { found = refusedAt 2 p begun; tables = t } ≡ readInto doc t
+  pub into-unread : (p : ℕ) → begin doc ≡ Misdeclared p → record { found = refusedAt 2 p begun; tables = t } ≡ readInto doc t
   unfolding readInto readAfter
   into-unread p e = rw e refl
 

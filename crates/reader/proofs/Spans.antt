@@ -8,16 +8,17 @@ use lib.ListN.{length, length-take, length-drop}
 use Rattle.lists.proofs.Cases.{by-cond}
 use Rattle.slices.specs.Run.{run}
 use Rattle.trims.proofs.Trails.{lead-run}
-use Rattle.trims.specs.Trim.{space, dropLead, keep, dropTrail, dropped}
-use Rattle.tags.specs.declared.Span.{Span}
-use Rattle.attributes.specs.Attribute.{partOf}
+use Rattle.trims.specs.Trim.{space, dropLead, keptBefore, dropTrail, dropped}
+use Rattle.slices.specs.declared.Span.{Span}
+use Rattle.slices.specs.Part.{partOf}
+use Rattle.items.specs.Parts.{spanOf}
 use Rattle.items.specs.Item.{itemValue}
 use Rattle.items.specs.declared.Item.{Item}
-use Rattle.items.specs.declared.Item.the-variants.{Start, Empty, End, Text, Comment, Refused}
-use Rattle.reader.specs.Rows.{spanOf, quoted}
+use Rattle.items.specs.declared.Item.the-variants.{Start, Empty, End, Text, Comment, Unreadable}
+use Rattle.reader.specs.Rows.{quoted}
 
-keep-le : (c : ℕ) (l : List ℕ) → length (keep c l) ≤ suc (length l)
-unfolding keep
+keep-le : (c : ℕ) (l : List ℕ) → length (keptBefore c l) ≤ suc (length l)
+unfolding keptBefore
 keep-le c [] = by-cond (λ (x : List ℕ). length x ≤ 1) (space c) (omega arith) (omega arith)
 keep-le c (d ∷ l) = le-refl _
 
@@ -41,4 +42,4 @@ span-in (Empty t) = le-refl _
 span-in (End n e) = omega arith
 span-in (Text w e) = omega arith
 span-in (Comment e) = omega arith
-span-in (Refused p) = omega arith
+span-in (Unreadable p) = omega arith

@@ -1,11 +1,9 @@
 -- "After an optional byte order mark (EF BB BF), the document is a run of items. .. The rest of the document after each item is read the same way."
 use Prim.Native.Nat.{ℕ, zero, suc, pred}
 use mathlib.Core.List.{List, [], _∷_}
-use mathlib.Core.Bool.{Bool, true, false}
 use lib.ListN.{drop}
 use Rattle.items.specs.Item.{item, itemEnd}
 use Rattle.items.specs.declared.Item.{Item}
-use Rattle.items.specs.declared.Item.the-variants.{Start, Empty, End, Text, Comment, Refused}
 
 -- an item, its place, and the part of the document that begins with it
 pub record Placed : Type 0 where
@@ -24,12 +22,3 @@ itemsAfter zero at (b ∷ t) = placed at (b ∷ t) ∷ itemsAfter (pred (itemEnd
 
 unfoldable pub itemsFrom : List ℕ → ℕ → List Placed
 itemsFrom doc at = itemsAfter 0 at (drop at doc)
-
--- white text and comments, which move nothing
-unfoldable pub passed : Item → Bool
-passed (Start t) = false
-passed (Empty t) = false
-passed (End n e) = false
-passed (Text white e) = white
-passed (Comment e) = true
-passed (Refused p) = false

@@ -6,12 +6,13 @@ use lib.IntN.{ℤ}
 use lib.ListN.{length}
 use lib.Dec.{eqb, leb, ltb}
 use Rattle.lists.specs.Zeros.{zeros}
+use Rattle.items.specs.Parts.{spanOf}
 use Rattle.items.specs.declared.Item.{Item}
 use Rattle.prolog.specs.Prolog.{begin}
 use Rattle.prolog.specs.declared.Begin.{Begin}
-use Rattle.prolog.specs.declared.Begin.the-variants.{From, Unreadable}
+use Rattle.prolog.specs.declared.Begin.the-variants.{From, Misdeclared}
 use Rattle.tables.specs.Cells.{noAmounts}
-use Rattle.series.specs.Row.{rowsIn}
+use Rattle.series.specs.Row.{roomFor}
 use Rattle.structure.specs.Rows.{overOf}
 use Rattle.guideline.specs.Rows.{rowsOf}
 use Rattle.states.specs.Moves.{begun, step}
@@ -21,7 +22,7 @@ use Rattle.states.specs.declared.Entry.{Entry}
 use Rattle.states.specs.declared.Step.{Step}
 use Rattle.states.specs.declared.Step.the-variants.{Next, Refused}
 use Rattle.reader.specs.Items.{Placed, itemsFrom}
-use Rattle.reader.specs.Rows.{spanOf, seriesAfter, positionsAfter, amountsAfter, usedBefore}
+use Rattle.reader.specs.Rows.{seriesAfter, positionsAfter, amountsAfter, usedBefore}
 use Rattle.reader.specs.declared.Found.{Found}
 
 -- the three lent tables
@@ -42,7 +43,7 @@ blankAs t = blank (length (t .series)) (length (t .positions)) (length (t .amoun
 
 -- "Room becomes the table length divided by 12."; "Intervals take one position and one amount at the same index; room is the shorter length."
 unfoldable pub roomOf : ℕ → ℕ → ℕ → Room
-roomOf ns np na = cond (leb np na) (record { series = rowsIn ns; intervals = np }) (record { series = rowsIn ns; intervals = na })
+roomOf ns np na = cond (leb np na) (record { series = roomFor ns; intervals = np }) (record { series = roomFor ns; intervals = na })
 
 -- "Kind is that of a root start standing in an item before the faulty one, else 0. Series and intervals count their start tags in items before
 -- the faulty one."; "N (0 on every refusal)"
@@ -103,7 +104,7 @@ itemsRead doc from t = readItems doc (roomIn t) (itemsFrom doc from) begun t
 -- from the first item on, or not at all where the XML declaration is unreadable
 unfoldable pub readAfter : List ℕ → Tables → Begin → Out
 readAfter doc t (From n) = itemsRead doc n t
-readAfter doc t (Unreadable p) = record { found = refusedAt 2 p begun; tables = t }
+readAfter doc t (Misdeclared p) = record { found = refusedAt 2 p begun; tables = t }
 
 unfoldable pub readInto : List ℕ → Tables → Out
 readInto doc t = readAfter doc t (begin doc)

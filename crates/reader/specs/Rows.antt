@@ -8,15 +8,13 @@ use lib.ListN.{length, set}
 use Rattle.slices.specs.Run.{run}
 use Rattle.slices.specs.Same.{same}
 use Rattle.characters.specs.Says.{says}
-use Rattle.attributes.specs.Attribute.{partOf}
-use Rattle.tags.specs.declared.Span.{Span}
-use Rattle.items.specs.declared.Item.{Item}
-use Rattle.items.specs.declared.Item.the-variants.{Start, Empty, End, Text, Comment, Refused}
+use Rattle.slices.specs.Part.{partOf}
+use Rattle.slices.specs.declared.Span.{Span}
 use Rattle.trims.specs.Trim.{space, dropped}
 use Rattle.numbers.specs.Amount.{amountOf}
 use Rattle.numbers.specs.declared.Amount.the-variants.{Thousandths, NotAmount}
 use Rattle.numbers.specs.declared.Amount.{Amount as Read}
-use Rattle.series.specs.Row.{withField, withView, view}
+use Rattle.series.specs.Row.{isView, dropsSpaces, withField, withView, view}
 use Rattle.series.specs.declared.Field.{Field}
 use Rattle.series.specs.declared.Field.the-variants.{Identification, Object, BusinessType, Direction, Area, FirstRow, Count}
 use Rattle.states.specs.declared.State.{State}
@@ -26,30 +24,28 @@ use Rattle.states.specs.declared.Entry.the-variants.{Identification as BringsId
 use Rattle.reader.specs.declared.rows.Brought.{Brought}
 use Rattle.reader.specs.declared.rows.Brought.the-variants.{NoCell, InRow, AtPosition, AtAmount}
 
--- where the value of `v` stands in the item
-unfoldable pub spanOf : Item → Span
-spanOf (Start t) = t .v
-spanOf (Empty t) = t .v
-spanOf (End n e) = record { start = 0; len = 0 }
-spanOf (Text w e) = record { start = 0; len = 0 }
-spanOf (Comment e) = record { start = 0; len = 0 }
-spanOf (Refused p) = record { start = 0; len = 0 }
-
 -- the bytes between its quotes; s is the part of the document that begins with the item
 unfoldable pub quoted : Span → List ℕ → List ℕ
 quoted v s = partOf s (v .start) (v .len)
 
--- the series table after an item at the place `at` that brings a field of the last row; its `v` is in v, and st is the state after it
+-- "its first interval row; its interval count"
+abbrev pub countFor : State → Field → ℕ
+countFor st Identification = 0
+countFor st Object = 0
+countFor st BusinessType = 0
+countFor st Direction = 0
+countFor st Area = 0
+countFor st FirstRow = st .first
+countFor st Count = st .intervals - st .first
+
+-- the series table after an item at the place `at` that brings a view of row i; its `v` is in v
+abbrev pub viewAfter : ℕ → Span → List ℕ → ℕ → Field → List ℕ → List ℕ
+viewAfter at v s i f t =
+    cond (dropsSpaces f) (withView t i f (at + v .start + run space (quoted v s)) (length (dropped (quoted v s)))) (withView t i f (at + v .start) (v .len))
+
+-- and after one that brings a field of the last row; st is the state after it
 unfoldable pub fieldAfter : ℕ → Span → List ℕ → State → Field → List ℕ → List ℕ
-fieldAfter at v s st Identification t = withView t (st .series - 1) Identification (at + v .start) (v .len)
-fieldAfter at v s st Object t = withView t (st .series - 1) Object (at + v .start) (v .len)
-fieldAfter at v s st BusinessType t =
-    withView t (st .series - 1) BusinessType (at + v .start + run space (quoted v s)) (length (dropped (quoted v s)))
-fieldAfter at v s st Direction t =
-    withView t (st .series - 1) Direction (at + v .start + run space (quoted v s)) (length (dropped (quoted v s)))
-fieldAfter at v s st Area t = withView t (st .series - 1) Area (at + v .start) (v .len)
-fieldAfter at v s st FirstRow t = withField t (st .series - 1) FirstRow (st .first)
-fieldAfter at v s st Count t = withField t (st .series - 1) Count (st .intervals - st .first)
+fieldAfter at v s st f t = cond (isView f) (viewAfter at v s (st .series - 1) f t) (withField t (st .series - 1) f (countFor st f))
 
 -- what an item brings, by where it goes
 unfoldable pub broughtBy : Entry → Brought

@@ -4,7 +4,10 @@ mod rows;
 use guideline::every_row;
 use guideline::rows_of;
 use items::Item;
+use items::is_passed;
 use items::item_at;
+use items::item_len;
+use items::span_of;
 use lists::clear_bytes;
 use notes::Note;
 use notes::Put;
@@ -13,8 +16,8 @@ use prolog::Begin;
 use prolog::first_item;
 use rows::enter;
 use rows::is_used_before;
-use rows::span_of;
 use series::rows_in;
+use slices::Span;
 use slices::rest;
 use states::Room;
 use states::State;
@@ -22,14 +25,13 @@ use states::Step;
 use structure::is_over;
 use tables::clear_amounts;
 use tables::clear_numbers;
-use tags::Span;
 ghost use mathlib.Core.Path.{_≡_};
 ghost use Prim.Native.Nat.{_≤_};
 ghost use lib.ListN.{length};
 ghost use Rattle.items.specs.Item.{itemEnd};
 ghost use Rattle.notes.specs.Note.{noteOf, left};
 ghost use Rattle.states.specs.Moves.{stepBy};
-ghost use Rattle.reader.specs.Items.{passed};
+ghost use Rattle.items.specs.Parts.{passed};
 ghost use Rattle.reader.specs.Reading.{tab, blankAs, roomOf, refusedAt, acceptedAt, endedAt, withoutUsed, out, itemsRead, readInto, sheetInto};
 ghost use Rattle.reader.specs.Answer.{noteFor, told, outcomeOf, Permitted};
 
@@ -52,33 +54,6 @@ pub struct Answer {
     pub intervals: u32,
     pub quarters: u32,
     pub note: usize,
-}
-
-fn item_len(item: Item) -> usize
-    ensures { λ r. ⌜ r ≡ itemEnd item ⌝ }
-{
-    match item {
-        Item::Start(t) => t.len,
-        Item::Empty(t) => t.len,
-        Item::End(_, n) => n,
-        Item::Text(_, n) => n,
-        Item::Comment(n) => n,
-        Item::Refused(_) => 1,
-    }
-}
-
-// Whether the item moves nothing: white text, or a comment. The loop passes over it without asking the state.
-fn is_passed(item: Item) -> bool
-    ensures { λ r. ⌜ r ≡ passed item ⌝ }
-{
-    match item {
-        Item::Start(_) => false,
-        Item::Empty(_) => false,
-        Item::End(_, _) => false,
-        Item::Text(white, _) => white,
-        Item::Comment(_) => true,
-        Item::Refused(_) => false,
-    }
 }
 
 fn room_of(ns: usize, np: usize, na: usize) -> Room
@@ -184,7 +159,7 @@ fn read_items(
     while at < doc.len() {
         let s = rest(doc, at);
         let item = item_at(at, s);
-        if let Item::Refused(p) = item {
+        if let Item::Unreadable(p) = item {
             return refused_at(2, p as u32, st);
         }
         if is_passed(item) {
@@ -211,7 +186,7 @@ fn read_all(doc: &[u8], series: &mut [u32], positions: &mut [u32], amounts: &mut
 {
     match first_item(doc) {
         Begin::From(n) => read_items(doc, n, series, positions, amounts),
-        Begin::Unreadable(p) => refused_at(2, p as u32, State::begin()),
+        Begin::Misdeclared(p) => refused_at(2, p as u32, State::begin()),
     }
 }
 

@@ -1,19 +1,22 @@
 // What an item brings into the lent tables.
-use attributes::part;
 use items::Item;
+use items::span_of;
 use numbers::Amount;
 use numbers::amount_of;
 use series::Field;
+use series::drops_spaces;
+use series::is_view;
 use series::set_field;
 use series::set_view;
 use series::view_of;
+use slices::Span;
 use slices::is_same;
+use slices::part;
 use states::Entry;
 use states::State;
 use states::count_of;
 use tables::set_amount;
 use tables::set_number;
-use tags::Span;
 use trims::leading_spaces;
 use trims::trimmed;
 ghost use mathlib.Core.Path.{_≡_};
@@ -24,11 +27,12 @@ ghost use Rattle.slices.specs.Run.{run};
 ghost use Rattle.slices.specs.Same.{same};
 ghost use Rattle.characters.specs.Says.{says};
 ghost use Rattle.trims.specs.Trim.{space, dropped};
+ghost use Rattle.items.specs.Parts.{spanOf};
 ghost use Rattle.items.specs.Item.{itemValue};
 ghost use Rattle.numbers.specs.Amount.{amountOf};
 ghost use Rattle.series.specs.declared.Field.the-variants.{Identification};
 ghost use Rattle.series.specs.Row.{withView, view};
-ghost use Rattle.reader.specs.Rows.{broughtBy, spanOf, quoted, fieldAfter, thousandthsOf, used, usedIn, usedBefore};
+ghost use Rattle.reader.specs.Rows.{broughtBy, quoted, countFor, fieldAfter, thousandthsOf, used, usedIn, usedBefore};
 ghost use Rattle.reader.specs.Reading.{tab, tablesAfter};
 
 // What an item brings, by where it goes: a field of its series' row, or the position or the amount of its interval's.
@@ -53,19 +57,6 @@ fn brought_by(entry: Entry) -> Brought
         Entry::Interval => Brought::InRow(Field::Count),
         Entry::Position(p) => Brought::AtPosition(p),
         Entry::Amount => Brought::AtAmount,
-    }
-}
-
-pub(crate) fn span_of(item: Item) -> Span
-    ensures { λ r. ⌜ r ≡ spanOf item ⌝ }
-{
-    match item {
-        Item::Start(t) => t.v,
-        Item::Empty(t) => t.v,
-        Item::End(_, _) => Span { start: 0, len: 0 },
-        Item::Text(_, _) => Span { start: 0, len: 0 },
-        Item::Comment(_) => Span { start: 0, len: 0 },
-        Item::Refused(_) => Span { start: 0, len: 0 },
     }
 }
 
@@ -96,35 +87,37 @@ fn set_trimmed(t: &mut [u32], row: u32, f: Field, at: usize, b: &[u8])
     set_view(t, row, f, from as u32, len as u32);
 }
 
-// A field of the row of the last series; st is the state after the item, which is at the place `at`, and v the value in it.
+// The first interval row of the last series, and its interval count.
+fn count_for(st: State, f: Field) -> u32
+    ensures { λ r. ⌜ r ≡ countFor st f ⌝ }
+{
+    match f {
+        Field::Identification => 0,
+        Field::Object => 0,
+        Field::BusinessType => 0,
+        Field::Direction => 0,
+        Field::Area => 0,
+        Field::FirstRow => st.first,
+        Field::Count => count_of(st.intervals, st.first),
+    }
+}
+
+// A field of the row of the last series; st is the state after the item, which is at the place `at`, and v the value in it. Each setter is called in one place,
+// so that the compiler makes one loop of them.
 fn enter_field(t: &mut [u32], at: usize, v: Span, s: &[u8], st: State, f: Field)
     requires { ⌜ at + (v .start + v .len) ≤ 4294967295 ⌝ }
     ensures { λ _. ⌜ now (t .exit) ≡ fieldAfter at v (now (s .entry)) st f (now (t .entry)) ⌝ }
 {
     let row = last_of(st.series);
     let from = at + v.start;
-    match f {
-        Field::Identification => {
-            set_view(t, row, Field::Identification, from as u32, v.len as u32);
+    if is_view(f) {
+        if drops_spaces(f) {
+            set_trimmed(t, row, f, from, quoted_of(v, s));
+        } else {
+            set_view(t, row, f, from as u32, v.len as u32);
         }
-        Field::Object => {
-            set_view(t, row, Field::Object, from as u32, v.len as u32);
-        }
-        Field::BusinessType => {
-            set_trimmed(t, row, Field::BusinessType, from, quoted_of(v, s));
-        }
-        Field::Direction => {
-            set_trimmed(t, row, Field::Direction, from, quoted_of(v, s));
-        }
-        Field::Area => {
-            set_view(t, row, Field::Area, from as u32, v.len as u32);
-        }
-        Field::FirstRow => {
-            set_field(t, row, Field::FirstRow, st.first);
-        }
-        Field::Count => {
-            set_field(t, row, Field::Count, count_of(st.intervals, st.first));
-        }
+    } else {
+        set_field(t, row, f, count_for(st, f));
     }
 }
 

@@ -6,7 +6,8 @@ use lib.ListN.{take, drop}
 use lib.Seq.{drop-drop}
 use Rattle.slices.specs.Run.{run}
 use Rattle.attributes.specs.Names.{nameByte}
-use Rattle.attributes.specs.Attribute.{piece, partOf}
+use Rattle.slices.specs.Part.{partOf}
+use Rattle.attributes.specs.Attribute.{piece}
 use Rattle.attributes.specs.declared.Piece.the-variants.{Attribute}
 use Rattle.attributes.proofs.Named.{piece-name}
 use Rattle.repeats.specs.Order.{nameAt}

@@ -4,7 +4,8 @@ use mathlib.Core.Path.{_≡_, refl, sym, ap, _∙_}
 use mathlib.Core.List.{List}
 use mathlib.Core.Bool.{true, false}
 use lib.ListN.{length, drop}
-use Rattle.attributes.specs.Attribute.{piece, partOf}
+use Rattle.slices.specs.Part.{partOf}
+use Rattle.attributes.specs.Attribute.{piece}
 use Rattle.attributes.specs.declared.Piece.{Piece}
 use Rattle.attributes.specs.declared.Piece.the-variants.{Attribute, Close, CloseEmpty, Torn}
 use Rattle.tags.specs.Tail.{ends, twiceIn}

@@ -2,10 +2,10 @@
 // What the passes find is checked by its own count, so nothing is asked of the heap but that it holds names of the tag.
 use attributes::Piece;
 use attributes::name_len;
-use attributes::part;
 use attributes::piece_at;
 use slices::front;
 use slices::is_same;
+use slices::part;
 use slices::rest;
 ghost use mathlib.Core.Path.{_≡_};
 ghost use mathlib.Core.Bool.{true, cond};

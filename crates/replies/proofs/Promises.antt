@@ -27,12 +27,12 @@ use Rattle.reader.specs.Reading.{blank, refusedAt, acceptedAt, endedAt, readIte
 use Rattle.reader.specs.Answer.{noteFor, answerOf, told, noted, readOf}
 use Rattle.lines.specs.Text.{glyphOf, hexText}
 use Rattle.lines.proofs.Hex.{hex-size}
-use Rattle.replies.specs.Reply.{lineFor, noteIn, replyTo, PermittedReply}
+use Rattle.replies.specs.Reply.{lineFor, noteWritten, replyTo, PermittedReply}
 use Rattle.replies.proofs.Replies.{reply-long, reply-note}
 
 -- "Empty input prints exactly `03 00 00 00 00`."
 pub empty-reply : replyTo [] ≡ lineFor (text "03 00 00 00 00")
-unfolding replyTo lineFor noteIn hexText glyphOf readOf noted told answerOf noteFor groupsIn flat wrote left readSheet orBlank blank readInto readAfter itemsRead readItems endedAt acceptedAt refusedAt itemsFrom itemsAfter begin beginAfter markLen begins same begun overOf closesDocument endOf endAt endsIn nameOf parentOf required rowsOf kostenblatt elementNo numberIn names
+unfolding replyTo lineFor noteWritten hexText glyphOf readOf noted told answerOf noteFor groupsIn flat wrote left readSheet orBlank blank readInto readAfter itemsRead readItems endedAt acceptedAt refusedAt itemsFrom itemsAfter begin beginAfter markLen begins same begun overOf closesDocument endOf endAt endsIn nameOf parentOf required rowsOf kostenblatt elementNo numberIn names
 empty-reply = refl
 
 -- "for longer input it prints `too long` and one newline"
@@ -44,8 +44,8 @@ unfolding left
 left-size w =
     ⊎-elim (λ y. simp (y .1) (length-padded 16 w (y .0))) (λ y. simp (y .1) (length-replicate {A = ℕ} 16 0)) (leb-cases (length w) 16)
 
-note-size : (input : List ℕ) (ns np na : ℕ) → length (noteIn (readOf input ns np na 16)) ≤ 16
-unfolding noteIn readOf noted
+note-size : (input : List ℕ) (ns np na : ℕ) → length (noteWritten (readOf input ns np na 16)) ≤ 16
+unfolding noteWritten readOf noted
 note-size input ns np na =
     let f = readSheet input ns np na .found in
     let w = noteOf (noteFor f) in
@@ -60,7 +60,7 @@ reply-fits input =
     ⊎-elim
     (λ y. rw (reply-long input (y .0)) (line-size _ (omega arith)))
     (λ y.
-    let w = noteIn (readOf input (cellsOf 64) 2048 2048 16) in
+    let w = noteWritten (readOf input (cellsOf 64) 2048 2048 16) in
     rw (reply-note input (y .0)) (line-size (hexText w) (omega (arith, hex-size w, note-size input (cellsOf 64) 2048 2048))))
     (ltb-cases 65536 (length input))
 

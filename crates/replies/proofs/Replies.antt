@@ -14,7 +14,7 @@ use Rattle.slices.specs.Text.{text}
 use Rattle.lines.specs.Text.{hexText}
 use Rattle.series.specs.Row.{cellsOf}
 use Rattle.reader.specs.Answer.{Outcome, readOf}
-use Rattle.replies.specs.Reply.{lineFor, noteIn, replyTo, PermittedReply}
+use Rattle.replies.specs.Reply.{lineFor, noteWritten, replyTo, PermittedReply}
 
 -- a byte after w, dropped where w fills the buffer
 byte-more : (w out : List ℕ) (n b : ℕ) → n ≡ min (length w) (length out) → set (sets out 0 w) n b ≡ sets out 0 (w ++ (b ∷ []))
@@ -42,14 +42,14 @@ put-line w out₀ out l n m en eo em el =
     }
 
 -- the part of the buffer that is the note
-pub note-part : (o : Outcome) (n : ℕ) (note part : List ℕ) → n ≡ o .answer .note → note ≡ o .note → part ≡ take n note → part ≡ noteIn o
-unfolding noteIn
+pub note-part : (o : Outcome) (n : ℕ) (note part : List ℕ) → n ≡ o .answer .note → note ≡ o .note → part ≡ take n note → part ≡ noteWritten o
+unfolding noteWritten
 note-part o n note part en eo ep = ep ∙ ap (λ (k : ℕ). take k note) en ∙ ap (take (o .answer .note)) eo
 
 pub reply-long : (input : List ℕ) → 65536 < length input → replyTo input ≡ lineFor (text "too long")
 unfolding replyTo
 reply-long input h = simp (lt-ltb _ _ h)
 
-pub reply-note : (input : List ℕ) → length input ≤ 65536 → replyTo input ≡ lineFor (hexText (noteIn (readOf input (cellsOf 64) 2048 2048 16)))
+pub reply-note : (input : List ℕ) → length input ≤ 65536 → replyTo input ≡ lineFor (hexText (noteWritten (readOf input (cellsOf 64) 2048 2048 16)))
 unfolding replyTo
 reply-note input h = simp (le-ltb _ _ h)

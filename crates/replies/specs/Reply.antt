@@ -17,13 +17,13 @@ unfoldable pub lineFor : List ℕ → List ℕ
 lineFor s = s ++ (10 ∷ [])
 
 -- "the zeros past it aren't part of the note"
-unfoldable pub noteIn : Outcome → List ℕ
-noteIn o = take (o .answer .note) (o .note)
+unfoldable pub noteWritten : Outcome → List ℕ
+noteWritten o = take (o .answer .note) (o .note)
 
 -- "A program reads standard input, at most 65,536 bytes, and prints the note as two-digit upper-case hex, single spaces, one newline; for longer input
 -- it prints `too long` and one newline. It lends 64 series and 2,048 intervals."
 unfoldable pub replyTo : List ℕ → List ℕ
-replyTo input = cond (ltb 65536 (length input)) (lineFor (text "too long")) (lineFor (hexText (noteIn (readOf input (cellsOf 64) 2048 2048 16))))
+replyTo input = cond (ltb 65536 (length input)) (lineFor (text "too long")) (lineFor (hexText (noteWritten (readOf input (cellsOf 64) 2048 2048 16))))
 
 -- what `put_reply` answers and leaves of a buffer that held out: the reply at its start, as much as it has room for, and how many characters that is
 pub record PermittedReply (reply out : List ℕ) (count : ℕ) (left : List ℕ) : Type 0 where

@@ -43,8 +43,8 @@ unfoldable pub versionBy : Number → Bool
 versionBy (Is n) = true
 versionBy NotNumber = false
 
-unfoldable pub version : List ℕ → Bool
-version cs = versionBy (numberOf cs 3)
+unfoldable pub isVersion : List ℕ → Bool
+isVersion cs = versionBy (numberOf cs 3)
 
 unfoldable pub amountBy : Amount → Bool
 amountBy (Thousandths z) = true
@@ -59,7 +59,7 @@ formRefusal form cs =
     cond (eqb form identificationForm) (unless 6 (identification cs))
     (cond (eqb form seriesIdForm) (unless 6 (identification cs))
     (cond (eqb form partnerForm) (unless 6 (marketPartner cs))
-    (cond (eqb form versionForm) (unless 6 (version cs))
+    (cond (eqb form versionForm) (unless 6 (isVersion cs))
     (cond (eqb form dateTimeForm) (unless 6 (dateTime cs))
     (cond (eqb form amountForm) (unless 6 (amount cs))
     (cond (eqb form objectForm) (unless 6 (resourceObject cs))

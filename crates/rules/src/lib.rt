@@ -32,7 +32,7 @@ ghost use mathlib.Core.Path.{_≡_};
 ghost use Prim.Native.Nat.{_+_};
 ghost use lib.Dec.{eqb};
 ghost use Rattle.characters.specs.Says.{says};
-ghost use Rattle.rules.specs.Rules.{unless, version, amount, formRefusal, periodFits, positionFits, judgePeriod, judgeInterval, judgePosition, judge};
+ghost use Rattle.rules.specs.Rules.{unless, isVersion, amount, formRefusal, periodFits, positionFits, judgePeriod, judgeInterval, judgePosition, judge};
 
 // What a value is held against: the kind; TimePeriodCovered, in minutes, and its quarter hours; the last Pos, 0 before the first.
 pub struct Held {
@@ -57,7 +57,7 @@ fn refused_unless(number: u32, fits: bool) -> u32
 }
 
 fn is_version(v: &[u8]) -> bool
-    ensures { λ r. ⌜ r ≡ version (says (now (v .entry))) ⌝ }
+    ensures { λ r. ⌜ r ≡ isVersion (says (now (v .entry))) ⌝ }
 {
     match number_of(v, 3) {
         Number::Is(_) => true,

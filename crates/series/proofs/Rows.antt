@@ -10,10 +10,10 @@ use lib.Dec.{eqb}
 use lib.ListN.{length, getD, set, length-set}
 use lib.Seq.{getD-set-same, getD-set-other}
 use Rattle.lists.proofs.Cases.{eqb-cases, ltb-cases, never}
-use Rattle.attributes.specs.Attribute.{partOf}
+use Rattle.slices.specs.Part.{partOf}
 use Rattle.series.specs.declared.Field.{Field}
 use Rattle.series.specs.declared.Field.the-variants.{Identification, Object, BusinessType, Direction, Area, FirstRow, Count}
-use Rattle.series.specs.Row.{cellOf, isView, rowWidth, cellsOf, rowsIn, cellAt, withView, view}
+use Rattle.series.specs.Row.{cellOf, isView, rowWidth, cellsOf, roomFor, cellAt, withView, view}
 
 -- u is t with a view of a and n in field f of row i, and every other cell kept
 pub record ViewSet (t u : List ℕ) (i : ℕ) (f : Field) (a n : ℕ) : Type 0 where
@@ -55,7 +55,7 @@ module _ (doc : List ℕ) where
       view-as t (withView t i f a n) k g (s .others (cellAt k g) x y) (s .others (cellAt k g + 1) z (λ e. x (omega (arith, e))))
 
 -- as many rows as there is room for have their cells
-pub rows-fit : (n m : ℕ) → n ≤ rowsIn m → cellsOf n ≤ m
+pub rows-fit : (n m : ℕ) → n ≤ roomFor m → cellsOf n ≤ m
 rows-fit n m h = omega (arith, h, div-add-mod' m rowWidth)
 
 -- ---- views beside each other

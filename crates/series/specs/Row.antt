@@ -7,7 +7,7 @@ use mathlib.Core.Path.{_≡_}
 use mathlib.Core.List.{List}
 use mathlib.Core.Bool.{Bool, true, false}
 use lib.ListN.{getD, set}
-use Rattle.attributes.specs.Attribute.{partOf}
+use Rattle.slices.specs.Part.{partOf}
 use Rattle.series.specs.declared.Field.{Field}
 use Rattle.series.specs.declared.Field.the-variants.{Identification, Object, BusinessType, Direction, Area, FirstRow, Count}
 
@@ -30,6 +30,16 @@ isView Area = true
 isView FirstRow = false
 isView Count = false
 
+-- "of its BusinessType, spaces dropped", and of "Direction (spaces dropped)"
+abbrev pub dropsSpaces : Field → Bool
+dropsSpaces Identification = false
+dropsSpaces Object = false
+dropsSpaces BusinessType = true
+dropsSpaces Direction = true
+dropsSpaces Area = false
+dropsSpaces FirstRow = false
+dropsSpaces Count = false
+
 -- how many numbers a series takes, and n series
 abbrev pub rowWidth : ℕ
 rowWidth = 12
@@ -38,8 +48,8 @@ abbrev pub cellsOf : ℕ → ℕ
 cellsOf n = rowWidth * n
 
 -- "Room becomes the table length divided by 12."
-abbrev pub rowsIn : ℕ → ℕ
-rowsIn n = n / rowWidth
+abbrev pub roomFor : ℕ → ℕ
+roomFor n = n / rowWidth
 
 -- the cell where a field of row i begins, rows being counted from 0
 abbrev pub cellAt : ℕ → Field → ℕ

@@ -1,10 +1,10 @@
 // The row of a series in the series table: which cell holds what, and for how many rows a table has room.
-use attributes::part;
+use slices::part;
 use tables::set_number;
 ghost use mathlib.Core.Path.{_≡_};
 ghost use Prim.Native.Nat.{_≤_, _<_};
 ghost use lib.ListN.{getD};
-ghost use Rattle.series.specs.Row.{cellOf, rowWidth, rowsIn, cellAt, withField, withView, view};
+ghost use Rattle.series.specs.Row.{cellOf, isView, dropsSpaces, rowWidth, roomFor, cellAt, withField, withView, view};
 
 // The fields of a row, in their order. The first five are views: start and length in two cells.
 pub enum Field {
@@ -22,9 +22,39 @@ pub const WIDTH: usize = 12;
 
 // How many rows a table of n cells has room for. Ruled out: a row that runs past the table.
 pub fn rows_in(n: usize) -> usize
-    ensures { λ r. ⌜ r ≡ rowsIn n ⌝ }
+    ensures { λ r. ⌜ r ≡ roomFor n ⌝ }
 {
     n / WIDTH
+}
+
+// Whether a field is a view. Ruled out: a count taken for the start of one.
+pub fn is_view(f: Field) -> bool
+    ensures { λ r. ⌜ r ≡ isView f ⌝ }
+{
+    match f {
+        Field::Identification => true,
+        Field::Object => true,
+        Field::BusinessType => true,
+        Field::Direction => true,
+        Field::Area => true,
+        Field::FirstRow => false,
+        Field::Count => false,
+    }
+}
+
+// Whether a view has its "spaces dropped". Ruled out: an area without its spaces.
+pub fn drops_spaces(f: Field) -> bool
+    ensures { λ r. ⌜ r ≡ dropsSpaces f ⌝ }
+{
+    match f {
+        Field::Identification => false,
+        Field::Object => false,
+        Field::BusinessType => true,
+        Field::Direction => true,
+        Field::Area => false,
+        Field::FirstRow => false,
+        Field::Count => false,
+    }
 }
 
 fn cell_of(f: Field) -> usize

@@ -7,6 +7,7 @@ use mathlib.Core.Bool.{Bool}
 use lib.ListN.{take, drop}
 use Rattle.lists.proofs.Unique.{one}
 use Rattle.slices.specs.Bytes.{byte}
+use Rattle.slices.specs.Part.{partOf}
 use Rattle.slices.specs.Same.{same, begins, firstAt}
 
 pub byte-at-one : (s : List ℕ) (i : ℕ) {r r′ : ℕ} → r ≡ byte s i → r′ ≡ byte s i → r ≡ r′
@@ -17,6 +18,9 @@ rest-one s n = one
 
 pub front-one : (s : List ℕ) (n : ℕ) {r r′ : List ℕ} → r ≡ take n s → r′ ≡ take n s → r ≡ r′
 front-one s n = one
+
+pub part-one : (s : List ℕ) (at n : ℕ) {r r′ : List ℕ} → r ≡ partOf s at n → r′ ≡ partOf s at n → r ≡ r′
+part-one s at n = one
 
 pub is-same-one : (a b : List ℕ) {r r′ : Bool} → r ≡ same a b → r′ ≡ same a b → r ≡ r′
 is-same-one a b = one

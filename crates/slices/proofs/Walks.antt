@@ -6,9 +6,9 @@ use native.Mathlib.Omega.{arith}
 use lib.ListN.{length, take, drop, drop-of-length-le, length-drop}
 use lib.Seq.{drop-drop}
 use Rattle.lists.proofs.Loans.{rest-part}
-use Rattle.slices.specs.Walk.{Step, go, stop, walk}
+use Rattle.slices.specs.Walk.{WalkStep, go, stop, walk}
 
-module _ {A S R : Type 0} (look : List ℕ → A) (next : S → A → Step S R) (over : S → R) where
+module _ {A S R : Type 0} (look : List ℕ → A) (next : S → A → WalkStep S R) (over : S → R) where
   -- what is left of the walk at i in the state st is the whole walk
   pub record Walked (st₀ : S) (s : List ℕ) (st : S) (i : ℕ) : Type 0 where
     pub left : walk look next over st 0 (drop i s) ≡ walk look next over st₀ 0 s
@@ -33,7 +33,7 @@ module _ {A S R : Type 0} (look : List ℕ → A) (next : S → A → Step S R) 
   seen : (s : List ℕ) (st : S) (i : ℕ) (x : A) → x ≡ look (take (length s - i) (drop i s)) → next st (look (drop i s)) ≡ next st x
   seen s st i x e = ap (next st) (sym (e ∙ ap look (rest-part i s)))
 
-module _ {A S R : Type 0} {look : List ℕ → A} {next : S → A → Step S R} {over : S → R} {st₀ : S} {s : List ℕ} where
+module _ {A S R : Type 0} {look : List ℕ → A} {next : S → A → WalkStep S R} {over : S → R} {st₀ : S} {s : List ℕ} where
   pub walked-start : Walked look next over st₀ s st₀ 0
   walked-start = record { left = refl }
 

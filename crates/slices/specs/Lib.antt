@@ -1,4 +1,5 @@
 pub mod Bytes
+pub mod Part
 pub mod Run
 pub mod Walk
 pub mod Same

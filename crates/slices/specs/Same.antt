@@ -4,7 +4,7 @@ use mathlib.Core.List.{List, [], _∷_}
 use mathlib.Core.Bool.{Bool, true, false, cond}
 use lib.ListN.{length, take}
 use lib.Dec.{eqb}
-use Rattle.slices.specs.Walk.{Step, go, stop, walk}
+use Rattle.slices.specs.Walk.{WalkStep, go, stop, walk}
 
 unfoldable pub same : List ℕ → List ℕ → Bool
 same [] [] = true
@@ -17,7 +17,7 @@ unfoldable pub begins : List ℕ → List ℕ → Bool
 begins t s = same t (take (length t) s)
 
 -- a search: where it is found, and one byte on where it is not
-unfoldable pub seek : ℕ → Bool → Step ℕ ℕ
+unfoldable pub seek : ℕ → Bool → WalkStep ℕ ℕ
 seek at t = cond t (stop at) (go 1 (at + 1))
 
 unfoldable pub here : ℕ → ℕ

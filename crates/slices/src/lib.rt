@@ -4,7 +4,14 @@ ghost use mathlib.Core.Path.{_≡_};
 ghost use Prim.Native.Nat.{_-_, _≤_};
 ghost use lib.ListN.{length, take, drop};
 ghost use Rattle.slices.specs.Bytes.{byte};
+ghost use Rattle.slices.specs.Part.{partOf};
 ghost use Rattle.slices.specs.Same.{same, begins, firstAt};
+
+// Where a part of a slice stands. Of an attribute's value it is counted from the first byte of its tag, and a start of 0 says that it is not there.
+pub struct Span {
+    pub start: usize,
+    pub len: usize,
+}
 
 // The byte at i, and 0 past the end.
 // Ruled out: the last byte for an i past the end; the byte after i.
@@ -30,6 +37,14 @@ pub fn front(s: &[u8], n: usize) -> &[u8]
     ensures size { λ r. ⌜ length (now r) ≤ n ⌝ }
 {
     if n <= s.len() { &s[..n] } else { s }
+}
+
+// The n bytes of s from at on, fewer where s ends before.
+// Ruled out: the n bytes before at; bytes past n.
+pub fn part(s: &[u8], at: usize, n: usize) -> &[u8]
+    ensures { λ r. ⌜ now r ≡ partOf (now (s .entry)) at n ⌝ }
+{
+    front(rest(s, at), n)
 }
 
 // Whether two slices hold the same bytes.

@@ -6,11 +6,11 @@ use mathlib.Core.Bool.{true, false}
 use Rattle.elements.specs.Names.{elementNo}
 use Rattle.guideline.specs.Rows.{everyRow}
 use Rattle.guideline.proofs.Each.{rows-in}
+use Rattle.items.specs.Parts.{nameIn}
 use Rattle.items.specs.declared.Item.{Item}
-use Rattle.items.specs.declared.Item.the-variants.{Start, Empty, End, Text, Comment}
-use Rattle.items.specs.declared.Item.the-variants.{Refused as Unreadable}
-use Rattle.states.specs.Act.{actOf, nameIn}
-use Rattle.states.specs.Moves.{started, ended, moved, kindTold, stepBy, step}
+use Rattle.items.specs.declared.Item.the-variants.{Start, Empty, End, Text, Comment, Unreadable}
+use Rattle.states.specs.Act.{actOf}
+use Rattle.states.specs.Moves.{started, afterEnd, moved, kindTold, stepBy, step}
 use Rattle.states.specs.declared.State.{State}
 use Rattle.states.specs.declared.Room.{Room}
 use Rattle.states.specs.declared.Entry.the-variants.{Nothing}
@@ -21,7 +21,7 @@ use Rattle.states.specs.declared.Act.the-variants.{Opens, Closes, Passes
 
 unfoldable pub acted : State → ℕ → List ℕ → ℕ → List ℕ → Room → Act → Step
 acted x kind rows name s room (Opens t empty) = started x kind rows name t s empty room
-acted x kind rows name s room Closes = ended x rows name
+acted x kind rows name s room Closes = afterEnd x rows name
 acted x kind rows name s room Passes = Next x Nothing
 acted x kind rows name s room (Refuses n) = Refused n
 

@@ -24,7 +24,7 @@ pub record Passed (x : State) (kind : ℕ) (rows : List ℕ) (q : ℕ) (t : Tag)
   pub whole : cutShort empty rows q ≡ false
   pub few : tooMany x (roleOf (getD rows q 0)) kind ≡ false
   pub free : noRoom x (roleOf (getD rows q 0)) room ≡ false
-  pub attributes : attributesFit (getD rows q 0) t ≡ true
+  pub attributes : attributesFit kind (getD rows q 0) t ≡ true
   pub originals : halfOriginals x (roleOf (getD rows q 0)) ≡ false
 
 module _ (x : State) (kind : ℕ) (rows : List ℕ) (q : ℕ) (t : Tag) (s : List ℕ) (empty : Bool) (room : Room) where
@@ -37,12 +37,12 @@ module _ (x : State) (kind : ℕ) (rows : List ℕ) (q : ℕ) (t : Tag) (s : Lis
   judged-passed h =
       let w = getD rows q 0 in
       let values = valuesJudged x kind w t s in
-      let last = cond (attributesFit w t) values (refused 5) in
+      let last = cond (attributesFit kind w t) values (refused 5) in
       let roomy = cond (noRoom x (roleOf w) room) (refused 4) last in
       let a = untold (cutShort empty rows q) 3 (cond (tooMany x (roleOf w) kind) (refused 3) roomy) (λ z. omega (arith, z)) h in
       let b = untold (tooMany x (roleOf w) kind) 3 roomy (λ z. omega (arith, z)) (a .1) in
       let c = untold (noRoom x (roleOf w) room) 4 last (λ z. omega (arith, z)) (b .1) in
-      let d : (attributesFit w t ≡ true) × (values .number ≡ 0) = fitting (attributesFit w t) values (c .1) in
+      let d : (attributesFit kind w t ≡ true) × (values .number ≡ 0) = fitting (attributesFit kind w t) values (c .1) in
       let e = untold (halfOriginals x (roleOf w)) 8 (judgeTag w t (heldOf x kind) s) (λ z. omega (arith, z)) (d .1) in
       record { whole = a .0; few = b .0; free = c .0; attributes = d .0; originals = e .0 }
     where

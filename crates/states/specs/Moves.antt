@@ -4,15 +4,14 @@ use mathlib.Core.List.{List}
 use mathlib.Core.Bool.{Bool, true, false, cond, not}
 use lib.ListN.{getD}
 use lib.Dec.{leb, ltb, eqb}
-use Rattle.attributes.specs.Attribute.{partOf}
+use Rattle.slices.specs.Part.{partOf}
 use Rattle.elements.specs.Names.{elementNo}
 use Rattle.columns.specs.Columns.{formOf, roleOf, periodForm, seriesRole, periodRole, intervalRole, originalRole, objectRole, businessRole, seriesIdRole, posRole, qtyRole, directionRole, areaRole}
 use Rattle.guideline.specs.Kinds.{kindAt, kindOf, takesAnother, hasEnough}
 use Rattle.guideline.specs.Rows.{rowsOf, rowsIn}
 use Rattle.items.specs.declared.Tag.{Tag}
 use Rattle.items.specs.declared.Item.{Item}
-use Rattle.items.specs.declared.Item.the-variants.{Start, Empty, End, Text, Comment}
-use Rattle.items.specs.declared.Item.the-variants.{Refused as Unreadable}
+use Rattle.items.specs.declared.Item.the-variants.{Start, Empty, End, Text, Comment, Unreadable}
 use Rattle.rules.specs.Rules.{refused}
 use Rattle.rules.specs.declared.Held.{Held}
 use Rattle.rules.specs.declared.Judged.{Judged}
@@ -68,14 +67,14 @@ judgedAt x kind rows r w t s empty room =
     cond (cutShort empty rows r) (refused 3)
     (cond (tooMany x (roleOf w) kind) (refused 3)
     (cond (noRoom x (roleOf w) room) (refused 4)
-    (cond (attributesFit w t) (valuesJudged x kind w t s) (refused 5))))
+    (cond (attributesFit kind w t) (valuesJudged x kind w t s) (refused 5))))
 
 unfoldable pub startJudged : State → ℕ → List ℕ → ℕ → Tag → List ℕ → Bool → Room → Judged
 startJudged x kind rows r t s empty room = judgedAt x kind rows r (getD rows r 0) t s empty room
 
 -- where the structure stands after it
-unfoldable pub placed : State → ℕ → ℕ → Bool → State
-placed x kind r within =
+unfoldable pub atRow : State → ℕ → ℕ → Bool → State
+atRow x kind r within =
     record {
       kind = kind;
       row = r;
@@ -181,7 +180,7 @@ kept x w j =
     (cond (eqb (formOf w) periodForm) (covering x (j .first) (j .second)) x)))))
 
 unfoldable pub entered : State → ℕ → ℕ → ℕ → Judged → Bool → State
-entered x kind r w j within = kept (placed x kind r within) w j
+entered x kind r w j within = kept (atRow x kind r within) w j
 
 -- what it brings into the tables
 unfoldable pub entryOf : ℕ → ℕ → Entry
@@ -232,19 +231,19 @@ countRefusal kind quarters n = cond (hasEnough kind n) (cond (kindAt kind .full)
 unfoldable pub endRefusal : State → List ℕ → ℕ → ℕ
 endRefusal x rows r = cond (eqb (roleOf (getD rows r 0)) periodRole) (countRefusal (x .kind) (x .quarters) (x .intervals - x .first)) 0
 
-unfoldable pub endedAt : State → List ℕ → Due → Step
-endedAt x rows (Row r) = cond (eqb (endRefusal x rows r) 0) (Next (closedAt x r) Nothing) (Refused (endRefusal x rows r))
-endedAt x rows NotDue = Refused 3
+unfoldable pub afterEndAt : State → List ℕ → Due → Step
+afterEndAt x rows (Row r) = cond (eqb (endRefusal x rows r) 0) (Next (closedAt x r) Nothing) (Refused (endRefusal x rows r))
+afterEndAt x rows NotDue = Refused 3
 
-unfoldable pub ended : State → List ℕ → ℕ → Step
-ended x rows name = endedAt x rows (endOf rows (x .row) (x .inside) name)
+unfoldable pub afterEnd : State → List ℕ → ℕ → Step
+afterEnd x rows name = afterEndAt x rows (endOf rows (x .row) (x .inside) name)
 
 -- ---- an item; s is the part of the document that begins with it
 
 unfoldable pub moved : State → ℕ → List ℕ → Item → List ℕ → Room → Step
 moved x kind rows (Start t) s room = started x kind rows (elementNo (partOf s 1 (t .name))) t s false room
 moved x kind rows (Empty t) s room = started x kind rows (elementNo (partOf s 1 (t .name))) t s true room
-moved x kind rows (End n e) s room = ended x rows (elementNo (partOf s 2 n))
+moved x kind rows (End n e) s room = afterEnd x rows (elementNo (partOf s 2 n))
 moved x kind rows (Text white e) s room = cond white (Next x Nothing) (Refused 3)
 moved x kind rows (Comment e) s room = Next x Nothing
 moved x kind rows (Unreadable p) s room = Refused 2

@@ -1,5 +1,4 @@
 // The reading state, and how each item moves it. It holds no amount.
-use attributes::part;
 use codes::is_listed;
 use columns::AREA_ROLE;
 use columns::BUSINESS_ROLE;
@@ -22,32 +21,42 @@ use columns::is_collapsed;
 use columns::role_of;
 use columns::scheme_of;
 use elements::element_no;
-use forms::is_version_fixed;
+use guideline::ASKED;
+use guideline::DTD_MESSAGE;
+use guideline::DTD_RELEASE;
+use guideline::DTD_VERSION;
+use guideline::Demands;
+use guideline::OPTIONAL;
 use guideline::has_enough;
+use guideline::is_fixed;
 use guideline::kind_at;
 use guideline::kind_of_root;
 use guideline::rows_of;
 use guideline::takes_another;
 use items::Item;
 use items::Tag;
+use items::name_in;
 use rules::Held;
 use rules::Judged;
 use rules::judge_value;
+use slices::Span;
+use slices::part;
 use structure::Due;
 use structure::end_after;
 use structure::ends_at_once;
 use structure::start_after;
-use tags::Span;
+use tags::Dtd;
 use times::quarter_hours;
 use trims::trimmed;
 ghost use mathlib.Core.Path.{_≡_};
 ghost use Prim.Native.Nat.{_-_};
 ghost use lib.Dec.{eqb};
 ghost use lib.ListN.{getD};
+ghost use Rattle.items.specs.Parts.{nameIn};
 ghost use Rattle.columns.specs.Columns.{roleOf, rootRole};
-ghost use Rattle.states.specs.Attributes.{there, agree, asksV, asksScheme, noOthers, attributesFit, valueOf, schemeRefusal, least, judgeTag};
-ghost use Rattle.states.specs.Act.{actOf, nameIn};
-ghost use Rattle.states.specs.Moves.{oneMore, cutShort, begun, heldOf, tooMany, noRoom, halfOriginals, valuesJudged, startJudged, entered, entryOf, started, closedAt, countRefusal, endRefusal, ended, moved, kindTold, stepBy};
+ghost use Rattle.states.specs.Attributes.{there, agree, asksV, asksScheme, demandsAt, meets, dtdFits, noOthers, attributesFit, valueOf, schemeRefusal, least, valueFixed, dtdFixed, judgeTag};
+ghost use Rattle.states.specs.Act.{actOf};
+ghost use Rattle.states.specs.Moves.{oneMore, cutShort, begun, heldOf, tooMany, noRoom, halfOriginals, valuesJudged, startJudged, entered, entryOf, started, closedAt, countRefusal, endRefusal, afterEnd, moved, kindTold, stepBy};
 
 pub struct State {
     // 0 before the root
@@ -145,15 +154,49 @@ fn has_no_others(w: usize, others: bool, passable: bool) -> bool
     true
 }
 
-fn has_attributes(w: usize, t: Tag) -> bool
-    ensures { λ r. ⌜ r ≡ attributesFit w t ⌝ }
+// What a row asks of the attributes that a root may have.
+fn demands_at(kind: u32, w: usize) -> Demands
+    ensures { λ r. ⌜ r ≡ demandsAt kind w ⌝ }
+{
+    if is_root(w) {
+        let k = kind_at(kind);
+        return k.dtd;
+    }
+    Demands::none()
+}
+
+fn meets_demand(demand: usize, given: bool) -> bool
+    ensures { λ r. ⌜ r ≡ meets demand given ⌝ }
+{
+    if demand == OPTIONAL {
+        return true;
+    }
+    agrees(demand == ASKED, given)
+}
+
+fn fits_dtd(demands: Demands, d: Dtd) -> bool
+    ensures { λ r. ⌜ r ≡ dtdFits demands d ⌝ }
+{
+    let version = d.version;
+    let release = d.release;
+    let message = d.message;
+    if meets_demand(demands.version, is_there(version)) {
+        if meets_demand(demands.release, is_there(release)) {
+            return meets_demand(demands.message, is_there(message));
+        }
+    }
+    false
+}
+
+fn has_attributes(kind: u32, w: usize, t: Tag) -> bool
+    ensures { λ r. ⌜ r ≡ attributesFit kind w t ⌝ }
 {
     let v = t.v;
     let coding = t.coding;
-    let version = t.version;
+    let dtd = t.dtd;
     if agrees(asks_v(w), is_there(v)) {
         if agrees(asks_scheme(w), is_there(coding)) {
-            if agrees(is_root(w), is_there(version)) {
+            if fits_dtd(demands_at(kind, w), dtd) {
                 return has_no_others(w, t.others, t.passable);
             }
         }
@@ -202,14 +245,38 @@ fn least_of(a: u32, b: u32) -> u32
     if a <= b { a } else { b }
 }
 
+// Whether an attribute of the root that is there has its fixed value.
+fn is_value_fixed(kind: u32, attribute: usize, x: Span, s: &[u8]) -> bool
+    ensures { λ r. ⌜ r ≡ valueFixed kind attribute x (now (s .entry)) ⌝ }
+{
+    if is_there(x) {
+        let start = x.start;
+        let len = x.len;
+        return is_fixed(kind, attribute, part(s, start, len));
+    }
+    true
+}
+
+fn is_dtd_fixed(kind: u32, d: Dtd, s: &[u8]) -> bool
+    ensures { λ r. ⌜ r ≡ dtdFixed kind d (now (s .entry)) ⌝ }
+{
+    let version = d.version;
+    let release = d.release;
+    let message = d.message;
+    if is_value_fixed(kind, DTD_VERSION, version, s) {
+        if is_value_fixed(kind, DTD_RELEASE, release, s) {
+            return is_value_fixed(kind, DTD_MESSAGE, message, s);
+        }
+    }
+    false
+}
+
 fn judge_tag(w: usize, t: Tag, s: &[u8], h: Held) -> Judged
     ensures { λ r. ⌜ r ≡ judgeTag w t h (now (s .entry)) ⌝ }
 {
     if is_root(w) {
-        let version = t.version;
-        let start = version.start;
-        let len = version.len;
-        if is_version_fixed(part(s, start, len)) {
+        let dtd = t.dtd;
+        if is_dtd_fixed(h.kind, dtd, s) {
             return Judged {
                 number: 0,
                 first: 0,
@@ -336,21 +403,7 @@ fn act_of(item: Item) -> Act
             Act::Refuses(3)
         }
         Item::Comment(_) => Act::Passes,
-        Item::Refused(_) => Act::Refuses(2),
-    }
-}
-
-// The name of a tag, and of any other item none.
-fn name_in(item: Item, s: &[u8]) -> &[u8]
-    ensures { λ r. ⌜ now r ≡ nameIn item (now (s .entry)) ⌝ }
-{
-    match item {
-        Item::Start(t) => part(s, 1, t.name),
-        Item::Empty(t) => part(s, 1, t.name),
-        Item::End(n, _) => part(s, 2, n),
-        Item::Text(_, _) => part(s, 0, 0),
-        Item::Comment(_) => part(s, 0, 0),
-        Item::Refused(_) => part(s, 0, 0),
+        Item::Unreadable(_) => Act::Refuses(2),
     }
 }
 
@@ -478,7 +531,7 @@ impl State {
                 second: 0,
             };
         }
-        if has_attributes(w, t) {
+        if has_attributes(kind, w, t) {
             return self.judge_values(kind, w, t, s);
         }
         Judged {
@@ -578,7 +631,7 @@ impl State {
 
     // An end tag whose name has the number `name`.
     fn ended(self, rows: &[usize], name: usize) -> Step
-        ensures { λ r. ⌜ r ≡ ended self (now (rows .entry)) name ⌝ }
+        ensures { λ r. ⌜ r ≡ afterEnd self (now (rows .entry)) name ⌝ }
     {
         match end_after(rows, self.row, self.inside, name) {
             Due::Row(r) => {
@@ -616,7 +669,7 @@ impl State {
                 Item::End(_, _) => 0,
                 Item::Text(_, _) => 0,
                 Item::Comment(_) => 0,
-                Item::Refused(_) => 0,
+                Item::Unreadable(_) => 0,
             };
         }
         self.kind

@@ -14,15 +14,16 @@ use Rattle.lists.proofs.Cases.{by-cond, eqb-cases, ltb-cases}
 use Rattle.slices.specs.Same.{same}
 use Rattle.slices.specs.Text.{text}
 use Rattle.slices.specs.Bytes.{byte}
-use Rattle.attributes.specs.Attribute.{piece, partOf}
+use Rattle.slices.specs.Part.{partOf}
+use Rattle.attributes.specs.Attribute.{piece}
 use Rattle.attributes.specs.Short.{vLen}
 use Rattle.attributes.proofs.Short.{byte-drop, v-inside, v-piece, v-name, close-piece, empty-piece}
 use Rattle.attributes.specs.declared.Piece.{Piece}
 use Rattle.attributes.specs.declared.Piece.the-variants.{Attribute, Close, CloseEmpty, Torn}
-use Rattle.tags.specs.Known.{noted, noneKnown, absent}
+use Rattle.tags.specs.Known.{dtdName, withAttribute, noneKnown, absent}
 use Rattle.tags.specs.First.{vUse, firstKnown}
-use Rattle.tags.specs.Tail.{Attr, Ends, closed, torn, onto, endsAfter, ends, keep, tail}
-use Rattle.tags.specs.declared.Span.{Span}
+use Rattle.tags.specs.Tail.{Attr, Ends, closed, torn, onto, endsAfter, ends, keptOf, tail}
+use Rattle.slices.specs.declared.Span.{Span}
 use Rattle.tags.specs.declared.Known.{Known}
 use Rattle.tags.specs.declared.Tail.the-variants.{Shut}
 
@@ -90,28 +91,28 @@ unfolding ends endsAfter
 ends-over s i h = rw (drop-of-length-le s h)
 
 -- what is kept of an attribute in front
-pub tail-onto : (k : Known) (a : Attr) (x : Ends) → tail k (onto a x) ≡ tail (noted k (a .name) (a .value)) x
-unfolding tail onto keep
+pub tail-onto : (k : Known) (a : Attr) (x : Ends) → tail k (onto a x) ≡ tail (withAttribute k (a .name) (a .value)) x
+unfolding tail onto keptOf
 tail-onto k a (closed more empty n) = refl
 tail-onto k a torn = refl
 
 -- one turn of a loop that keeps attributes: name is what was read as the attribute's name, k and next what is kept before and after it
 pub tail-attribute : (s : List ℕ) (i : ℕ) (k : Known) {t : List ℕ} {x : Piece} {w n v m e : ℕ} {name : List ℕ} {next : Known}
     → t ≡ drop i s → x ≡ piece t → i < length s → x ≡ Attribute w n v m e → 1 ≤ e
-    → name ≡ partOf t w n → next ≡ noted k name (record { start = i + v; len = m })
+    → name ≡ partOf t w n → next ≡ withAttribute k name (record { start = i + v; len = m })
     → tail next (ends s (i + e)) ≡ tail k (ends s i)
 tail-attribute s i k {t} {x} {w} {n} {v} {m} {e} {name} {next} et ex h q p en ek =
-    ap (λ (y : Known). tail y (ends s (i + e))) (ek ∙ ap (λ (y : List ℕ). noted k y (record { start = i + v; len = m })) en)
+    ap (λ (y : Known). tail y (ends s (i + e))) (ek ∙ ap (λ (y : List ℕ). withAttribute k y (record { start = i + v; len = m })) en)
     ∙ sym (ap (tail k) (ends-attribute s i t et x ex w n v m e h q p) ∙ tail-onto k (attr i t w n v m) (ends s (i + e)))
 
 -- the value of `v` ends before j, where that of each attribute does
-pub noted-v : (k : Known) {next : Known} (name : List ℕ) (value : Span) (j : ℕ) → next ≡ noted k name value
+pub noted-v : (k : Known) {next : Known} (name : List ℕ) (value : Span) (j : ℕ) → next ≡ withAttribute k name value
     → k .v .start + k .v .len ≤ j → value .start + value .len ≤ j → next .v .start + next .v .len ≤ j
-unfolding noted
+unfolding withAttribute
 noted-v k {next} name value j e p q =
     rw e
     (by-cond P (same name (text "v")) q
-    (by-cond P (same name (text "codingScheme")) p (by-cond P (same name (text "DtdBDEWNachrichtenVersion")) p p)))
+    (by-cond P (same name (text "codingScheme")) p (by-cond P (dtdName name) p p)))
   where
     P : Known → Type 0
     P x = x .v .start + x .v .len ≤ j
@@ -119,7 +120,7 @@ noted-v k {next} name value j e p q =
 -- t is the part of the tag from i on, and b what `byte_at` answered there
 pub close-tail : (s : List ℕ) (i : ℕ) {t : List ℕ} {b : ℕ} → t ≡ drop i s → b ≡ byte t 0 → b ≡ 0x3E → i < length s
     → Shut noneKnown false (i + 1) ≡ tail noneKnown (ends s i)
-unfolding tail keep
+unfolding tail keptOf
 close-tail s i {t} et e f h = sym (ap (tail noneKnown) (ends-close s i t et (piece t) refl 1 h (close-piece t (sym e ∙ f))))
 
 pos : (m : ℕ) → (m ≡ 0 → ⊥) → 0 < m
@@ -137,11 +138,11 @@ module _ (i m u : ℕ) (k : Known) (eu : u ≡ vUse m) (ek : k ≡ firstKnown i 
 
   known-none : eqb m 0 ≡ true → k ≡ noneKnown
   unfolding firstKnown
-  known-none z = ek ∙ ap (λ (x : Bool). cond x noneKnown (noted noneKnown (text "v") (record { start = i + 4; len = m - 1 }))) z
+  known-none z = ek ∙ ap (λ (x : Bool). cond x noneKnown (withAttribute noneKnown (text "v") (record { start = i + 4; len = m - 1 }))) z
 
-  known-some : eqb m 0 ≡ false → k ≡ noted noneKnown (text "v") (record { start = i + 4; len = m - 1 })
+  known-some : eqb m 0 ≡ false → k ≡ withAttribute noneKnown (text "v") (record { start = i + 4; len = m - 1 })
   unfolding firstKnown
-  known-some z = ek ∙ ap (λ (x : Bool). cond x noneKnown (noted noneKnown (text "v") (record { start = i + 4; len = m - 1 }))) z
+  known-some z = ek ∙ ap (λ (x : Bool). cond x noneKnown (withAttribute noneKnown (text "v") (record { start = i + 4; len = m - 1 }))) z
 
   pub first-v : k .v .start + k .v .len ≤ i + u
   unfolding noneKnown absent
@@ -174,7 +175,7 @@ module _ (i m u : ℕ) (k : Known) (eu : u ≡ vUse m) (ek : k ≡ firstKnown i 
     -- with `/>` after it; a and b are the two bytes
     pub first-empty : {a b : ℕ} → 0 < m → a ≡ byte t (m + 4) → a ≡ 0x2F → b ≡ byte t (m + 5) → b ≡ 0x3E → i + (m + 5) < length s
         → Shut k true (i + u + 2) ≡ tail k (ends s (i + u))
-    unfolding tail keep
+    unfolding tail keptOf
     first-empty n ea fa eb fb h =
         let x : u ≡ m + 4 = use-some (ne-eqb m 0 (λ e. omega arith)) in
         let l = drop (i + u) s in

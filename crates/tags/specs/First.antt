@@ -3,7 +3,7 @@ use Prim.Native.Nat.{ℕ, _+_, _-_}
 use mathlib.Core.Bool.{cond}
 use lib.Dec.{eqb}
 use Rattle.slices.specs.Text.{text}
-use Rattle.tags.specs.Known.{noneKnown, noted}
+use Rattle.tags.specs.Known.{noneKnown, withAttribute}
 use Rattle.tags.specs.declared.Known.{Known}
 
 -- how many bytes it takes
@@ -12,4 +12,4 @@ vUse m = cond (eqb m 0) 0 (m + 4)
 
 -- what is known after it
 unfoldable pub firstKnown : ℕ → ℕ → Known
-firstKnown from m = cond (eqb m 0) noneKnown (noted noneKnown (text "v") (record { start = from + 4; len = m - 1 }))
+firstKnown from m = cond (eqb m 0) noneKnown (withAttribute noneKnown (text "v") (record { start = from + 4; len = m - 1 }))

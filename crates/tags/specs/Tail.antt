@@ -4,10 +4,11 @@ use mathlib.Core.List.{List, [], _∷_}
 use mathlib.Core.Bool.{Bool, true, false, cond}
 use lib.ListN.{drop}
 use Rattle.slices.specs.Same.{same}
-use Rattle.attributes.specs.Attribute.{piece, partOf}
-use Rattle.tags.specs.Known.{noted}
+use Rattle.slices.specs.Part.{partOf}
+use Rattle.attributes.specs.Attribute.{piece}
+use Rattle.tags.specs.Known.{withAttribute}
 use Rattle.attributes.specs.declared.Piece.the-variants.{Attribute, Close, CloseEmpty, Torn}
-use Rattle.tags.specs.declared.Span.{Span}
+use Rattle.slices.specs.declared.Span.{Span}
 use Rattle.tags.specs.declared.Known.{Known}
 use Rattle.tags.specs.declared.Tail.{Tail}
 use Rattle.tags.specs.declared.Tail.the-variants.{Shut, Breaks}
@@ -43,12 +44,12 @@ unfoldable pub ends : List ℕ → ℕ → Ends
 ends s at = endsAfter 0 at (drop at s)
 
 -- what is kept of the attributes, from the first to the last
-unfoldable pub keep : Known → List Attr → Known
-keep k [] = k
-keep k (a ∷ more) = keep (noted k (a .name) (a .value)) more
+unfoldable pub keptOf : Known → List Attr → Known
+keptOf k [] = k
+keptOf k (a ∷ more) = keptOf (withAttribute k (a .name) (a .value)) more
 
 unfoldable pub tail : Known → Ends → Tail
-tail k (closed more empty n) = Shut (keep k more) empty n
+tail k (closed more empty n) = Shut (keptOf k more) empty n
 tail k torn = Breaks
 
 -- one of the attributes has the name n

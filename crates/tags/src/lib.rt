@@ -1,18 +1,19 @@
 // A tag after its name: what is kept of its attributes, and where it ends.
 use attributes::Piece;
-use attributes::part;
 use attributes::piece_at;
 use attributes::v_len;
+use slices::Span;
 use slices::begins_with;
 use slices::byte_at;
 use slices::is_same;
+use slices::part;
 use slices::rest;
 ghost use mathlib.Core.Path.{_≡_};
 ghost use Prim.Native.Nat.{_+_, _≤_};
 ghost use lib.ListN.{length};
 ghost use Rattle.slices.specs.Same.{same};
 ghost use Rattle.slices.specs.Text.{text};
-ghost use Rattle.tags.specs.Known.{passedOver, oneMore, noted, noneKnown};
+ghost use Rattle.tags.specs.Known.{passedOver, upToTwo, dtdName, withDtd, noDtd, withAttribute, noneKnown};
 ghost use Rattle.tags.specs.First.{vUse, firstKnown};
 ghost use Rattle.tags.specs.Tail.{ends, tail, tailUse, tailValue};
 
@@ -28,17 +29,59 @@ fn is_passed_over(name: &[u8]) -> bool
     begins_with(b"xsi:", name)
 }
 
-// Where a value stands, counted from the first byte of its tag; a start of 0 says that it is not there.
-pub struct Span {
-    pub start: usize,
-    pub len: usize,
+// The values of the attributes that a root may have: DtdVersion, DtdRelease and DtdBDEWNachrichtenVersion. Which of them it has is told by its kind.
+pub struct Dtd {
+    pub version: Span,
+    pub release: Span,
+    pub message: Span,
+}
+
+fn is_dtd_name(name: &[u8]) -> bool
+    ensures { λ r. ⌜ r ≡ dtdName (now (name .entry)) ⌝ }
+{
+    if is_same(name, b"DtdBDEWNachrichtenVersion") {
+        return true;
+    }
+    if is_same(name, b"DtdVersion") {
+        return true;
+    }
+    is_same(name, b"DtdRelease")
+}
+
+impl Dtd {
+    fn none() -> Dtd
+        ensures { λ r. ⌜ r ≡ noDtd ⌝ }
+    {
+        let absent = Span { start: 0, len: 0 };
+        Dtd {
+            version: absent,
+            release: absent,
+            message: absent,
+        }
+    }
+
+    // One of the three names, and its value.
+    fn noted(mut self, name: &[u8], value: Span) -> Dtd
+        ensures { λ r. ⌜ r ≡ withDtd self (now (name .entry)) value ⌝ }
+    {
+        if is_same(name, b"DtdVersion") {
+            self.version = value;
+            return self;
+        }
+        if is_same(name, b"DtdRelease") {
+            self.release = value;
+            return self;
+        }
+        self.message = value;
+        self
+    }
 }
 
 // What is kept of a tag's attributes while it is read.
 pub struct Known {
     pub v: Span,
     pub coding: Span,
-    pub version: Span,
+    pub dtd: Dtd,
     // whether there are attributes with other names, and whether all of those may be passed over on a root
     pub others: bool,
     pub passable: bool,
@@ -47,7 +90,7 @@ pub struct Known {
 }
 
 fn one_more(many: usize) -> usize
-    ensures { λ r. ⌜ r ≡ oneMore many ⌝ }
+    ensures { λ r. ⌜ r ≡ upToTwo many ⌝ }
 {
     if many < 2 { many + 1 } else { many }
 }
@@ -69,10 +112,11 @@ impl Known {
         ensures { λ r. ⌜ r ≡ noneKnown ⌝ }
     {
         let absent = Span { start: 0, len: 0 };
+        let dtd = Dtd::none();
         Known {
             v: absent,
             coding: absent,
-            version: absent,
+            dtd,
             others: false,
             passable: true,
             many: 0,
@@ -81,13 +125,14 @@ impl Known {
 
     // `v` and no other.
     fn only_v(value: Span) -> Known
-        ensures { λ r. ⌜ r ≡ noted noneKnown (text "v") value ⌝ }
+        ensures { λ r. ⌜ r ≡ withAttribute noneKnown (text "v") value ⌝ }
     {
         let absent = Span { start: 0, len: 0 };
+        let dtd = Dtd::none();
         Known {
             v: value,
             coding: absent,
-            version: absent,
+            dtd,
             others: false,
             passable: true,
             many: 1,
@@ -96,7 +141,7 @@ impl Known {
 
     // Ruled out: a value kept under another name; an attribute `vv` or `V` taken for `v`; `xsi` passed over.
     pub fn noted(mut self, name: &[u8], value: Span) -> Known
-        ensures { λ r. ⌜ r ≡ noted self (now (name .entry)) value ⌝ }
+        ensures { λ r. ⌜ r ≡ withAttribute self (now (name .entry)) value ⌝ }
     {
         self.many = one_more(self.many);
         if is_v(name) {
@@ -107,8 +152,9 @@ impl Known {
             self.coding = value;
             return self;
         }
-        if is_same(name, b"DtdBDEWNachrichtenVersion") {
-            self.version = value;
+        if is_dtd_name(name) {
+            let dtd = self.dtd;
+            self.dtd = dtd.noted(name, value);
             return self;
         }
         self.others = true;

@@ -9,7 +9,7 @@ use borrow.Author.Tests.{leb-true, le-leb, ltb-true, ltb-false, eqb-true, eqb-fa
 use Rattle.lists.proofs.Cases.{by-cond}
 use Rattle.times.specs.Calendar.{leap, monthDays, realDate, daysBefore, leapDay, dayNumber}
 use Rattle.lists.proofs.Below.{every, below}
-use Rattle.times.specs.After.{Date, after, isReal, dateNumber}
+use Rattle.times.specs.After.{Date, dayAfter, isReal, dateNumber}
 
 pub first-day : dayNumber 2000 1 1 ≡ 0
 unfolding leap daysBefore leapDay dayNumber
@@ -113,27 +113,21 @@ told : {y m d : ℕ} → 2000 ≤ y → y ≤ 2099 → 1 ≤ m → m ≤ 12 → 
 unfolding realDate
 told a b c e f g = simp (le-leb _ _ a, le-leb _ _ b, le-leb _ _ c, le-leb _ _ e, le-leb _ _ f, le-leb _ _ g)
 
+-- what holds of 28, 29, 30 and 31 holds of the days of every month
+by-month : (P : ℕ → Type 0) → P 28 → P 29 → P 30 → P 31 → (y m : ℕ) → P (monthDays y m)
+unfolding monthDays
+by-month P a b c d y m = or (eqb m 2) (or (leap y) b a) (or (eqb m 4) c (or (eqb m 6) c (or (eqb m 9) c (or (eqb m 11) c d))))
+  where
+    or : (t : Bool) {i j : ℕ} → P i → P j → P (cond t i j)
+    or = by-cond P
+
 -- each month has a first day
 some-day : (y m : ℕ) → 1 ≤ monthDays y m
-unfolding monthDays
-some-day y m = or (eqb m 2) (or (leap y) (omega arith) (omega arith)) (or (eqb m 4) p (or (eqb m 6) p (or (eqb m 9) p (or (eqb m 11) p (omega arith)))))
-  where
-    or : (t : Bool) {a b : ℕ} → 1 ≤ a → 1 ≤ b → 1 ≤ cond t a b
-    or = by-cond (λ (n : ℕ). 1 ≤ n)
-
-    p : 1 ≤ 30
-    p = omega arith
+some-day = by-month (λ n. 1 ≤ n) (omega arith) (omega arith) (omega arith) (omega arith)
 
 -- no month has more than 31
 pub short-month : (y m : ℕ) → monthDays y m ≤ 31
-unfolding monthDays
-short-month y m = or (eqb m 2) (or (leap y) (omega arith) (omega arith)) (or (eqb m 4) p (or (eqb m 6) p (or (eqb m 9) p (or (eqb m 11) p (omega arith)))))
-  where
-    or : (t : Bool) {a b : ℕ} → a ≤ 31 → b ≤ 31 → cond t a b ≤ 31
-    or = by-cond (λ (n : ℕ). n ≤ 31)
-
-    p : 30 ≤ 31
-    p = omega arith
+short-month = by-month (λ n. n ≤ 31) (omega arith) (omega arith) (omega arith) (omega arith)
 
 -- The days up to the end of a month are at most those of the year: month m + 1 is the one that ends.
 abbrev fits-year : ℕ → ℕ → Bool
@@ -161,8 +155,8 @@ within-year y m p q =
 by-date : (P : Date → Type 0) (x : Date) → isReal x ≡ true
     → (Real (x .year) (x .month) (x .day) → x .day < monthDays (x .year) (x .month) → P (record { year = x .year; month = x .month; day = x .day + 1 }))
     → (Real (x .year) (x .month) (x .day) → x .day ≡ monthDays (x .year) (x .month) → x .month < 12 → P (record { year = x .year; month = x .month + 1; day = 1 }))
-    → (Real (x .year) (x .month) (x .day) → x .month ≡ 12 → x .day ≡ 31 → P (record { year = x .year + 1; month = 1; day = 1 })) → P (after x)
-unfolding after
+    → (Real (x .year) (x .month) (x .day) → x .month ≡ 12 → x .day ≡ 31 → P (record { year = x .year + 1; month = 1; day = 1 })) → P (dayAfter x)
+unfolding dayAfter
 by-date P x r same-month next first = go (ltb (x .day) (monthDays (x .year) (x .month))) (ltb (x .month) 12) refl refl (real (x .year) (x .month) (x .day) r)
   where
     go : (t u : Bool) → ltb (x .day) (monthDays (x .year) (x .month)) ≡ t → ltb (x .month) 12 ≡ u → Real (x .year) (x .month) (x .day)
@@ -177,7 +171,7 @@ by-date P x r same-month next first = go (ltb (x .day) (monthDays (x .year) (x .
         let n = ap (monthDays (x .year)) e ∙ december (x .year) in
         first a e (omega (arith, l, a .day-to, n))
 
-pub consecutive : (x : Date) → isReal x ≡ true → dateNumber (after x) ≡ dateNumber x + 1
+pub consecutive : (x : Date) → isReal x ≡ true → dateNumber (dayAfter x) ≡ dateNumber x + 1
 consecutive x r =
     by-date (λ z. dateNumber z ≡ dateNumber x + 1) x r
     (λ a l. next-day (x .year) (x .month) (x .day) (a .day-from))
@@ -185,7 +179,7 @@ consecutive x r =
     (λ a e f. rw (e, f) (next-year (x .year) (a .since)))
 
 -- every real date but the last of 2099 has a real date after it
-pub after-real : (x : Date) → isReal x ≡ true → (x .year ≡ 2099 → x .month ≡ 12 → x .day ≡ 31 → ⊥) → isReal (after x) ≡ true
+pub after-real : (x : Date) → isReal x ≡ true → (x .year ≡ 2099 → x .month ≡ 12 → x .day ≡ 31 → ⊥) → isReal (dayAfter x) ≡ true
 after-real x r other =
     by-date (λ z. isReal z ≡ true) x r
     (λ a l. told (a .since) (a .until) (a .month-from) (a .month-to) (omega arith) (omega (arith, l)))

@@ -5,7 +5,7 @@ use mathlib.Core.Path.{_≡_, refl, ap, _∙_, sym}
 use mathlib.Core.Bool.{true}
 use native.Mathlib.Omega.{arith}
 use Rattle.times.specs.Calendar.{leap, daysBefore, leapDay, dayNumber}
-use Rattle.times.specs.After.{Date, after, isReal, dateNumber, later}
+use Rattle.times.specs.After.{Date, dayAfter, isReal, dateNumber, later}
 use Rattle.times.specs.Periods.{quarterHours}
 use Rattle.times.proofs.Consecutive.{consecutive, after-real}
 
@@ -14,7 +14,7 @@ unfolding leap daysBefore leapDay dayNumber
 last-day = refl
 
 -- a real date before the last one has a real date after it
-goes-on : (x : Date) → isReal x ≡ true → dateNumber x < 36524 → isReal (after x) ≡ true
+goes-on : (x : Date) → isReal x ≡ true → dateNumber x < 36524 → isReal (dayAfter x) ≡ true
 goes-on x r h = after-real x r (λ y m d. let e : dateNumber x ≡ 36524 = rw (y, m, d) last-day in omega arith)
 
 -- The date k days later has the number that is higher by k, as long as the century lasts.
@@ -23,7 +23,7 @@ unfolding later
 days-later zero x r h = omega arith
 days-later (suc k) x r h =
     let n = consecutive x r in
-    days-later k (after x) (goes-on x r (omega arith)) (omega arith) ∙ omega arith
+    days-later k (dayAfter x) (goes-on x r (omega arith)) (omega arith) ∙ omega arith
 
 -- So the number of days from one date to another is the difference.
 pub days-between : (k : ℕ) (x y : Date) → isReal x ≡ true → dateNumber x + k ≤ 36524 → later k x ≡ y → dateNumber y - dateNumber x ≡ k

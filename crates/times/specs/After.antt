@@ -11,8 +11,8 @@ pub record Date : Type 0 where
 
 -- the next day of the month; after its last day the first of the next month; after the last month the first of the next year;
 -- of a real date other than 2099-12-31 it is a real date (`after-real`)
-unfoldable pub after : Date → Date
-after x =
+unfoldable pub dayAfter : Date → Date
+dayAfter x =
     cond (ltb (x .day) (monthDays (x .year) (x .month))) (record { year = x .year; month = x .month; day = x .day + 1 })
     (cond (ltb (x .month) 12) (record { year = x .year; month = x .month + 1; day = 1 })
     (record { year = x .year + 1; month = 1; day = 1 }))
@@ -26,4 +26,4 @@ dateNumber x = dayNumber (x .year) (x .month) (x .day)
 -- the date so many days later
 unfoldable pub later : ℕ → Date → Date
 later zero x = x
-later (suc k) x = later k (after x)
+later (suc k) x = later k (dayAfter x)

@@ -9,7 +9,7 @@ use lib.ListN.{getD}
 use borrow.Author.Tests.{eqb-true, eqb-false, ne-eqb}
 use Rattle.characters.specs.Says.{saidAt, saysAfter, says}
 use Rattle.characters.specs.declared.Said.the-variants.{Says}
-use Rattle.trims.specs.Trim.{space, dropLead, keep, dropTrail, dropped}
+use Rattle.trims.specs.Trim.{space, dropLead, keptBefore, dropTrail, dropped}
 use Rattle.trims.proofs.Low.{Level}
 use Rattle.trims.proofs.Spaces.{said-level, some-said, space-said, space-says}
 
@@ -51,13 +51,13 @@ lead-says [] = refl
 lead-says (b ∷ t) = lead-by b t (space b) refl (lead-says t)
 
 -- trailing spaces: what is dropped is told apart by no test
-keep-first : (b : ℕ) (t : List ℕ) (f : Bool) → space b ≡ f → Level (getD (keep b []) 0 0) b
-unfolding keep
+keep-first : (b : ℕ) (t : List ℕ) (f : Bool) → space b ≡ f → Level (getD (keptBefore b []) 0 0) b
+unfolding keptBefore
 keep-first b t true e = rw e (inr (lit< tt, rw (is-space b e) (lit< tt)))
 keep-first b t false e = rw e (inl refl)
 
-keep-alike : (b : ℕ) (t r : List ℕ) → ((k : ℕ) → Level (getD r k 0) (getD t k 0)) → (k : ℕ) → Level (getD (keep b r) k 0) (getD (b ∷ t) k 0)
-unfolding keep
+keep-alike : (b : ℕ) (t r : List ℕ) → ((k : ℕ) → Level (getD r k 0) (getD t k 0)) → (k : ℕ) → Level (getD (keptBefore b r) k 0) (getD (b ∷ t) k 0)
+unfolding keptBefore
 keep-alike b t [] h zero = keep-first b t (space b) refl
 keep-alike b t [] h (suc k) =
     elim (space b) as (λ (f : Bool). Level (getD (cond f [] (b ∷ [])) (suc k) 0) (getD t k 0)) [ true ↦ h k | false ↦ h k ]
@@ -69,13 +69,13 @@ unfolding dropTrail
 trail-alike [] k = inl refl
 trail-alike (b ∷ t) k = keep-alike b t (dropTrail t) (trail-alike t) k
 
-keep-other : (b : ℕ) (r : List ℕ) → space b ≡ false → keep b r ≡ b ∷ r
-unfolding keep
+keep-other : (b : ℕ) (r : List ℕ) → space b ≡ false → keptBefore b r ≡ b ∷ r
+unfolding keptBefore
 keep-other b [] e = rw e
 keep-other b (d ∷ r) e = refl
 
-after-keep : (b : ℕ) (r : List ℕ) (k : ℕ) → saysAfter (suc k) (keep b r) ≡ saysAfter k r
-unfolding saysAfter keep
+after-keep : (b : ℕ) (r : List ℕ) (k : ℕ) → saysAfter (suc k) (keptBefore b r) ≡ saysAfter k r
+unfolding saysAfter keptBefore
 after-keep b [] k =
     elim (space b) as (λ (f : Bool). saysAfter (suc k) (cond f [] (b ∷ [])) ≡ saysAfter k []) [ true ↦ refl | false ↦ refl ]
 after-keep b (d ∷ r) k = refl
@@ -85,32 +85,32 @@ module _ (b : ℕ) (t r : List ℕ) (q : dropTrail t ≡ r) (ih : (k : ℕ) → 
   same-said : saidAt (b ∷ r) ≡ saidAt (b ∷ t)
   same-said = said-level b r t (λ k. rw q at (trail-alike t k))
 
-  trail-other : space b ≡ false → saysAfter 0 (keep b r) ≡ dropTrail (saysAfter 0 (b ∷ t))
+  trail-other : space b ≡ false → saysAfter 0 (keptBefore b r) ≡ dropTrail (saysAfter 0 (b ∷ t))
   unfolding dropTrail
   trail-other e =
       let s = some-said b t in
       let n = other (s .0) (space-said b t (s .0) (s .1) (s .2) (no-space b e)) in
       ap (saysAfter 0) (keep-other b r e) ∙ after-said b r (s .0) (s .1) (same-said ∙ s .2)
-      ∙ sym (keep-other (s .0) (saysAfter (pred (s .1)) r) n) ∙ ap (keep (s .0)) (ih (pred (s .1)))
+      ∙ sym (keep-other (s .0) (saysAfter (pred (s .1)) r) n) ∙ ap (keptBefore (s .0)) (ih (pred (s .1)))
       ∙ sym (ap dropTrail (after-said b t (s .0) (s .1) (s .2)))
 
-  trail-space : space b ≡ true → saysAfter 0 (keep b r) ≡ keep 0x20 (saysAfter 0 r) → saysAfter 0 (keep b r) ≡ dropTrail (saysAfter 0 (b ∷ t))
+  trail-space : space b ≡ true → saysAfter 0 (keptBefore b r) ≡ keptBefore 0x20 (saysAfter 0 r) → saysAfter 0 (keptBefore b r) ≡ dropTrail (saysAfter 0 (b ∷ t))
   unfolding dropTrail
-  trail-space e p = p ∙ ap (keep 0x20) (ih 0) ∙ sym (ap dropTrail (after-space b t e))
+  trail-space e p = p ∙ ap (keptBefore 0x20) (ih 0) ∙ sym (ap dropTrail (after-space b t e))
 
 -- a space with nothing left behind it, and with something
-space-none : (b : ℕ) → space b ≡ true → saysAfter 0 (keep b []) ≡ keep 0x20 (saysAfter 0 [])
-unfolding saysAfter keep space
+space-none : (b : ℕ) → space b ≡ true → saysAfter 0 (keptBefore b []) ≡ keptBefore 0x20 (saysAfter 0 [])
+unfolding saysAfter keptBefore space
 space-none b e = rw e
 
-space-some : (b d : ℕ) (r : List ℕ) → space b ≡ true → saysAfter 0 (keep b (d ∷ r)) ≡ keep 0x20 (saysAfter 0 (d ∷ r))
-unfolding keep
+space-some : (b d : ℕ) (r : List ℕ) → space b ≡ true → saysAfter 0 (keptBefore b (d ∷ r)) ≡ keptBefore 0x20 (saysAfter 0 (d ∷ r))
+unfolding keptBefore
 space-some b d r e =
     let s = some-said d r in
     let p = after-said d r (s .0) (s .1) (s .2) in
-    after-space b (d ∷ r) e ∙ ap (λ (l : List ℕ). 0x20 ∷ l) p ∙ sym (ap (keep 0x20) p)
+    after-space b (d ∷ r) e ∙ ap (λ (l : List ℕ). 0x20 ∷ l) p ∙ sym (ap (keptBefore 0x20) p)
 
-trail-by : (b : ℕ) (t r : List ℕ) → dropTrail t ≡ r → ((k : ℕ) → saysAfter k r ≡ dropTrail (saysAfter k t)) → (f : Bool) → space b ≡ f → saysAfter 0 (keep b r) ≡ dropTrail (saysAfter 0 (b ∷ t))
+trail-by : (b : ℕ) (t r : List ℕ) → dropTrail t ≡ r → ((k : ℕ) → saysAfter k r ≡ dropTrail (saysAfter k t)) → (f : Bool) → space b ≡ f → saysAfter 0 (keptBefore b r) ≡ dropTrail (saysAfter 0 (b ∷ t))
 trail-by b t r q ih false e = trail-other b t r q ih e
 trail-by b t [] q ih true e = trail-space b t [] q ih e (space-none b e)
 trail-by b t (d ∷ r) q ih true e = trail-space b t (d ∷ r) q ih e (space-some b d r e)

@@ -9,7 +9,7 @@ use lib.Dec.{leb, eqb, lit≤}
 use borrow.Author.Tests.{leb-true, leb-false, lt-leb, eqb-true, eqb-false}
 use Rattle.lists.proofs.Cases.{by-cond, both-true}
 use Rattle.slices.specs.Bytes.{byte}
-use Rattle.characters.specs.Utf8.{seqLen, low, high, second, tail, control, nonchar, single, double, triple, fourfold, charAt}
+use Rattle.characters.specs.Utf8.{seqLen, low, high, second, laterByte, control, nonchar, single, double, triple, fourfold, charAt}
 use Rattle.characters.specs.declared.Char.{Char}
 use Rattle.characters.specs.declared.Char.the-variants.{Is, NoChar}
 use Rattle.characters.proofs.Ascii.{low-ascii}
@@ -69,7 +69,7 @@ triple-own : (a b c : ℕ) → seqLen a ≡ 3 → Own a (triple a b c)
 unfolding triple
 triple-own a b c k =
     by-test (Own a) (second a b)
-    (λ e. by-cond (Own a) (tail c)
+    (λ e. by-cond (Own a) (laterByte c)
     (by-cond (Own a) (nonchar a b c) tt (λ q. absurd (triple-big a b c (eqb a 0xE0) refl (lead-range a .1 k) (second-range a b e) q))) tt)
     (λ e. tt)
 
@@ -77,8 +77,8 @@ fourfold-own : (a b c d : ℕ) → seqLen a ≡ 4 → Own a (fourfold a b c d)
 unfolding fourfold
 fourfold-own a b c d k =
     by-test (Own a) (second a b)
-    (λ e. by-cond (Own a) (tail c)
-    (by-cond (Own a) (tail d) (λ q. absurd (fourfold-big a b c d (eqb a 0xF0) refl (lead-range a .2 k) (second-range a b e) q)) tt) tt)
+    (λ e. by-cond (Own a) (laterByte c)
+    (by-cond (Own a) (laterByte d) (λ q. absurd (fourfold-big a b c d (eqb a 0xF0) refl (lead-range a .2 k) (second-range a b e) q)) tt) tt)
     (λ e. tt)
 
 own : (s : List ℕ) → Own (byte s 0) (charAt s)
@@ -103,8 +103,8 @@ second-low : (a b : ℕ) → b < 0x80 → second a b ≡ false
 unfolding second
 second-low a b h = let l = low-ascii a in rw (lt-leb (low a) b (omega arith))
 
-tail-low : (b : ℕ) → b < 0x80 → tail b ≡ false
-unfolding tail
+tail-low : (b : ℕ) → b < 0x80 → laterByte b ≡ false
+unfolding laterByte
 tail-low b h = rw (lt-leb 0x80 b h)
 
 double-level : (a : ℕ) {b b′ : ℕ} → Level b b′ → double a b ≡ double a b′
@@ -152,11 +152,11 @@ module _ (a b c d : ℕ) where
 
   triple-sized : Sized 3 (triple a b c)
   unfolding triple Sized
-  triple-sized = by-cond (Sized 3) (second a b) (by-cond (Sized 3) (tail c) (by-cond (Sized 3) (nonchar a b c) tt refl) tt) tt
+  triple-sized = by-cond (Sized 3) (second a b) (by-cond (Sized 3) (laterByte c) (by-cond (Sized 3) (nonchar a b c) tt refl) tt) tt
 
   fourfold-sized : Sized 4 (fourfold a b c d)
   unfolding fourfold Sized
-  fourfold-sized = by-cond (Sized 4) (second a b) (by-cond (Sized 4) (tail c) (by-cond (Sized 4) (tail d) refl tt) tt) tt
+  fourfold-sized = by-cond (Sized 4) (second a b) (by-cond (Sized 4) (laterByte c) (by-cond (Sized 4) (laterByte d) refl tt) tt) tt
 
 size : (k : ℕ) {z : Char} {c n : ℕ} → Sized k z → z ≡ Is c n → n ≡ k
 unfolding Sized

@@ -8,7 +8,7 @@ use native.Mathlib.Nat.{le-refl}
 use lib.ListN.{length, getD, take, drop}
 use lib.Seq.{take-suc, take-length, length-take-le}
 use Rattle.slices.specs.Run.{run}
-use Rattle.trims.specs.Trim.{space, dropLead, keep, dropTrail, dropped}
+use Rattle.trims.specs.Trim.{space, dropLead, keptBefore, dropTrail, dropped}
 
 -- the front
 pub lead-run : (s : List ℕ) → drop (run space s) s ≡ dropLead s
@@ -19,8 +19,8 @@ lead-run (b ∷ s) =
     [ true ↦ lead-run s | false ↦ refl ]
 
 -- the end: what is kept is a front part
-keep-take : (b : ℕ) (s k : List ℕ) → take (length k) s ≡ k → take (length (keep b k)) (b ∷ s) ≡ keep b k
-unfolding keep
+keep-take : (b : ℕ) (s k : List ℕ) → take (length k) s ≡ k → take (length (keptBefore b k)) (b ∷ s) ≡ keptBefore b k
+unfolding keptBefore
 keep-take b s [] e =
     elim (space b) as (λ (t : Bool). take (length (cond t [] (b ∷ []))) (b ∷ s) ≡ cond t [] (b ∷ []))
     [ true ↦ refl | false ↦ refl ]
@@ -33,17 +33,17 @@ trail-take (b ∷ s) = keep-take b s (dropTrail s) (trail-take s)
 
 -- a last byte
 trail-space : (s : List ℕ) (b : ℕ) → space b ≡ true → dropTrail (s ++ b ∷ []) ≡ dropTrail s
-unfolding dropTrail keep
+unfolding dropTrail keptBefore
 trail-space [] b q = rw q
-trail-space (a ∷ s) b q = ap (keep a) (trail-space s b q)
+trail-space (a ∷ s) b q = ap (keptBefore a) (trail-space s b q)
 
-snoc-keep : (a b : ℕ) (s : List ℕ) → keep a (s ++ b ∷ []) ≡ a ∷ s ++ b ∷ []
-unfolding keep
+snoc-keep : (a b : ℕ) (s : List ℕ) → keptBefore a (s ++ b ∷ []) ≡ a ∷ s ++ b ∷ []
+unfolding keptBefore
 snoc-keep a b [] = refl
 snoc-keep a b (d ∷ s) = refl
 
 trail-other : (s : List ℕ) (b : ℕ) → space b ≡ false → dropTrail (s ++ b ∷ []) ≡ s ++ b ∷ []
-unfolding dropTrail keep
+unfolding dropTrail keptBefore
 trail-other [] b q = rw q
 trail-other (a ∷ s) b q = rw (trail-other s b q) (snoc-keep a b s)
 

@@ -14,13 +14,13 @@ dropLead [] = []
 dropLead (c ∷ l) = cond (space c) (dropLead l) (c ∷ l)
 
 -- trailing spaces: a space goes where nothing is left behind it
-unfoldable pub keep : ℕ → List ℕ → List ℕ
-keep c [] = cond (space c) [] (c ∷ [])
-keep c (d ∷ l) = c ∷ d ∷ l
+unfoldable pub keptBefore : ℕ → List ℕ → List ℕ
+keptBefore c [] = cond (space c) [] (c ∷ [])
+keptBefore c (d ∷ l) = c ∷ d ∷ l
 
 unfoldable pub dropTrail : List ℕ → List ℕ
 dropTrail [] = []
-dropTrail (c ∷ l) = keep c (dropTrail l)
+dropTrail (c ∷ l) = keptBefore c (dropTrail l)
 
 unfoldable pub dropped : List ℕ → List ℕ
 dropped l = dropTrail (dropLead l)

@@ -1,5 +1,4 @@
 -- An arm for each list, whatever codes it has. Assumes nothing.
-use mathlib.Core.Path.{_≡_, sym, ap}
 use borrow.Author.Needs.{needs}
 use Rattle.lists.proofs.Cases.{past-all}
 use Rattle.codes.specs.Lists.{lists, codesOf, listed}

@@ -1,7 +1,6 @@
 use Prim.Native.Nat.{_+_, _-_, _≤_}
 use native.Mathlib.Omega.{arith}
 use lib.ListN.{length}
-use borrow.Author.Needs.{needs}
 use Rattle.slices.proofs.Walks.{walked-start}
 use Rattle.elements.proofs.Rows.{Left, told-more, told-end}
 use Rattle.elements.proofs.told.Statement.{statement}

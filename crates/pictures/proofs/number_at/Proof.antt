@@ -6,7 +6,7 @@ use Rattle.characters.specs.Says.{says}
 use Rattle.characters.proofs.Saying.{said-char, said-over, said-end}
 use Rattle.pictures.proofs.Numbering.{number-end, number-full, number-skip, number-digit}
 use borrow.Author.Needs.{needs}
-use Rattle.pictures.specs.Number.{numberOf, numberAt}
+use Rattle.pictures.specs.Number.{shownNumber, numberAt}
 use Rattle.pictures.proofs.number_at.Statement.{statement}
 use Rattle.pictures.proofs.number_at.Tie as tie
 use Rattle.pictures.proofs.number_at.Reads as reads
@@ -14,7 +14,7 @@ use Rattle.pictures.proofs.number_at.Lts as lts
 use Rattle.characters.proofs.said_at.Reads as said-at-reads
 
 abbrev Inv-loop : tie.InvT-loop
-Inv-loop from n v i₀ skip₀ left₀ shown₀ i skip left shown = (shown < 10000) × (numberOf shown (take left (drop skip (says (drop i v)))) ≡ numberAt from n (says v))
+Inv-loop from n v i₀ skip₀ left₀ shown₀ i skip left shown = (shown < 10000) × (shownNumber shown (take left (drop skip (says (drop i v)))) ≡ numberAt from n (says v))
 
 abbrev μ-loop : tie.MeasureT-loop
 μ-loop from n v i₀ skip₀ left₀ shown₀ i skip left shown = length v - i

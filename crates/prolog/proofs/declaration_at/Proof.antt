@@ -5,7 +5,7 @@ use Rattle.prolog.proofs.declaration_at.Statement.{statement}
 use Rattle.prolog.proofs.declaration_at.Tie as tie
 use Rattle.prolog.proofs.declaration_at.Reads as reads
 use Rattle.prolog.proofs.declaration_at.Lts as lts
-use Rattle.attributes.proofs.part.Reads as part-reads
+use Rattle.slices.proofs.part.Reads as part-reads
 use Rattle.attributes.proofs.piece_at.Reads as piece-at-reads
 use Rattle.prolog.proofs.encoding_at.Reads as encoding-at-reads
 use Rattle.slices.proofs.is_same.Reads as is-same-reads

@@ -5,7 +5,7 @@ use Rattle.prolog.proofs.encoding_at.Statement.{statement}
 use Rattle.prolog.proofs.encoding_at.Tie as tie
 use Rattle.prolog.proofs.encoding_at.Reads as reads
 use Rattle.prolog.proofs.encoding_at.Lts as lts
-use Rattle.attributes.proofs.part.Reads as part-reads
+use Rattle.slices.proofs.part.Reads as part-reads
 use Rattle.attributes.proofs.piece_at.Reads as piece-at-reads
 use Rattle.prolog.proofs.declared_to.Reads as declared-to-reads
 use Rattle.prolog.proofs.is_utf.Reads as is-utf-reads

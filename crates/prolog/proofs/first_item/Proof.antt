@@ -1,5 +1,5 @@
 use native.Mathlib.Omega.{arith}
-use Rattle.prolog.specs.Prolog.{after, beginAfter, begin}
+use Rattle.prolog.specs.Prolog.{behindMark, beginAfter, begin}
 use borrow.Author.Needs.{needs}
 use Rattle.prolog.proofs.first_item.Statement.{statement}
 use Rattle.prolog.proofs.first_item.Tie as tie
@@ -35,15 +35,15 @@ enum-known-p : tie.Need-enum-known-p
 enum-known-p c = search needs
 
 returns : tie.Need-returns
-unfolding begin beginAfter after
+unfolding begin beginAfter behindMark
 returns c = (simp (c .before .n .given .1, ← c .before .before .before .declaration-at .ensures .0, c .before .before .before .before .if1 .taken, ← c .before .before .before .before .before .begins-with .ensures, ← c .before .before .before .before .before .before .before .rest .ensures .0, ← c .before .before .before .before .before .before .before .before .mark-len .ensures .0), omega (arith, rw (c .before .n .given .1) at (c .before .before .before .declaration-at .ensures .1)))
 
 returns-2 : tie.Need-returns-2
-unfolding begin beginAfter after
+unfolding begin beginAfter behindMark
 returns-2 c = (simp (c .before .p .given .1, ← c .before .before .before .declaration-at .ensures .0, c .before .before .before .before .if1 .taken, ← c .before .before .before .before .before .begins-with .ensures, ← c .before .before .before .before .before .before .before .rest .ensures .0, ← c .before .before .before .before .before .before .before .before .mark-len .ensures .0), omega (arith, rw (c .before .p .given .1) at (c .before .before .before .declaration-at .ensures .1)))
 
 returns-3 : tie.Need-returns-3
-unfolding begin beginAfter after
+unfolding begin beginAfter behindMark
 returns-3 c = (simp (c .if1 .left, ← c .before .begins-with .ensures, ← c .before .before .before .rest .ensures .0, ← c .before .before .before .before .mark-len .ensures .0), search needs)
 
 pub first-item-spec : {M : Type 1} → statement M

@@ -4,7 +4,7 @@ use native.Mathlib.Omega.{arith}
 use borrow.Author.Needs.{needs}
 use Rattle.slices.proofs.Walks.{Walked, walked-start, walked-go, walked-stop, walked-end}
 use Rattle.items.specs.Item.{item}
-use Rattle.readable.specs.Readable.{passNext, passOver, passed}
+use Rattle.readable.specs.Readable.{passNext, passOver, passedBytes}
 use Rattle.readable.proofs.passed_len.Statement.{statement}
 use Rattle.readable.proofs.passed_len.Tie as tie
 use Rattle.readable.proofs.passed_len.Reads as reads
@@ -42,7 +42,7 @@ loop-less : tie.Need-loop-less Inv-loop μ-loop
 loop-less c = omega (arith, rw (c .before .before .t .given .1) at (c .before .before .before .before .item-at .ensures .1))
 
 loop-again : tie.Need-loop-again Inv-loop μ-loop
-unfolding passed passOver passNext
+unfolding passedBytes passOver passNext
 loop-again c = (walked-go (c .before .before .before .before .before .before .before .loop .inv .0) (c .before .before .before .before .before .before .loop-test .taken) (c .before .before .before .before .item-at .ensures .0) (simp (c .before .before .t .given .1)) (omega (arith, rw (c .before .before .t .given .1) at (c .before .before .before .before .item-at .ensures .1))), omega (arith, rw (c .before .before .t .given .1) at (c .before .before .before .before .item-at .ensures .1)))
 
 enum-known-t-2 : tie.Need-enum-known-t-2 Inv-loop μ-loop
@@ -55,7 +55,7 @@ loop-less-2 : tie.Need-loop-less-2 Inv-loop μ-loop
 loop-less-2 c = omega (arith, rw (c .before .before .t2 .given .1) at (c .before .before .before .before .item-at .ensures .1))
 
 loop-again-2 : tie.Need-loop-again-2 Inv-loop μ-loop
-unfolding passed passOver passNext
+unfolding passedBytes passOver passNext
 loop-again-2 c = (walked-go (c .before .before .before .before .before .before .before .loop .inv .0) (c .before .before .before .before .before .before .loop-test .taken) (c .before .before .before .before .item-at .ensures .0) (simp (c .before .before .t2 .given .1)) (omega (arith, rw (c .before .before .t2 .given .1) at (c .before .before .before .before .item-at .ensures .1))), omega (arith, rw (c .before .before .t2 .given .1) at (c .before .before .before .before .item-at .ensures .1)))
 
 enum-known-n : tie.Need-enum-known-n Inv-loop μ-loop
@@ -68,7 +68,7 @@ loop-less-3 : tie.Need-loop-less-3 Inv-loop μ-loop
 loop-less-3 c = omega (arith, rw (c .before .n .given .1) at (c .before .before .before .item-at .ensures .1))
 
 loop-again-3 : tie.Need-loop-again-3 Inv-loop μ-loop
-unfolding passed passOver passNext
+unfolding passedBytes passOver passNext
 loop-again-3 c = (walked-go (c .before .before .before .before .before .before .loop .inv .0) (c .before .before .before .before .before .loop-test .taken) (c .before .before .before .item-at .ensures .0) (simp (c .before .n .given .1)) (omega (arith, rw (c .before .n .given .1) at (c .before .before .before .item-at .ensures .1))), omega (arith, rw (c .before .n .given .1) at (c .before .before .before .item-at .ensures .1)))
 
 enum-known-n-2 : tie.Need-enum-known-n-2 Inv-loop μ-loop
@@ -81,7 +81,7 @@ loop-less-4 : tie.Need-loop-less-4 Inv-loop μ-loop
 loop-less-4 c = omega (arith, rw (c .before .n2 .given .1) at (c .before .before .before .item-at .ensures .1))
 
 loop-again-4 : tie.Need-loop-again-4 Inv-loop μ-loop
-unfolding passed passOver passNext
+unfolding passedBytes passOver passNext
 loop-again-4 c = (walked-go (c .before .before .before .before .before .before .loop .inv .0) (c .before .before .before .before .before .loop-test .taken) (c .before .before .before .item-at .ensures .0) (simp (c .before .n2 .given .1)) (omega (arith, rw (c .before .n2 .given .1) at (c .before .before .before .item-at .ensures .1))), omega (arith, rw (c .before .n2 .given .1) at (c .before .before .before .item-at .ensures .1)))
 
 enum-known-n-3 : tie.Need-enum-known-n-3 Inv-loop μ-loop
@@ -94,18 +94,18 @@ loop-less-5 : tie.Need-loop-less-5 Inv-loop μ-loop
 loop-less-5 c = omega (arith, rw (c .before .n3 .given .1) at (c .before .before .before .item-at .ensures .1))
 
 loop-again-5 : tie.Need-loop-again-5 Inv-loop μ-loop
-unfolding passed passOver passNext
+unfolding passedBytes passOver passNext
 loop-again-5 c = (walked-go (c .before .before .before .before .before .before .loop .inv .0) (c .before .before .before .before .before .loop-test .taken) (c .before .before .before .item-at .ensures .0) (simp (c .before .n3 .given .1)) (omega (arith, rw (c .before .n3 .given .1) at (c .before .before .before .item-at .ensures .1))), omega (arith, rw (c .before .n3 .given .1) at (c .before .before .before .item-at .ensures .1)))
 
 enum-told : tie.Need-enum-told Inv-loop μ-loop
 enum-told c = search needs
 
 returns : tie.Need-returns Inv-loop μ-loop
-unfolding passed passOver passNext
+unfolding passedBytes passOver passNext
 returns c = (walked-stop (c .before .before .before .before .before .loop .inv .0) (c .before .before .before .before .loop-test .taken) (c .before .before .item-at .ensures .0) (simp (c .enum-told .given .1)), omega (arith, rw (c .enum-told .given .1) at (c .before .before .item-at .ensures .1)))
 
 returns-2 : tie.Need-returns-2 Inv-loop μ-loop
-unfolding passed passOver passNext
+unfolding passedBytes passOver passNext
 returns-2 c = (walked-end (c .before .loop .inv .0) (c .loop-test .left), omega arith)
 
 pub passed-len-spec : {M : Type 1} → statement M

@@ -1,7 +1,7 @@
 use mathlib.Core.Logic.{⊎-elim}
 use native.Mathlib.Omega.{arith}
 use Rattle.prolog.proofs.Promises.{refused-place}
-use mathlib.Core.Path.{refl, sym, ap, _∙_}
+use mathlib.Core.Path.{sym, _∙_}
 use Rattle.reader.specs.Reading.{tab}
 use Rattle.reader.proofs.Sheets.{into-items, into-unread}
 use borrow.Author.Needs.{needs}

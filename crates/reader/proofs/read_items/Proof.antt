@@ -1,5 +1,5 @@
 use Prim.Native.Nat.{_-_}
-use mathlib.Core.Path.{refl, sym, ap, _∙_}
+use mathlib.Core.Path.{sym, ap, _∙_}
 use native.Mathlib.Omega.{arith}
 use borrow.Author.Needs.{needs}
 use lib.ListN.{length, length-drop}
@@ -14,8 +14,8 @@ use Rattle.guideline.proofs.rows_of.Reads as rows-of-reads
 use Rattle.items.proofs.item_at.Reads as item-at-reads
 use Rattle.reader.proofs.ended_at.Reads as ended-at-reads
 use Rattle.reader.proofs.rows.enter.Reads as enter-reads
-use Rattle.reader.proofs.is_passed.Reads as is-passed-reads
-use Rattle.reader.proofs.item_len.Reads as item-len-reads
+use Rattle.items.proofs.is_passed.Reads as is-passed-reads
+use Rattle.items.proofs.item_len.Reads as item-len-reads
 use Rattle.reader.proofs.refused_at.Reads as refused-at-reads
 use Rattle.reader.proofs.room_of.Reads as room-of-reads
 use Rattle.reader.proofs.step_in.Reads as step-in-reads

@@ -5,7 +5,7 @@ use Rattle.reader.proofs.step_in.Tie as tie
 use Rattle.reader.proofs.step_in.Reads as reads
 use Rattle.reader.proofs.step_in.Lts as lts
 use Rattle.reader.proofs.rows.is_used_before.Reads as is-used-before-reads
-use Rattle.reader.proofs.rows.span_of.Reads as span-of-reads
+use Rattle.items.proofs.span_of.Reads as span-of-reads
 use Rattle.states.proofs.State.step.Reads as step-reads
 
 step-requires : tie.Need-step-requires

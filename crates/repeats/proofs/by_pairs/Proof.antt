@@ -7,7 +7,7 @@ use Rattle.repeats.proofs.by_pairs.Statement.{statement}
 use Rattle.repeats.proofs.by_pairs.Tie as tie
 use Rattle.repeats.proofs.by_pairs.Reads as reads
 use Rattle.repeats.proofs.by_pairs.Lts as lts
-use Rattle.attributes.proofs.part.Reads as part-reads
+use Rattle.slices.proofs.part.Reads as part-reads
 use Rattle.attributes.proofs.piece_at.Reads as piece-at-reads
 use Rattle.repeats.proofs.count_bearers.Reads as count-bearers-reads
 use Rattle.slices.proofs.rest.Reads as rest-reads

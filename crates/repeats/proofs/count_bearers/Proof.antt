@@ -9,7 +9,7 @@ use Rattle.repeats.proofs.count_bearers.Statement.{statement}
 use Rattle.repeats.proofs.count_bearers.Tie as tie
 use Rattle.repeats.proofs.count_bearers.Reads as reads
 use Rattle.repeats.proofs.count_bearers.Lts as lts
-use Rattle.attributes.proofs.part.Reads as part-reads
+use Rattle.slices.proofs.part.Reads as part-reads
 use Rattle.attributes.proofs.piece_at.Reads as piece-at-reads
 use Rattle.repeats.proofs.one_if.Reads as one-if-reads
 use Rattle.slices.proofs.is_same.Reads as is-same-reads

@@ -1,4 +1,4 @@
-use Rattle.rules.specs.Rules.{versionBy, version}
+use Rattle.rules.specs.Rules.{versionBy, isVersion}
 use borrow.Author.Needs.{needs}
 use Rattle.rules.proofs.is_version.Statement.{statement}
 use Rattle.rules.proofs.is_version.Tie as tie
@@ -16,11 +16,11 @@ enum-told-2 : tie.Need-enum-told-2
 enum-told-2 c = search needs
 
 returns : tie.Need-returns
-unfolding version versionBy
+unfolding isVersion versionBy
 returns c = simp (c .enum-told .given .1, ← c .before .before .number-of .ensures)
 
 returns-2 : tie.Need-returns-2
-unfolding version versionBy
+unfolding isVersion versionBy
 returns-2 c = simp (c .enum-told2 .given .1, ← c .before .before .number-of .ensures)
 
 pub is-version-spec : {M : Type 1} → statement M

@@ -4,7 +4,7 @@ use Rattle.series.proofs.view_of.Statement.{statement}
 use Rattle.series.proofs.view_of.Tie as tie
 use Rattle.series.proofs.view_of.Reads as reads
 use Rattle.series.proofs.view_of.Lts as lts
-use Rattle.attributes.proofs.part.Reads as part-reads
+use Rattle.slices.proofs.part.Reads as part-reads
 use Rattle.series.proofs.cell_at.Reads as cell-at-reads
 use Rattle.series.proofs.number_at.Reads as number-at-reads
 

@@ -7,8 +7,9 @@ use Rattle.states.proofs.has_attributes.Lts as lts
 use Rattle.states.proofs.agrees.Reads as agrees-reads
 use Rattle.states.proofs.asks_scheme.Reads as asks-scheme-reads
 use Rattle.states.proofs.asks_v.Reads as asks-v-reads
+use Rattle.states.proofs.demands_at.Reads as demands-at-reads
+use Rattle.states.proofs.fits_dtd.Reads as fits-dtd-reads
 use Rattle.states.proofs.has_no_others.Reads as has-no-others-reads
-use Rattle.states.proofs.is_root.Reads as is-root-reads
 use Rattle.states.proofs.is_there.Reads as is-there-reads
 
 asks-v-requires : tie.Need-asks-v-requires
@@ -29,25 +30,22 @@ is-there-requires-2 c κs = search needs
 agrees-requires-2 : tie.Need-agrees-requires-2
 agrees-requires-2 c κs = search needs
 
-is-root-requires : tie.Need-is-root-requires
-is-root-requires c κs = search needs
+demands-at-requires : tie.Need-demands-at-requires
+demands-at-requires c κs = search needs
 
-is-there-requires-3 : tie.Need-is-there-requires-3
-is-there-requires-3 c κs = search needs
-
-agrees-requires-3 : tie.Need-agrees-requires-3
-agrees-requires-3 c κs = search needs
+fits-dtd-requires : tie.Need-fits-dtd-requires
+fits-dtd-requires c κs = search needs
 
 has-no-others-requires : tie.Need-has-no-others-requires
 has-no-others-requires c κs = search needs
 
 returns : tie.Need-returns
 unfolding attributesFit
-returns c = simp (← c .has-no-others .ensures, c .before .if3 .taken, ← c .before .before .agrees3 .ensures, ← c .before .before .before .is-there3 .ensures, ← c .before .before .before .before .is-root .ensures, c .before .before .before .before .before .if2 .taken, ← c .before .before .before .before .before .before .agrees2 .ensures, ← c .before .before .before .before .before .before .before .is-there2 .ensures, ← c .before .before .before .before .before .before .before .before .asks-scheme .ensures, c .before .before .before .before .before .before .before .before .before .if1 .taken, ← c .before .before .before .before .before .before .before .before .before .before .agrees .ensures, ← c .before .before .before .before .before .before .before .before .before .before .before .is-there .ensures, ← c .before .before .before .before .before .before .before .before .before .before .before .before .asks-v .ensures)
+returns c = simp (← c .has-no-others .ensures, c .before .if3 .taken, ← c .before .before .fits-dtd .ensures, ← c .before .before .before .demands-at .ensures, c .before .before .before .before .if2 .taken, ← c .before .before .before .before .before .agrees2 .ensures, ← c .before .before .before .before .before .before .is-there2 .ensures, ← c .before .before .before .before .before .before .before .asks-scheme .ensures, c .before .before .before .before .before .before .before .before .if1 .taken, ← c .before .before .before .before .before .before .before .before .before .agrees .ensures, ← c .before .before .before .before .before .before .before .before .before .before .is-there .ensures, ← c .before .before .before .before .before .before .before .before .before .before .before .asks-v .ensures)
 
 returns-2 : tie.Need-returns-2
 unfolding attributesFit
-returns-2 c = simp (c .if3 .left, ← c .before .agrees3 .ensures, ← c .before .before .is-there3 .ensures, ← c .before .before .before .is-root .ensures, c .before .before .before .before .if2 .taken, ← c .before .before .before .before .before .agrees2 .ensures, ← c .before .before .before .before .before .before .is-there2 .ensures, ← c .before .before .before .before .before .before .before .asks-scheme .ensures, c .before .before .before .before .before .before .before .before .if1 .taken, ← c .before .before .before .before .before .before .before .before .before .agrees .ensures, ← c .before .before .before .before .before .before .before .before .before .before .is-there .ensures, ← c .before .before .before .before .before .before .before .before .before .before .before .asks-v .ensures)
+returns-2 c = simp (c .if3 .left, ← c .before .fits-dtd .ensures, ← c .before .before .demands-at .ensures, c .before .before .before .if2 .taken, ← c .before .before .before .before .agrees2 .ensures, ← c .before .before .before .before .before .is-there2 .ensures, ← c .before .before .before .before .before .before .asks-scheme .ensures, c .before .before .before .before .before .before .before .if1 .taken, ← c .before .before .before .before .before .before .before .before .agrees .ensures, ← c .before .before .before .before .before .before .before .before .before .is-there .ensures, ← c .before .before .before .before .before .before .before .before .before .before .asks-v .ensures)
 
 returns-3 : tie.Need-returns-3
 unfolding attributesFit
@@ -67,9 +65,8 @@ has-attributes-spec =
     asks-scheme-requires
     is-there-requires-2
     agrees-requires-2
-    is-root-requires
-    is-there-requires-3
-    agrees-requires-3
+    demands-at-requires
+    fits-dtd-requires
     has-no-others-requires
     returns
     returns-2

@@ -5,10 +5,9 @@ use Rattle.states.proofs.judge_tag.Statement.{statement}
 use Rattle.states.proofs.judge_tag.Tie as tie
 use Rattle.states.proofs.judge_tag.Reads as reads
 use Rattle.states.proofs.judge_tag.Lts as lts
-use Rattle.attributes.proofs.part.Reads as part-reads
-use Rattle.forms.proofs.is_version_fixed.Reads as is-version-fixed-reads
 use Rattle.columns.proofs.form_of.Reads as form-of-reads
 use Rattle.rules.proofs.judge_value.Reads as judge-value-reads
+use Rattle.states.proofs.is_dtd_fixed.Reads as is-dtd-fixed-reads
 use Rattle.states.proofs.is_root.Reads as is-root-reads
 use Rattle.states.proofs.least_of.Reads as least-of-reads
 use Rattle.states.proofs.scheme_refusal.Reads as scheme-refusal-reads
@@ -17,19 +16,16 @@ use Rattle.states.proofs.value_of.Reads as value-of-reads
 is-root-requires : tie.Need-is-root-requires
 is-root-requires c κs = search needs
 
-part-requires : tie.Need-part-requires
-part-requires c κs = search needs
-
-is-version-fixed-requires : tie.Need-is-version-fixed-requires
-is-version-fixed-requires c κs = search needs
+is-dtd-fixed-requires : tie.Need-is-dtd-fixed-requires
+is-dtd-fixed-requires c κs = search needs
 
 returns : tie.Need-returns
 unfolding judgeTag alsoScheme
-returns c = simp (c .if2 .taken, ← c .before .is-version-fixed .ensures, ← c .before .before .part .ensures, c .before .before .before .before .if1 .taken, ← c .before .before .before .before .before .is-root .ensures)
+returns c = simp (c .if2 .taken, ← c .before .is-dtd-fixed .ensures, c .before .before .before .if1 .taken, ← c .before .before .before .before .is-root .ensures)
 
 returns-2 : tie.Need-returns-2
 unfolding judgeTag alsoScheme
-returns-2 c = simp (c .if2 .left, ← c .before .is-version-fixed .ensures, ← c .before .before .part .ensures, c .before .before .before .before .if1 .taken, ← c .before .before .before .before .before .is-root .ensures)
+returns-2 c = simp (c .if2 .left, ← c .before .is-dtd-fixed .ensures, c .before .before .before .if1 .taken, ← c .before .before .before .before .is-root .ensures)
 
 form-of-requires : tie.Need-form-of-requires
 form-of-requires c κs = search needs
@@ -59,8 +55,7 @@ judge-tag-spec =
     tie.close
     (tie.spec
     is-root-requires
-    part-requires
-    is-version-fixed-requires
+    is-dtd-fixed-requires
     returns
     returns-2
     form-of-requires

@@ -5,7 +5,7 @@ use Rattle.states.proofs.scheme_refusal.Statement.{statement}
 use Rattle.states.proofs.scheme_refusal.Tie as tie
 use Rattle.states.proofs.scheme_refusal.Reads as reads
 use Rattle.states.proofs.scheme_refusal.Lts as lts
-use Rattle.attributes.proofs.part.Reads as part-reads
+use Rattle.slices.proofs.part.Reads as part-reads
 use Rattle.codes.proofs.is_listed.Reads as is-listed-reads
 use Rattle.columns.proofs.scheme_of.Reads as scheme-of-reads
 use Rattle.trims.proofs.trimmed.Reads as trimmed-reads

@@ -4,7 +4,7 @@ use Rattle.states.proofs.value_of.Statement.{statement}
 use Rattle.states.proofs.value_of.Tie as tie
 use Rattle.states.proofs.value_of.Reads as reads
 use Rattle.states.proofs.value_of.Lts as lts
-use Rattle.attributes.proofs.part.Reads as part-reads
+use Rattle.slices.proofs.part.Reads as part-reads
 use Rattle.columns.proofs.is_collapsed.Reads as is-collapsed-reads
 use Rattle.trims.proofs.trimmed.Reads as trimmed-reads
 

@@ -3,13 +3,13 @@ use mathlib.Core.Path.{_≡_, refl, sym, ap, _∙_}
 use lib.ListN.{length}
 use native.Mathlib.Omega.{arith}
 use borrow.Author.Needs.{needs}
-use Rattle.tags.specs.Tail.{ends, tail, keep}
+use Rattle.tags.specs.Tail.{ends, tail, keptOf}
 use Rattle.tags.proofs.Ends.{tail-attribute, noted-v, ends-close, ends-empty, ends-torn, ends-over}
 use Rattle.tags.proofs.any_tail.Statement.{statement}
 use Rattle.tags.proofs.any_tail.Tie as tie
 use Rattle.tags.proofs.any_tail.Reads as reads
 use Rattle.tags.proofs.any_tail.Lts as lts
-use Rattle.attributes.proofs.part.Reads as part-reads
+use Rattle.slices.proofs.part.Reads as part-reads
 use Rattle.attributes.proofs.piece_at.Reads as piece-at-reads
 use Rattle.slices.proofs.rest.Reads as rest-reads
 use Rattle.tags.proofs.Known.noted.Reads as noted-reads
@@ -62,7 +62,7 @@ add-t21 : tie.Need-add-t21 Inv-loop μ-loop
 add-t21 c = omega (arith, rw (c .before .n .given .1) at (c .before .before .before .piece-at .ensures .1), c .before .before .before .before .rest .ensures .1)
 
 returns : tie.Need-returns Inv-loop μ-loop
-unfolding tail keep
+unfolding tail keptOf
 returns c =
     let more = ends-close (c .before .before .before .before .before .before .before .before .args .s .now) (c .before .before .before .before .before .before .loop .i) _ (c .before .before .before .before .rest .ensures .0) _ (c .before .before .before .piece-at .ensures .0) _ (c .before .before .before .before .before .loop-test .taken) (c .before .n .given .1) in
     (sym (ap (tail (c .before .before .before .before .before .before .loop .k)) more) ∙ c .before .before .before .before .before .before .loop .inv .0, omega (arith, rw (c .before .n .given .1) at (c .before .before .before .piece-at .ensures .1), c .before .before .before .before .rest .ensures .1, c .before .before .before .before .before .before .loop .inv .1))
@@ -74,7 +74,7 @@ add-t22 : tie.Need-add-t22 Inv-loop μ-loop
 add-t22 c = omega (arith, rw (c .before .n2 .given .1) at (c .before .before .before .piece-at .ensures .1), c .before .before .before .before .rest .ensures .1)
 
 returns-2 : tie.Need-returns-2 Inv-loop μ-loop
-unfolding tail keep
+unfolding tail keptOf
 returns-2 c =
     let more = ends-empty (c .before .before .before .before .before .before .before .before .args .s .now) (c .before .before .before .before .before .before .loop .i) _ (c .before .before .before .before .rest .ensures .0) _ (c .before .before .before .piece-at .ensures .0) _ (c .before .before .before .before .before .loop-test .taken) (c .before .n2 .given .1) in
     (sym (ap (tail (c .before .before .before .before .before .before .loop .k)) more) ∙ c .before .before .before .before .before .before .loop .inv .0, omega (arith, rw (c .before .n2 .given .1) at (c .before .before .before .piece-at .ensures .1), c .before .before .before .before .rest .ensures .1, c .before .before .before .before .before .before .loop .inv .1))

@@ -13,7 +13,7 @@ use Rattle.reader.proofs.rows.brought_by.Reads as brought-by-reads
 use Rattle.reader.proofs.rows.enter_field.Reads as enter-field-reads
 use Rattle.reader.proofs.rows.last_of.Reads as last-of-reads
 use Rattle.reader.proofs.rows.quoted_of.Reads as quoted-of-reads
-use Rattle.reader.proofs.rows.span_of.Reads as span-of-reads
+use Rattle.items.proofs.span_of.Reads as span-of-reads
 use Rattle.reader.proofs.rows.thousandths_of.Reads as thousandths-of-reads
 use Rattle.tables.proofs.set_amount.Reads as set-amount-reads
 use Rattle.tables.proofs.set_number.Reads as set-number-reads

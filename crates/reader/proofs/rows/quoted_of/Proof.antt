@@ -4,7 +4,7 @@ use Rattle.reader.proofs.rows.quoted_of.Statement.{statement}
 use Rattle.reader.proofs.rows.quoted_of.Tie as tie
 use Rattle.reader.proofs.rows.quoted_of.Reads as reads
 use Rattle.reader.proofs.rows.quoted_of.Lts as lts
-use Rattle.attributes.proofs.part.Reads as part-reads
+use Rattle.slices.proofs.part.Reads as part-reads
 
 part-requires : tie.Need-part-requires
 part-requires c κs = search needs

@@ -1,5 +1,5 @@
 use borrow.Author.Tests.{eq-eqb, ne-eqb}
-use Rattle.states.specs.Moves.{endedAt, ended}
+use Rattle.states.specs.Moves.{afterEndAt, afterEnd}
 use borrow.Author.Needs.{needs}
 use Rattle.states.proofs.State.ended.Statement.{statement}
 use Rattle.states.proofs.State.ended.Tie as tie
@@ -22,18 +22,18 @@ left-requires : tie.Need-left-requires
 left-requires c κs = search needs
 
 returns : tie.Need-returns
-unfolding ended endedAt
+unfolding afterEnd afterEndAt
 returns c = simp (← c .left .ensures, eq-eqb _ _ (c .before .if1 .taken), ← c .before .before .end-refusal .ensures, c .before .before .before .before .r .given .1, ← c .before .before .before .before .before .before .end-after .ensures)
 
 enum-told : tie.Need-enum-told
 enum-told c = search needs
 
 returns-2 : tie.Need-returns-2
-unfolding ended endedAt
+unfolding afterEnd afterEndAt
 returns-2 c = simp (ne-eqb _ _ (c .if1 .left), ← c .before .end-refusal .ensures, c .before .before .before .r .given .1, ← c .before .before .before .before .before .end-after .ensures)
 
 returns-3 : tie.Need-returns-3
-unfolding ended endedAt
+unfolding afterEnd afterEndAt
 returns-3 c = simp (c .enum-told .given .1, ← c .before .before .end-after .ensures)
 
 pub ended-spec : {M : Type 1} → statement M

@@ -5,7 +5,7 @@ use Rattle.states.proofs.State.kind_told.Statement.{statement}
 use Rattle.states.proofs.State.kind_told.Tie as tie
 use Rattle.states.proofs.State.kind_told.Reads as reads
 use Rattle.states.proofs.State.kind_told.Lts as lts
-use Rattle.attributes.proofs.part.Reads as part-reads
+use Rattle.slices.proofs.part.Reads as part-reads
 use Rattle.elements.proofs.element_no.Reads as element-no-reads
 use Rattle.guideline.proofs.kind_of_root.Reads as kind-of-root-reads
 

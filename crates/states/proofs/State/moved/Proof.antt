@@ -8,7 +8,7 @@ use Rattle.elements.proofs.element_no.Reads as element-no-reads
 use Rattle.states.proofs.State.ended.Reads as ended-reads
 use Rattle.states.proofs.State.started.Reads as started-reads
 use Rattle.states.proofs.act_of.Reads as act-of-reads
-use Rattle.states.proofs.name_in.Reads as name-in-reads
+use Rattle.items.proofs.name_in.Reads as name-in-reads
 
 name-in-requires : tie.Need-name-in-requires
 name-in-requires c κs = search needs

@@ -1,9 +1,9 @@
-use Rattle.reader.specs.Rows.{spanOf}
+use Rattle.items.specs.Parts.{spanOf}
 use borrow.Author.Needs.{needs}
-use Rattle.reader.proofs.rows.span_of.Statement.{statement}
-use Rattle.reader.proofs.rows.span_of.Tie as tie
-use Rattle.reader.proofs.rows.span_of.Reads as reads
-use Rattle.reader.proofs.rows.span_of.Lts as lts
+use Rattle.items.proofs.span_of.Statement.{statement}
+use Rattle.items.proofs.span_of.Tie as tie
+use Rattle.items.proofs.span_of.Reads as reads
+use Rattle.items.proofs.span_of.Lts as lts
 
 enum-known-item : tie.Need-enum-known-item
 enum-known-item c = search needs

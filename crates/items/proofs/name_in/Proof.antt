@@ -1,10 +1,10 @@
-use Rattle.states.specs.Act.{nameIn}
+use Rattle.items.specs.Parts.{nameIn}
 use borrow.Author.Needs.{needs}
-use Rattle.states.proofs.name_in.Statement.{statement}
-use Rattle.states.proofs.name_in.Tie as tie
-use Rattle.states.proofs.name_in.Reads as reads
-use Rattle.states.proofs.name_in.Lts as lts
-use Rattle.attributes.proofs.part.Reads as part-reads
+use Rattle.items.proofs.name_in.Statement.{statement}
+use Rattle.items.proofs.name_in.Tie as tie
+use Rattle.items.proofs.name_in.Reads as reads
+use Rattle.items.proofs.name_in.Lts as lts
+use Rattle.slices.proofs.part.Reads as part-reads
 
 enum-known-item : tie.Need-enum-known-item
 enum-known-item c = search needs

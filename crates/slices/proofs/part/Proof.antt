@@ -1,11 +1,11 @@
-use Rattle.attributes.specs.Attribute.{partOf}
+use Rattle.slices.specs.Part.{partOf}
 use borrow.Author.Needs.{needs}
-use Rattle.attributes.proofs.part.Statement.{statement}
-use Rattle.attributes.proofs.part.Tie as tie
-use Rattle.attributes.proofs.part.Reads as reads
-use Rattle.attributes.proofs.part.Lts as lts
+use Rattle.slices.proofs.part.Statement.{statement}
+use Rattle.slices.proofs.part.Tie as tie
+use Rattle.slices.proofs.part.Reads as reads
+use Rattle.slices.proofs.part.Lts as lts
 use Rattle.slices.proofs.front.Reads as front-reads
 use Rattle.slices.proofs.rest.Reads as rest-reads
 
 rest-requires : tie.Need-rest-requires
 rest-requires c κs = search needs

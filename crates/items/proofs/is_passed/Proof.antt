@@ -1,9 +1,9 @@
-use Rattle.reader.specs.Items.{passed}
+use Rattle.items.specs.Parts.{passed}
 use borrow.Author.Needs.{needs}
-use Rattle.reader.proofs.is_passed.Statement.{statement}
-use Rattle.reader.proofs.is_passed.Tie as tie
-use Rattle.reader.proofs.is_passed.Reads as reads
-use Rattle.reader.proofs.is_passed.Lts as lts
+use Rattle.items.proofs.is_passed.Statement.{statement}
+use Rattle.items.proofs.is_passed.Tie as tie
+use Rattle.items.proofs.is_passed.Reads as reads
+use Rattle.items.proofs.is_passed.Lts as lts
 
 enum-told : tie.Need-enum-told
 enum-told c = search needs
