@@ -1,3 +1,4 @@
+pub mod Names
 pub mod Pairs
 pub mod Aligned
 pub mod Mixed
