@@ -44,11 +44,10 @@ use Rattle.blindness.proofs.Order.{order}
 use Rattle.blindness.specs.Blind.{amountCell, source, OwnDigitsDiffer, SameButAmounts}
 use Rattle.blindness.proofs.Pairs.{list-cases}
 use Rattle.blindness.specs.Replaced.{Replaced}
-use Rattle.blindness.proofs.Aligned.{tail-of}
 use Rattle.blindness.proofs.Mixed.{between, first-replaced, second-replaced}
 use Rattle.blindness.proofs.Steps.{qty-kinds}
 use Rattle.blindness.proofs.Shown.{amounts-tabled}
-use Rattle.blindness.proofs.Runs.{Parts, run-said}
+use Rattle.blindness.proofs.Runs.{parts-after, run-said}
 use Rattle.blindness.proofs.Told.{itemsOut, items-read, SameTold, told-join, replaced-same}
 
 -- ---- the amounts of a document are those at their sources
@@ -64,13 +63,6 @@ map-same f (suc n) a b e = rw (e, map-same f n a b e)
 none-said : (doc : List ℕ) (na : ℕ) → noAmounts na ≡ map (amountAt doc) (unsourced na)
 unfolding unsourced
 none-said doc na = sym (map-same (amountAt doc) na absent (pos 0) (nothing-said doc))
-
--- each item is read from its place on
-parts-after : (doc l : List ℕ) (k at : ℕ) → l ≡ drop at doc → Parts doc (itemsAfter k at l)
-unfolding itemsAfter Parts
-parts-after doc [] k at e = tt
-parts-after doc (b ∷ t) (suc k) at e = parts-after doc t k (suc at) (tail-of doc at b t e)
-parts-after doc (b ∷ t) zero at e = (e, parts-after doc t (pred (itemEnd (item at (b ∷ t)))) (suc at) (tail-of doc at b t e))
 
 module _ (doc : List ℕ) (ns np na : ℕ) where
   into-said : (b : Begin) → readAfter doc (blank ns np na) b .tables .amounts ≡ map (amountAt doc) (sourcesFrom doc ns np na b)

@@ -13,3 +13,4 @@ pub mod Order
 pub mod Blind
 pub mod Examples
 pub mod Outcomes
+pub mod Renamed

@@ -1,6 +1,6 @@
 -- Aligned items come to the same answer, the same series and positions, and the same sources of amounts; and each amount is the one at its source.
 -- Assumes nothing.
-use Prim.Native.Nat.{ℕ, zero, suc, _+_, _-_}
+use Prim.Native.Nat.{ℕ, zero, suc, pred, _+_, _-_}
 use mathlib.Core.Path.{_≡_, refl, sym, ap, _∙_}
 use mathlib.Core.List.{List, [], _∷_, map}
 use lib.IntN.{ℤ}
@@ -8,6 +8,7 @@ use lib.ListN.{length, drop, set}
 use Rattle.lists.proofs.Cases.{past-cond, zero-not-one}
 use Rattle.slices.specs.declared.Span.{Span}
 use Rattle.items.specs.Parts.{spanOf}
+use Rattle.items.specs.Item.{item, itemEnd}
 use Rattle.items.specs.declared.Item.{Item}
 use Rattle.items.specs.declared.Item.the-variants.{Unreadable}
 use Rattle.states.specs.Moves.{moved, step}
@@ -17,12 +18,13 @@ use Rattle.states.specs.declared.Entry.{Entry}
 use Rattle.states.specs.declared.Entry.the-variants.{Nothing, Series, Identification, Object, BusinessType, Direction, Area, Interval, Position, Amount}
 use Rattle.states.specs.declared.Step.{Step}
 use Rattle.states.specs.declared.Step.the-variants.{Next, Refused}
-use Rattle.reader.specs.Items.{Placed}
+use Rattle.reader.specs.Items.{Placed, itemsAfter}
 use Rattle.reader.specs.Rows.{broughtBy, quoted, amountsWith, seriesAfter, positionsAfter, amountsAfter, usedBefore}
 use Rattle.reader.specs.Reading.{tab, Out, withoutUsed, stepOf, tablesAfter, readItems}
 use Rattle.reader.proofs.Ran.{read-next, read-stop}
 use Rattle.blindness.specs.Sources.{amountAt}
 use Rattle.blindness.proofs.Sources.{sourcesAfter, sourcesIn}
+use Rattle.blindness.proofs.Aligned.{tail-of}
 use Rattle.blindness.proofs.Pairs.{Says, Aligned, over, pair, shut}
 use Rattle.blindness.proofs.Steps.{Values, same-value, BlindKinds, step-same, step-brings}
 use Rattle.blindness.proofs.Shown.{Tabled, value-part}
@@ -183,6 +185,12 @@ amounts-after doc at s q v st Amount so =
 unfoldable pub Parts : List ℕ → List Placed → Type 0
 Parts doc [] = Unit {0}
 Parts doc (p ∷ xs) = (p .rest ≡ drop (p .at) doc) × Parts doc xs
+
+pub parts-after : (doc l : List ℕ) (k at : ℕ) → l ≡ drop at doc → Parts doc (itemsAfter k at l)
+unfolding itemsAfter Parts
+parts-after doc [] k at e = tt
+parts-after doc (b ∷ t) (suc k) at e = parts-after doc t k (suc at) (tail-of doc at b t e)
+parts-after doc (b ∷ t) zero at e = (e, parts-after doc t (pred (itemEnd (item at (b ∷ t)))) (suc at) (tail-of doc at b t e))
 
 module _ (doc : List ℕ) (room : Room) where
   said-next : (p : Placed) (xs : List Placed) (st : State) (ser pos : List ℕ) (so : List Span) → p .rest ≡ drop (p .at) doc
