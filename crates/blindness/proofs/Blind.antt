@@ -1,8 +1,8 @@
 -- "Two documents of equal length that differ only in digits of readable Qty values get the same answer, place, counts and note, and the same cells but
 -- for the amounts of accepted intervals whose own digits differ." Assumes nothing.
-use Prim.Native.Nat.{ℕ, zero, suc, pred, _+_, _≤_, _<_}
+use Prim.Native.Nat.{ℕ, zero, suc, _+_, _≤_, _<_}
 use mathlib.Core.Path.{_≡_, refl, sym, ap, _∙_}
-use mathlib.Core.List.{List, [], _∷_, map}
+use mathlib.Core.List.{List, map}
 use mathlib.Core.Bool.{Bool, true, false, cond}
 use mathlib.Core.Logic.{_⊎_, inl, inr, ⊎-elim}
 use native.Mathlib.Omega.{arith}
@@ -21,7 +21,6 @@ use Rattle.slices.specs.declared.Span.{Span}
 use Rattle.trims.specs.Trim.{dropLead, dropTrail, dropped}
 use Rattle.numbers.specs.Digits.{digits}
 use Rattle.numbers.specs.Amount.{minus, unsigned, unsignedForm, writtenAmount, amountOf}
-use Rattle.items.specs.Item.{item, itemEnd}
 use Rattle.prolog.specs.Prolog.{begin}
 use Rattle.prolog.specs.declared.Begin.{Begin}
 use Rattle.prolog.specs.declared.Begin.the-variants.{From, Misdeclared}
@@ -30,7 +29,7 @@ use Rattle.states.specs.Moves.{begun}
 use Rattle.states.specs.declared.Entry.the-variants.{Amount}
 use Rattle.numbers.specs.Alike.{Alike}
 use Rattle.digits.proofs.Chars.{digits-unseen}
-use Rattle.reader.specs.Items.{itemsAfter, itemsFrom}
+use Rattle.reader.specs.Items.{itemsFrom}
 use Rattle.reader.specs.Rows.{quoted, thousandthsOf}
 use Rattle.reader.specs.Reading.{Tables, Out, blank, roomOf, refusedAt, readAfter, readInto, orBlank, readSheet}
 use Rattle.reader.specs.declared.Answer.{Answer}

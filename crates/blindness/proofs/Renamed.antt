@@ -1,12 +1,11 @@
 -- "Then number, place, note and all tables are the same.": a document whose TimeSeriesIdentifications are replaced by a one-to-one rule is read as it was.
 -- Assumes nothing.
 use Prim.Native.Nat.{ℕ, _+_, _-_}
-use mathlib.Core.Path.{_≡_, refl, sym, ap, _∙_}
+use mathlib.Core.Path.{_≡_, refl, sym, _∙_}
 use mathlib.Core.List.{List, [], _∷_}
 use mathlib.Core.Bool.{Bool, true, false, cond}
 use mathlib.Core.Logic.{_⊎_, inl, inr, ⊎-elim}
 use native.Mathlib.Omega.{arith}
-use lib.IntN.{ℤ}
 use lib.Dec.{eqb}
 use lib.ListN.{length, drop, getD}
 use borrow.Author.Tests.{eq-eqb}
@@ -16,7 +15,6 @@ use Rattle.slices.specs.Same.{same}
 use Rattle.slices.proofs.Sames.{same-self, same-equal}
 use Rattle.slices.specs.Text.{text}
 use Rattle.slices.specs.declared.Span.{Span}
-use Rattle.characters.specs.Says.{allChars, charsOver}
 use Rattle.elements.specs.Names.{names, numberIn, elementNo}
 use Rattle.items.specs.Item.{itemRefusal}
 use Rattle.items.specs.Parts.{spanOf}
@@ -30,13 +28,11 @@ use Rattle.columns.specs.Columns.{formOf, collapsed, roleOf}
 use Rattle.guideline.specs.Rows.{beschaffungsanforderung, kostenblatt, rowsOf}
 use Rattle.guideline.proofs.Each.{of-table}
 use Rattle.states.specs.Moves.{entryOf}
-use Rattle.states.specs.declared.Entry.{Entry}
-use Rattle.states.specs.declared.Entry.the-variants.{Identification, Amount}
+use Rattle.states.specs.declared.Entry.the-variants.{Identification}
 use Rattle.reader.specs.Items.{Placed, itemsFrom}
 use Rattle.reader.specs.Rows.{quoted}
 use Rattle.reader.specs.Reading.{Out, out, readSheet}
 use Rattle.reader.specs.Answer.{readOf}
-use Rattle.digits.specs.Unseen.{Unseen}
 use Rattle.digits.specs.Items.{InSpan, InV, JoinsV}
 use Rattle.digits.specs.Identifications.{PutFor}
 use Rattle.digits.proofs.Identifications.{put-unseen, put-judged}

@@ -26,7 +26,7 @@ use Rattle.guideline.specs.Rows.{beschaffungsanforderung, kostenblatt, rowsOf}
 use Rattle.guideline.proofs.Each.{of-table}
 use Rattle.rules.specs.declared.Held.{Held}
 use Rattle.states.specs.Attributes.{valueOf, schemeRefusal, valueFixed, dtdFixed, judgeTag}
-use Rattle.states.specs.Moves.{heldOf, valuesJudged, judgedAt, startJudged, entryOf, startedBy, startedAt, started, closedAt, endRefusal, afterEndAt, afterEnd, moved, rootKind, kindTold, step}
+use Rattle.states.specs.Moves.{heldOf, valuesJudged, judgedAt, startJudged, entryOf, startedBy, startedAt, started, endRefusal, afterEndAt, afterEnd, moved, rootKind, kindTold, step}
 use Rattle.states.specs.declared.State.{State}
 use Rattle.states.specs.declared.Room.{Room}
 use Rattle.states.specs.declared.Entry.{Entry}

@@ -11,7 +11,6 @@ use borrow.Author.Tests.{eq-eqb, ne-eqb, lt-ltb, eqb-true, ltb-true, not-true}
 use Rattle.lists.proofs.Below.{every, below}
 use Rattle.lists.proofs.Cases.{eqb-cases, zero-not-one, both-true, where-true}
 use Rattle.slices.specs.Same.{same}
-use Rattle.slices.specs.Text.{text}
 use Rattle.elements.specs.Names.{names, numberIn, elementNo}
 use Rattle.structure.specs.Rows.{nameOf, parentOf, required, repeated, endsIn, endsAtOnce, startOf, endOf}
 use Rattle.structure.specs.declared.Due.the-variants.{Row}

@@ -2,18 +2,18 @@
 use Prim.Native.Nat.{ℕ, zero, suc, pred, _+_, _≤_, _<_}
 use mathlib.Core.Path.{_≡_, refl, sym, ap, _∙_}
 use mathlib.Core.List.{List, [], _∷_, _++_}
-use mathlib.Core.Bool.{Bool, true, false, cond}
+use mathlib.Core.Bool.{Bool, true, false}
 use mathlib.Core.Logic.{_⊎_, inl, inr, ⊎-elim}
 use native.Mathlib.Omega.{arith}
 use lib.Dec.{eqb, leb, ltb}
 use lib.ListN.{length, List·getD-eq-default}
 use borrow.Author.Tests.{eq-eqb, ne-eqb, eqb-true, leb-true, ltb-false}
-use Rattle.lists.proofs.Cases.{bool-cases, by-cond, past-cond, both-true, eqb-cases, ltb-cases, never, zero-not-one}
+use Rattle.lists.proofs.Cases.{bool-cases, by-cond, past-cond, both-true, eqb-cases, ltb-cases, never}
 use Rattle.slices.specs.Bytes.{byte}
 use Rattle.slices.specs.Run.{run}
-use Rattle.slices.specs.Walk.{go, stop, walk}
-use Rattle.characters.specs.Utf8.{seqLen, low, second, laterByte, control, nonchar, single, double, triple, fourfold, charAt}
-use Rattle.characters.specs.Says.{charNext, charsOver, allChars, says}
+use Rattle.slices.specs.Walk.{go, walk}
+use Rattle.characters.specs.Utf8.{seqLen, low, high, second, laterByte, control, nonchar, single, double, triple, fourfold, charAt}
+use Rattle.characters.specs.Says.{charNext, charsOver, allChars, saidBy, saidAt, saysAfter, says}
 use Rattle.characters.specs.declared.Char.{Char}
 use Rattle.characters.specs.declared.Char.the-variants.{Is, NoChar}
 use Rattle.characters.proofs.Ascii.{char-printed, low-ascii}
@@ -177,6 +177,11 @@ module _ (q : ℕ) (quotes : quote q ≡ true) where
 
 pub put-unseen : Unseen PutFor
 put-unseen = record { whole = λ {a} {b} r q rest t v. clean-whole q t rest b (r .after) }
+
+-- it joins two such values, place by place unlike: `Aß` and `ßA`
+pub put-example : PutFor (0x41 ∷ 0xC3 ∷ 0x9F ∷ []) (0xC3 ∷ 0x9F ∷ 0x41 ∷ [])
+unfolding allChars walk charNext charsOver charAt seqLen single control double second low high byte says saysAfter saidAt saidBy run idByte quote
+put-example = record { before = record { legal = refl; bytes = refl }; after = record { legal = refl; bytes = refl }; bytes = refl; characters = refl }
 
 -- "Identifications: 0 to 35 characters", by the form of a TimeSeriesIdentification, which is 2
 pub put-judged : (h : Held) {a b : List ℕ} → PutFor a b → judge 2 h (says a) ≡ judge 2 h (says b)
