@@ -210,6 +210,38 @@ static void judge_digits(const uint8_t *doc, struct outcome first, const uint32_
     free(other);
 }
 
+/* Those of ASCII's 95 printed characters that may stand in an identification which is replaced. */
+static const char ALLOWED[] = " !#$%()*+,-./0123456789:;=>?@ABCDEFGHIJKLMNOPQRSTUVWXYZ[\\]^_`abcdefghijklmnopqrstuvwxyz{|}~";
+
+/* The byte becomes another, by the one beside it: it can be told back from that one, so that no two identifications become one. */
+static uint8_t turned(uint8_t b, uint8_t beside) {
+    return b >= 0x80 ? b : (uint8_t)ALLOWED[((size_t)(strchr(ALLOWED, b) - ALLOWED) + 7 * (size_t)beside + 1) % (sizeof ALLOWED - 1)];
+}
+
+/* In an accepted document the series table shows each TimeSeriesIdentification. 0 where one may not be replaced. */
+static int turn_identifications(uint8_t *doc, const uint32_t *series, size_t count) {
+    for (size_t i = 0; i < count; i++) {
+        uint8_t *id = doc + series[LUMINTAYAG_SERIES_ROW * i + LUMINTAYAG_IDENTIFICATION];
+        size_t many = series[LUMINTAYAG_SERIES_ROW * i + LUMINTAYAG_IDENTIFICATION + 1];
+        for (size_t k = 0; k < many; k++)
+            if (id[k] < 0x80 && strchr(ALLOWED, id[k]) == NULL) return 0;
+        for (size_t k = many; k-- > 0;) id[k] = turned(id[k], k > 0 ? id[k - 1] : 0);
+        for (size_t k = 0; k < many; k++) id[k] = turned(id[k], k + 1 < many ? id[k + 1] : 0);
+    }
+    return 1;
+}
+
+static void judge_identifications(const uint8_t *doc, struct outcome first, const uint32_t *n) {
+    uint8_t *other = filled(length, 0);
+    memcpy(other, doc, length);
+    if (turn_identifications(other, first.series, n[3])) {
+        struct outcome o = read_by(lumintayag_read_v2, other, 7, 0x22);
+        hold(same(first, o) && memcmp(o.answer, n, 28) == 0, "identifications replaced by a one-to-one rule change nothing");
+        let_go(o);
+    }
+    free(other);
+}
+
 int LLVMFuzzerTestOneInput(const uint8_t *data, size_t size);
 
 int LLVMFuzzerTestOneInput(const uint8_t *data, size_t size) {
@@ -226,7 +258,7 @@ int LLVMFuzzerTestOneInput(const uint8_t *data, size_t size) {
     hold(memcmp(a.answer, n, 4 * (lent.answer < 7 ? lent.answer : 7)) == 0, "the answer in fewer cells is its first numbers");
     hold(lent.answer <= 7 || is_zero(a.answer, 28, 4 * lent.answer), "cells past the seventh are 0");
     hold(b.returned == n[0], "what is returned is the refusal");
-    if (n[0] == 0) judge_acceptance(b, n), judge_digits(doc, a, n);
+    if (n[0] == 0) judge_acceptance(b, n), judge_digits(doc, a, n), judge_identifications(doc, a, n);
     else judge_refusal(b, n);
     refusals[n[0]]++;
     if (n[0] == 10) hold(is_zero(b.note, 0, lent.note) && is_zero(n + 1, 0, 24), "on 10 the note buffer and the other numbers are 0");

@@ -3,6 +3,7 @@
 pub mod documents;
 pub mod model;
 pub mod random;
+pub mod renaming;
 pub mod rows;
 pub mod spelling;
 pub mod values;

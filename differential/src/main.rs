@@ -7,6 +7,7 @@
 use differential::documents::{document, Document};
 use differential::model::{self, Lengths, Outcome};
 use differential::random::Random;
+use differential::renaming::renamed;
 use std::process::ExitCode;
 
 mod library;
@@ -18,6 +19,8 @@ struct Tally {
     refusals: [u64; 11],
     notes: u64,
     notes_taken: u64,
+    renamed: u64,
+    renamed_taken: u64,
     bytes: u64,
 }
 
@@ -30,10 +33,10 @@ fn main() -> ExitCode {
     }
     let seed = arguments.get(1).copied().unwrap_or(1);
     let first = arguments.get(2).copied().unwrap_or(0);
-    let mut tally = Tally { refusals: [0; 11], notes: 0, notes_taken: 0, bytes: 0 };
+    let mut tally = Tally { refusals: [0; 11], notes: 0, notes_taken: 0, renamed: 0, renamed_taken: 0, bytes: 0 };
     for number in first..first.saturating_add(arguments[0]) {
         let made = document(seed, number);
-        if !same_reading(&made, seed, number, &mut tally) || !same_notes(seed, number, &mut tally) {
+        if !same_reading(&made, seed, number, &mut tally) || !same_notes(seed, number, &mut tally) || !same_renamed(&made, seed, number, &mut tally) {
             return ExitCode::FAILURE;
         }
     }
@@ -47,6 +50,7 @@ fn print_tally(count: u64, tally: &Tally) {
         println!("refusal {number}: {many}");
     }
     println!("{} notes, {} accepted", tally.notes, tally.notes_taken);
+    println!("{} documents with other identifications, {} accepted", tally.renamed, tally.renamed_taken);
     println!("no difference");
 }
 
@@ -121,6 +125,21 @@ fn without_pieces(doc: Vec<u8>, size: usize, lengths: &Lengths, patience: &mut u
         }
     }
     doc
+}
+
+/// K12: with its identifications replaced by a one-to-one rule, a document is read by the library as it was: "number, place, note and all tables are the same".
+fn same_renamed(made: &Document, seed: u64, number: u64, tally: &mut Tally) -> bool {
+    let random = &mut Random::new(seed ^ 0x6E61_6D65, number);
+    let Some(other) = renamed(random, &made.bytes) else { return true };
+    let (first, second) = (library::read(&made.bytes, &made.lengths), library::read(&other, &made.lengths));
+    tally.renamed += 1;
+    tally.renamed_taken += u64::from(first.as_ref().is_ok_and(|outcome| outcome.answer[0] == 0));
+    if first.is_ok() && first == second {
+        return true;
+    }
+    println!("difference: seed {seed}, number {number}, identifications replaced\nbefore: {first:?}\nafter:  {second:?}");
+    println!("before: {}\nafter:  {}", made.bytes.escape_ascii(), other.escape_ascii());
+    false
 }
 
 /// A few bytes that may be a note, for both note readers.

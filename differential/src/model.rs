@@ -78,7 +78,7 @@ fn xml_characters(bytes: &[u8]) -> bool {
     }
 }
 
-fn is_xml_character(c: char) -> bool {
+pub fn is_xml_character(c: char) -> bool {
     matches!(c, '\t' | '\n' | '\r' | '\u{20}'..='\u{D7FF}' | '\u{E000}'..='\u{FFFD}' | '\u{10000}'..='\u{10FFFF}')
 }
 
@@ -243,6 +243,32 @@ fn after_declaration(doc: &[u8], at: usize) -> Option<usize> {
     } else {
         None
     }
+}
+
+/// Where the items begin, or the place of a declaration that is unreadable.
+fn first_item(doc: &[u8]) -> Result<usize, usize> {
+    let at = if doc.starts_with(&[0xEF, 0xBB, 0xBF]) { 3 } else { 0 };
+    if starts(doc, at, b"<?xml") {
+        after_declaration(doc, at).ok_or(at)
+    } else {
+        Ok(at)
+    }
+}
+
+/// K12: "the TimeSeriesIdentification values in tags before the first unreadable item", due or not: where the bytes between the quotes of `v` are.
+pub fn identifications(doc: &[u8]) -> Vec<Range<usize>> {
+    let mut found = Vec::new();
+    let mut at = first_item(doc).unwrap_or(doc.len());
+    while at < doc.len() {
+        let Some((item, after)) = item_at(doc, at) else { break };
+        if let Item::Tag { name, attributes, .. } = item {
+            if name == b"TimeSeriesIdentification" {
+                found.extend(attributes.into_iter().filter(|given| given.name == b"v").map(|given| given.value));
+            }
+        }
+        at = after;
+    }
+    found
 }
 
 // ---------------------------------------------------------------- Forms of values
@@ -484,13 +510,10 @@ impl<'d> Reading<'d> {
     /// All items from front to back: the first refusal and its place, or 0 and the length.
     fn items(&mut self) -> (u32, usize) {
         let doc = self.doc;
-        let mut at = if doc.starts_with(&[0xEF, 0xBB, 0xBF]) { 3 } else { 0 };
-        if starts(doc, at, b"<?xml") {
-            match after_declaration(doc, at) {
-                Some(after) => at = after,
-                None => return (2, at),
-            }
-        }
+        let mut at = match first_item(doc) {
+            Ok(at) => at,
+            Err(place) => return (2, place),
+        };
         while at < doc.len() {
             let Some((item, after)) = item_at(doc, at) else { return (2, at) };
             if let Err(refusal) = self.step(&item) {

@@ -1,7 +1,9 @@
 //! The examples of 01 and of the readings of its open points, held against the model alone.
 
 use crate::documents::document;
-use crate::model::{read, read_note, Lengths, Outcome, ROW};
+use crate::model::{identifications, read, read_note, Lengths, Outcome, ROW};
+use crate::random::Random;
+use crate::renaming::{clean, renamed};
 
 const ROOM: Lengths = Lengths { series: 64 * ROW, positions: 2048, amounts: 2048, note: 16 };
 const ROOT: &str = "<Kostenblatt DtdBDEWNachrichtenVersion=\"1.0\">";
@@ -270,4 +272,43 @@ fn generated() {
     let all = shapes.iter().chain(&spaces).chain([&after, &odd]);
     assert!(all.clone().all(|many| *many > 100), "{shapes:?} {spaces:?} {after} {odd}");
     assert_eq!(document(5, 77).bytes, document(5, 77).bytes);
+}
+
+#[test]
+fn identifications_replaced() {
+    let mut many = 0;
+    for number in 0..3000 {
+        let made = document(7, number);
+        let Some(other) = renamed(&mut Random::new(7, number), &made.bytes) else { continue };
+        let places = identifications(&made.bytes);
+        let value = |doc: &[u8], at: usize| clean(&doc[places[at].clone()]).map(str::to_string);
+        for at in 0..places.len() {
+            let (before, after) = (value(&made.bytes, at), value(&other, at));
+            assert_eq!(before.as_ref().map(|text| text.chars().count()), after.as_ref().map(|text| text.chars().count()), "{number}");
+            assert!(after.is_some() && (0..at).all(|i| (value(&made.bytes, i) == before) == (value(&other, i) == after)), "{number}");
+        }
+        let mut back = other.clone();
+        places.iter().for_each(|place| back[place.clone()].copy_from_slice(&made.bytes[place.clone()]));
+        assert!(back == made.bytes, "{number}");
+        assert!(read(&made.bytes, &made.lengths) == read(&other, &made.lengths), "{number}");
+        many += usize::from(other != made.bytes);
+    }
+    assert!(many > 1000, "{many}");
+}
+
+#[test]
+fn a_rule_that_is_not_one_to_one() {
+    let doc = [ROOT, HEAD, SERIES, &SERIES.replace("\"s1\"", "\"s2\""), "</Kostenblatt>"].concat();
+    accepted(&doc);
+    assert_eq!(identifications(doc.as_bytes()).len(), 2);
+    let twice = doc.replace("\"s2\"", "\"s1\"");
+    let second = twice.rfind("<TimeSeriesIdentification").unwrap_or(0) as u32;
+    assert_eq!(refusal(&twice), (9, second));
+}
+
+#[test]
+fn identifications_before_an_unreadable_item() {
+    let tags = "<TimeSeriesIdentification v='a'/><x/><TimeSeriesIdentification w=\"1\" v=\"bc\"><TimeSeriesIdentification/>&<TimeSeriesIdentification v='d'/>";
+    let found: Vec<&str> = identifications(tags.as_bytes()).into_iter().map(|place| &tags[place]).collect();
+    assert_eq!(found, ["a", "bc"]);
 }

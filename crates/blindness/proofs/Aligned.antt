@@ -25,7 +25,7 @@ use Rattle.digits.proofs.Items.{item-same}
 use Rattle.digits.proofs.Begins.{begin-same}
 use Rattle.blindness.specs.Readable.{InTag, InTags, InTagsAfter}
 use Rattle.blindness.specs.Replaced.{Joins, JoinsAfter, Replaced}
-use Rattle.blindness.proofs.Pairs.{Says, Aligned, over, pair, says-itself, item-says, says-joins}
+use Rattle.blindness.proofs.Pairs.{Says, Aligned, over, pair, shut, item-says, says-joins}
 
 -- where `v` stands in its item: not in its first bytes, and before its end
 tag-inside : (t : Tag) → TagLaid t → (i : ℕ) → InSpan i (t .v) → (5 ≤ i) × (i < t .len)
@@ -54,6 +54,14 @@ unread-v (Text w e) i q h = h
 unread-v (Comment e) i q h = h
 unread-v (Unreadable p) i q h = h
 
+unreadable : (x : Item) → itemRefusal x ≡ 2 → (p : ℕ) × (x ≡ Unreadable p)
+unreadable (Start t) q = absurd (omega (arith, q))
+unreadable (Empty t) q = absurd (omega (arith, q))
+unreadable (End n e) q = absurd (omega (arith, q))
+unreadable (Text w e) q = absurd (omega (arith, q))
+unreadable (Comment e) q = absurd (omega (arith, q))
+unreadable (Unreadable p) q = (p, refl)
+
 -- what is behind the first byte of a part of a document
 pub tail-of : (doc : List ℕ) (at b : ℕ) (t : List ℕ) → b ∷ t ≡ drop at doc → t ≡ drop (suc at) doc
 tail-of doc at b t e = let z : at + 1 ≡ suc at = omega arith in ap (drop 1) e ∙ drop-drop 1 at doc ∙ ap (λ (n : ℕ). drop n doc) z
@@ -71,17 +79,11 @@ module _ (name : List ℕ) where
       h
 
   module _ {R : List ℕ → List ℕ → Type 0} (u : Unseen R) (x y : List ℕ) where
-    -- the same list twice
-    itself : (l : List ℕ) (k at : ℕ) → l ≡ drop at x → l ≡ drop at y → Aligned name R x y (itemsAfter k at l) (itemsAfter k at l)
+    -- an unreadable item, whose bytes are the same
+    unread-aligned : (at b c : ℕ) (t v : List ℕ) → itemRefusal (item at (b ∷ t)) ≡ 2 → c ∷ v ≡ b ∷ t → Aligned name R x y (itemsAfter zero at (b ∷ t)) (itemsAfter zero at (c ∷ v))
     unfolding itemsAfter
-    itself [] k at ex ey = over
-    itself (b ∷ t) (suc k) at ex ey = itself t k (suc at) (tail-of x at b t ex) (tail-of y at b t ey)
-    itself (b ∷ t) zero at ex ey =
-        pair at (item at (b ∷ t)) (b ∷ t) (b ∷ t) ex ey (says-itself name R (item at (b ∷ t)) (b ∷ t))
-        (itself t (pred (itemEnd (item at (b ∷ t)))) (suc at) (tail-of x at b t ex) (tail-of y at b t ey))
-
-    unread-aligned : (at : ℕ) (l m : List ℕ) → m ≡ l → l ≡ drop at x → m ≡ drop at y → Aligned name R x y (itemsAfter zero at l) (itemsAfter zero at m)
-    unread-aligned at l m e ex ey = rw e (itself l zero at ex (sym e ∙ ey))
+    unread-aligned at b c t v e same =
+        let u = unreadable (item at (b ∷ t)) e in rw (ap (item at) same, u .1) (shut at (u .0) (b ∷ t) (c ∷ v))
 
     -- from a place on, the documents differ in values of these items alone
     abbrev Differ : ℕ → List Placed → Type 0
@@ -150,7 +152,7 @@ module _ (name : List ℕ) where
         rw (read-same at b c t v long ex ey d j e)
         (pair at (item at (b ∷ t)) (b ∷ t) (c ∷ v) ex ey (says at b c t v long ex ey d j)
         (align t v (omega arith) (pred (itemEnd (item at (b ∷ t)))) (suc at) (tail-of x at b t ex) (tail-of y at c v ey) (behind at b c t v long ex ey d j e) (j .1 e))))
-        (λ e. unread-aligned at (b ∷ t) (c ∷ v) (unread-same at b c t v long ex ey d j e) ex ey)
+        (λ e. unread-aligned at b c t v e (unread-same at b c t v long ex ey d j e))
         (refused-two (item at (b ∷ t)))
 
 pub record SameItems (name : List ℕ) (R : List ℕ → List ℕ → Type 0) (x y : List ℕ) : Type 0 where

@@ -1,8 +1,8 @@
 -- "Two documents of equal length that differ only in digits of readable Qty values get the same answer, place, counts and note, and the same cells but
 -- for the amounts of accepted intervals whose own digits differ." Assumes nothing.
-use Prim.Native.Nat.{ℕ, zero, suc, pred, _+_, _≤_, _<_}
+use Prim.Native.Nat.{ℕ, zero, suc, _+_, _≤_, _<_}
 use mathlib.Core.Path.{_≡_, refl, sym, ap, _∙_}
-use mathlib.Core.List.{List, [], _∷_, map}
+use mathlib.Core.List.{List, map}
 use mathlib.Core.Bool.{Bool, true, false, cond}
 use mathlib.Core.Logic.{_⊎_, inl, inr, ⊎-elim}
 use native.Mathlib.Omega.{arith}
@@ -21,7 +21,6 @@ use Rattle.slices.specs.declared.Span.{Span}
 use Rattle.trims.specs.Trim.{dropLead, dropTrail, dropped}
 use Rattle.numbers.specs.Digits.{digits}
 use Rattle.numbers.specs.Amount.{minus, unsigned, unsignedForm, writtenAmount, amountOf}
-use Rattle.items.specs.Item.{item, itemEnd}
 use Rattle.prolog.specs.Prolog.{begin}
 use Rattle.prolog.specs.declared.Begin.{Begin}
 use Rattle.prolog.specs.declared.Begin.the-variants.{From, Misdeclared}
@@ -30,7 +29,7 @@ use Rattle.states.specs.Moves.{begun}
 use Rattle.states.specs.declared.Entry.the-variants.{Amount}
 use Rattle.numbers.specs.Alike.{Alike}
 use Rattle.digits.proofs.Chars.{digits-unseen}
-use Rattle.reader.specs.Items.{itemsAfter, itemsFrom}
+use Rattle.reader.specs.Items.{itemsFrom}
 use Rattle.reader.specs.Rows.{quoted, thousandthsOf}
 use Rattle.reader.specs.Reading.{Tables, Out, blank, roomOf, refusedAt, readAfter, readInto, orBlank, readSheet}
 use Rattle.reader.specs.declared.Answer.{Answer}
@@ -44,11 +43,10 @@ use Rattle.blindness.proofs.Order.{order}
 use Rattle.blindness.specs.Blind.{amountCell, source, OwnDigitsDiffer, SameButAmounts}
 use Rattle.blindness.proofs.Pairs.{list-cases}
 use Rattle.blindness.specs.Replaced.{Replaced}
-use Rattle.blindness.proofs.Aligned.{tail-of}
 use Rattle.blindness.proofs.Mixed.{between, first-replaced, second-replaced}
 use Rattle.blindness.proofs.Steps.{qty-kinds}
 use Rattle.blindness.proofs.Shown.{amounts-tabled}
-use Rattle.blindness.proofs.Runs.{Parts, run-said}
+use Rattle.blindness.proofs.Runs.{parts-after, run-said}
 use Rattle.blindness.proofs.Told.{itemsOut, items-read, SameTold, told-join, replaced-same}
 
 -- ---- the amounts of a document are those at their sources
@@ -64,13 +62,6 @@ map-same f (suc n) a b e = rw (e, map-same f n a b e)
 none-said : (doc : List ℕ) (na : ℕ) → noAmounts na ≡ map (amountAt doc) (unsourced na)
 unfolding unsourced
 none-said doc na = sym (map-same (amountAt doc) na absent (pos 0) (nothing-said doc))
-
--- each item is read from its place on
-parts-after : (doc l : List ℕ) (k at : ℕ) → l ≡ drop at doc → Parts doc (itemsAfter k at l)
-unfolding itemsAfter Parts
-parts-after doc [] k at e = tt
-parts-after doc (b ∷ t) (suc k) at e = parts-after doc t k (suc at) (tail-of doc at b t e)
-parts-after doc (b ∷ t) zero at e = (e, parts-after doc t (pred (itemEnd (item at (b ∷ t)))) (suc at) (tail-of doc at b t e))
 
 module _ (doc : List ℕ) (ns np na : ℕ) where
   into-said : (b : Begin) → readAfter doc (blank ns np na) b .tables .amounts ≡ map (amountAt doc) (sourcesFrom doc ns np na b)

@@ -1,7 +1,7 @@
 -- How many Qty were passed follows from the state: as many as intervals were started, but for one that is still to come. Assumes nothing.
-use Prim.Native.Nat.{ℕ, zero, suc, _+_, _<_, _≤_}
+use Prim.Native.Nat.{ℕ, suc, _+_, _<_, _≤_}
 use mathlib.Core.Path.{_≡_, refl, sym, ap, _∙_}
-use mathlib.Core.List.{List, [], _∷_}
+use mathlib.Core.List.{List}
 use mathlib.Core.Bool.{Bool, true, false, cond, not}
 use mathlib.Core.Logic.{⊎-elim}
 use native.Mathlib.Omega.{arith}
@@ -10,7 +10,7 @@ use lib.ListN.{length, getD}
 use borrow.Author.Tests.{eq-eqb, ne-eqb, eqb-true, not-true}
 use Rattle.lists.proofs.Cases.{bool-cases, by-cond, eqb-cases, zero-not-one}
 use Rattle.slices.specs.Same.{same}
-use Rattle.slices.proofs.Sames.{same-equal}
+use Rattle.slices.proofs.Sames.{same-self, same-equal}
 use Rattle.slices.specs.Text.{text}
 use Rattle.slices.specs.Part.{partOf}
 use Rattle.elements.specs.Names.{names, numberIn, elementNo}
@@ -36,7 +36,8 @@ use Rattle.states.specs.declared.Step.{Step}
 use Rattle.states.specs.declared.Step.the-variants.{Next, Refused}
 use Rattle.states.proofs.Judgements.{judged-passed, interval-room, one-more}
 use Rattle.blindness.specs.Readable.{tagNamed, namedQty}
-use Rattle.blindness.proofs.Steps.{row-named, row-role}
+use Rattle.blindness.proofs.Names.{name-one}
+use Rattle.blindness.proofs.Steps.{brought-role, row-named, qty-row, qty-name, qty-known}
 use Rattle.blindness.proofs.Tables.{waits, due, all-tested, waits-other, start-due, row-facts, end-waits}
 
 -- the document as a whole waits for no Qty
@@ -104,20 +105,7 @@ unfolding kept
 kept-interval p w j h = rw h
 
 not-amount : (role p : ℕ) → (role ≡ 10 → ⊥) → entryOf role p ≡ Amount → ⊥
-unfolding entryOf
-not-amount role p h =
-    rw (ne-eqb role 10 h)
-    (by-cond P (eqb role 2) (λ z. zero-not-one (cc))
-    (by-cond P (eqb role 4) (λ z. zero-not-one (cc))
-    (by-cond P (eqb role 6) (λ z. zero-not-one (cc))
-    (by-cond P (eqb role 7) (λ z. zero-not-one (cc))
-    (by-cond P (eqb role 8) (λ z. zero-not-one (cc))
-    (by-cond P (eqb role 9) (λ z. zero-not-one (cc))
-    (by-cond P (eqb role 11) (λ z. zero-not-one (cc))
-    (by-cond P (eqb role 12) (λ z. zero-not-one (cc)) (λ z. zero-not-one (cc))))))))))
-  where
-    P : Entry → Type 0
-    P e = e ≡ Amount → ⊥
+not-amount role p h z = h (brought-role role p Amount (λ q. zero-not-one (cc)) z)
 
 is-amount : (role p : ℕ) → role ≡ 10 → entryOf role p ≡ Amount
 unfolding entryOf
@@ -128,46 +116,17 @@ unfolding cutShort
 not-short true rows r e h = let z : _≡_ {A = Bool} true false = rw e at h in absurd (zero-not-one (cc))
 not-short false rows r e h = refl
 
--- ---- the number of a name
-
-number-in : (n : List ℕ) (ws : List (List ℕ)) (k j : ℕ) → 1 ≤ k → numberIn n k ws ≡ k + j → same n (getD ws j []) ≡ true
-unfolding numberIn
-number-in n [] k j l e = absurd (omega (arith, e, l))
-number-in n (w ∷ ws) k zero l e =
-    ⊎-elim
-    (λ y. y)
-    (λ y. let z : numberIn n (k + 1) ws ≡ k + 0 = rw y at e in absurd (beyond ws (k + 1) k (omega arith) l (z ∙ (let u : k + 0 ≡ k = omega arith in u))))
-    (bool-cases (same n w))
-  where
-    beyond : (ws : List (List ℕ)) (k m : ℕ) → m < k → 1 ≤ m → numberIn n k ws ≡ m → ⊥
-    beyond [] k m a b h = omega (arith, h, b)
-    beyond (w ∷ ws) k m a b h =
-        ⊎-elim
-        (λ y. let z : k ≡ m = rw y at h in omega (arith, z, a))
-        (λ y. beyond ws (k + 1) m (omega arith) b (rw y at h))
-        (bool-cases (same n w))
-number-in n (w ∷ ws) k (suc j) l e =
-    ⊎-elim
-    (λ y. let z : k ≡ k + suc j = rw y at e in absurd (omega (arith, z)))
-    (λ y. let z : numberIn n (k + 1) ws ≡ k + suc j = rw y at e in number-in n ws (k + 1) j (omega arith) (z ∙ (let u : k + suc j ≡ k + 1 + j = omega arith in u)))
-    (bool-cases (same n w))
-
--- Qty is the only name with its number
-named : (n : List ℕ) → elementNo n ≡ elementNo (text "Qty") → same n (text "Qty") ≡ true
-unfolding elementNo numberIn names same
-named n e = number-in n names 1 30 (omega arith) e
-
 -- whether a tag is named Qty is told by the row that it takes
-role-told : (kind : ℕ) (n : List ℕ) (r : ℕ) → r < length (rowsOf kind) → nameOf (getD (rowsOf kind) r 0) ≡ elementNo n
-    → same n (text "Qty") ≡ eqb (roleOf (getD (rowsOf kind) r 0)) 10
-role-told kind n r l e =
+role-told : (kind : ℕ) (n : List ℕ) (r : ℕ) → nameOf (getD (rowsOf kind) r 0) ≡ elementNo n → same n (text "Qty") ≡ eqb (roleOf (getD (rowsOf kind) r 0)) 10
+role-told kind n r e =
     let w = getD (rowsOf kind) r 0 in
     ⊎-elim
-    (λ y. y ∙ sym (eq-eqb (roleOf w) 10 (row-role kind r (e ∙ ap elementNo (same-equal n (text "Qty") y)))))
+    (λ y. y ∙ sym (eq-eqb (roleOf w) 10 (qty-row kind r (e ∙ ap elementNo (same-equal n (text "Qty") y)) .role-is)))
     (λ y.
     ⊎-elim
     (λ u.
-    let z : _≡_ {A = Bool} false true = sym y ∙ named n (sym e ∙ row-facts (rowsOf kind) (all-tested kind) r l .qty (u .0)) in
+    let q = name-one n (text "Qty") (sym e ∙ qty-name kind r (u .0)) qty-known in
+    let z : _≡_ {A = Bool} false true = sym y ∙ ap (λ (m : List ℕ). same m (text "Qty")) q ∙ same-self (text "Qty") in
     absurd (zero-not-one (cc)))
     (λ u. y ∙ sym (u .1))
     (eqb-cases (roleOf w) 10))
@@ -251,7 +210,7 @@ module _ (x : State) (kind : ℕ) (room : Room) (c : ℕ)
           let w = getD rows q 0 in
           let l = row-inside rows (x .row) (x .inside) (elementNo (partOf s 1 (t .name))) q z in
           let fact = start-due rows (all-tested kind) (x .row) (x .inside) (elementNo (partOf s 1 (t .name))) q z in
-          let told = eb ∙ role-told kind (partOf s 1 (t .name)) q l (row-named rows (x .row) (x .inside) (elementNo (partOf s 1 (t .name))) q z) in
+          let told = eb ∙ role-told kind (partOf s 1 (t .name)) q (row-named rows (x .row) (x .inside) (elementNo (partOf s 1 (t .name))) q z) in
           let j = startJudged x kind rows q t s empty room in
           ⊎-elim
           (λ y.

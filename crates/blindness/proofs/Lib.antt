@@ -1,3 +1,4 @@
+pub mod Names
 pub mod Pairs
 pub mod Aligned
 pub mod Mixed
@@ -12,3 +13,4 @@ pub mod Order
 pub mod Blind
 pub mod Examples
 pub mod Outcomes
+pub mod Renamed

@@ -1,4 +1,5 @@
--- Two lists of items that are pairwise the same at the same places, and say the same but for the `v` of tags of one name. Assumes nothing.
+-- Two lists of items that are pairwise the same at the same places, up to the first that cannot be read, and say the same but for the `v` of tags of one
+-- name. Assumes nothing.
 use Prim.Native.Nat.{ℕ, _<_}
 use mathlib.Core.Path.{_≡_, refl, sym, _∙_}
 use mathlib.Core.List.{List, [], _∷_}
@@ -8,7 +9,7 @@ use lib.ListN.{length, drop}
 use Rattle.lists.proofs.Cases.{bool-cases, eqb-cases, never, zero-not-one}
 use Rattle.slices.specs.Bytes.{byte}
 use Rattle.slices.specs.Same.{same}
-use Rattle.slices.proofs.Sames.{same-equal}
+use Rattle.slices.proofs.Sames.{same-self, same-equal}
 use Rattle.slices.specs.Part.{partOf}
 use Rattle.items.specs.Item.{item, itemEnd}
 use Rattle.items.specs.declared.Tag.{Tag}
@@ -35,7 +36,7 @@ module _ (name : List ℕ) (R : List ℕ → List ℕ → Type 0) where
   -- a tag says the same in s and in s′, but for its `v` if it bears the name
   pub record TagSays (t : Tag) (s s′ : List ℕ) : Type 0 where
     pub parts : PartsSame t s s′
-    pub v : ((partOf s 1 (t .name) ≡ name) × R (valueIn s (t .v)) (valueIn s′ (t .v))) ⊎ (valueIn s (t .v) ≡ valueIn s′ (t .v))
+    pub v : ((partOf s 1 (t .name) ≡ name) × R (valueIn s (t .v)) (valueIn s′ (t .v))) ⊎ ((partOf s 1 (t .name) ≡ name → ⊥) × (valueIn s (t .v) ≡ valueIn s′ (t .v)))
 
   unfoldable pub Says : Item → List ℕ → List ℕ → Type 0
   Says (Start t) s s′ = TagSays t s s′
@@ -50,18 +51,8 @@ module _ (name : List ℕ) (R : List ℕ → List ℕ → Type 0) where
     over : Aligned x y [] []
     pair : {xs ys : List Placed} (at : ℕ) (i : Item) (s s′ : List ℕ) → s ≡ drop at x → s′ ≡ drop at y → Says i s s′ → Aligned x y xs ys
         → Aligned x y (record { at = at; item = i; rest = s } ∷ xs) (record { at = at; item = i; rest = s′ } ∷ ys)
-
-  tag-itself : (t : Tag) (s : List ℕ) → TagSays t s s
-  tag-itself t s = record { parts = record { name = refl; coding = refl; version = refl; release = refl; message = refl }; v = inr refl }
-
-  pub says-itself : (i : Item) (s : List ℕ) → Says i s s
-  unfolding Says
-  says-itself (Start t) s = tag-itself t s
-  says-itself (Empty t) s = tag-itself t s
-  says-itself (End n e) s = refl
-  says-itself (Text w e) s = tt
-  says-itself (Comment e) s = tt
-  says-itself (Unreadable p) s = tt
+    -- one that cannot be read, and whatever is behind it
+    shut : {xs ys : List Placed} (at p : ℕ) (s s′ : List ℕ) → Aligned x y (record { at = at; item = Unreadable p; rest = s } ∷ xs) (record { at = at; item = Unreadable p; rest = s′ } ∷ ys)
 
   -- s is the part that begins with the item
   module _ (before : ℕ) (s s′ : List ℕ) (long : length s ≡ length s′) where
@@ -74,7 +65,7 @@ module _ (name : List ℕ) (R : List ℕ → List ℕ → Type 0) where
           v =
               ⊎-elim
               (λ e. inl (same-equal (partOf s 1 (t .name)) name e, r e))
-              (λ e. inr (tag-v before s t is s′ long (λ i l. ⊎-elim (λ b. b) (λ z. never (sym e ∙ z .0)) (h i l))))
+              (λ e. inr (λ z. never (sym e ∙ rw z (same-self name)), tag-v before s t is s′ long (λ i l. ⊎-elim (λ b. b) (λ z. never (sym e ∙ z .0)) (h i l))))
               (bool-cases (same (partOf s 1 (t .name)) name));
         }
 
@@ -89,7 +80,7 @@ module _ (name : List ℕ) (R : List ℕ → List ℕ → Type 0) where
     item-says (Unreadable p) e h r = tt
 
   tag-joins : (t : Tag) (s s′ : List ℕ) → TagSays t s s′ → Or R (valueIn s (t .v)) (valueIn s′ (t .v))
-  tag-joins t s s′ p = ⊎-elim (λ z. inr (z .1)) inl (p .v)
+  tag-joins t s s′ p = ⊎-elim (λ z. inr (z .1)) (λ z. inl (z .1)) (p .v)
 
   pub says-joins : (x : Item) (s s′ : List ℕ) → Says x s s′ → JoinsV (Or R) x s s′
   unfolding Says JoinsV

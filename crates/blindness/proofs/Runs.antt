@@ -1,6 +1,6 @@
 -- Aligned items come to the same answer, the same series and positions, and the same sources of amounts; and each amount is the one at its source.
 -- Assumes nothing.
-use Prim.Native.Nat.{ℕ, zero, suc, _+_, _-_}
+use Prim.Native.Nat.{ℕ, zero, suc, pred, _+_, _-_}
 use mathlib.Core.Path.{_≡_, refl, sym, ap, _∙_}
 use mathlib.Core.List.{List, [], _∷_, map}
 use lib.IntN.{ℤ}
@@ -8,22 +8,25 @@ use lib.ListN.{length, drop, set}
 use Rattle.lists.proofs.Cases.{past-cond, zero-not-one}
 use Rattle.slices.specs.declared.Span.{Span}
 use Rattle.items.specs.Parts.{spanOf}
+use Rattle.items.specs.Item.{item, itemEnd}
 use Rattle.items.specs.declared.Item.{Item}
-use Rattle.states.specs.Moves.{step}
+use Rattle.items.specs.declared.Item.the-variants.{Unreadable}
+use Rattle.states.specs.Moves.{moved, step}
 use Rattle.states.specs.declared.State.{State}
 use Rattle.states.specs.declared.Room.{Room}
 use Rattle.states.specs.declared.Entry.{Entry}
 use Rattle.states.specs.declared.Entry.the-variants.{Nothing, Series, Identification, Object, BusinessType, Direction, Area, Interval, Position, Amount}
 use Rattle.states.specs.declared.Step.{Step}
 use Rattle.states.specs.declared.Step.the-variants.{Next, Refused}
-use Rattle.reader.specs.Items.{Placed}
+use Rattle.reader.specs.Items.{Placed, itemsAfter}
 use Rattle.reader.specs.Rows.{broughtBy, quoted, amountsWith, seriesAfter, positionsAfter, amountsAfter, usedBefore}
 use Rattle.reader.specs.Reading.{tab, Out, withoutUsed, stepOf, tablesAfter, readItems}
 use Rattle.reader.proofs.Ran.{read-next, read-stop}
 use Rattle.blindness.specs.Sources.{amountAt}
 use Rattle.blindness.proofs.Sources.{sourcesAfter, sourcesIn}
-use Rattle.blindness.proofs.Pairs.{Says, Aligned, over, pair}
-use Rattle.blindness.proofs.Steps.{Values, BlindKinds, step-same, step-brings}
+use Rattle.blindness.proofs.Aligned.{tail-of}
+use Rattle.blindness.proofs.Pairs.{Says, Aligned, over, pair, shut}
+use Rattle.blindness.proofs.Steps.{Values, same-value, BlindKinds, step-same, step-brings}
 use Rattle.blindness.proofs.Shown.{Tabled, value-part}
 
 abbrev at-item : ℕ → Item → List ℕ → Placed
@@ -47,11 +50,31 @@ module _ (doc : List ℕ) (room : Room) (p : Placed) (xs : List Placed) (st : St
   unfolding sourcesIn
   sources-stop n q = rw (sourcesIn, q)
 
--- two runs that differ in their amounts alone
-pub record SameOut (o o′ : Out) : Type 0 where
+-- two runs that differ in their amounts alone, and not in these either where that holds
+pub record SameOut (Kept : Type 0) (o o′ : Out) : Type 0 where
   pub found : o .found ≡ o′ .found
   pub series : o .tables .series ≡ o′ .tables .series
   pub positions : o .tables .positions ≡ o′ .tables .positions
+  pub amounts : Kept → o .tables .amounts ≡ o′ .tables .amounts
+
+-- an unreadable item stops the reading
+unread-stop : (doc series : List ℕ) (room : Room) (at p : ℕ) (s : List ℕ) (st : State) → stepOf doc series room (at-item at (Unreadable p) s) st ≡ Refused 2
+unfolding stepOf withoutUsed step moved
+unread-stop doc series room at p s st = refl
+
+-- an amount is brought by the same value
+amounts-same : (v : Span) (s s′ : List ℕ) (st : State) (e : Entry) (t : List ℤ) → (e ≡ Amount → quoted v s ≡ quoted v s′) → amountsAfter v s st e t ≡ amountsAfter v s′ st e t
+unfolding amountsAfter amountsWith broughtBy
+amounts-same v s s′ st Nothing t q = refl
+amounts-same v s s′ st Series t q = refl
+amounts-same v s s′ st Identification t q = refl
+amounts-same v s s′ st Object t q = refl
+amounts-same v s s′ st BusinessType t q = refl
+amounts-same v s s′ st Direction t q = refl
+amounts-same v s s′ st Area t q = refl
+amounts-same v s s′ st Interval t q = refl
+amounts-same v s s′ st (Position p) t q = refl
+amounts-same v s s′ st Amount t q = rw (q refl)
 
 module _ (name : List ℕ) (R : List ℕ → List ℕ → Type 0) (brought : Entry) (rows : BlindKinds name R brought) (x y : List ℕ) (shown : Tabled R brought x y) where
   -- a pair of items
@@ -74,11 +97,30 @@ module _ (name : List ℕ) (R : List ℕ → List ℕ → Type 0) (brought : Ent
     pair-shown : (st′ : State) (e : Entry) → stepOf x ser room (at-item at i s) st ≡ Next st′ e → shown .Shows (seriesAfter at (spanOf i) s st′ e ser)
     pair-shown st′ e z = shown .next at (spanOf i) s s′ st′ e ser ex ey h (pair-brings st′ e z)
 
+    pair-amounts : (st′ : State) (e : Entry) → stepOf x ser room (at-item at i s) st ≡ Next st′ e → (brought ≡ Amount → ⊥)
+        → {ax ay : List ℤ} → ax ≡ ay → amountsAfter (spanOf i) s st′ e ax ≡ amountsAfter (spanOf i) s′ st′ e ay
+    pair-amounts st′ e z other {ax} {ay} same =
+        rw same (amounts-same (spanOf i) s s′ st′ e ay (λ am. same-value (λ b. other (sym b ∙ am)) (pair-brings st′ e z)))
+
   module _ (room : Room) where
+    -- where the amounts were the same, and others than these are brought, they still are
     abbrev Runs : List Placed → List Placed → State → List ℕ → List ℕ → List ℤ → List ℤ → List Span → Type 0
     Runs xs ys st ser pos ax ay so =
-        SameOut (readItems x room xs st (tab ser pos ax)) (readItems y room ys st (tab ser pos ay))
+        SameOut ((brought ≡ Amount → ⊥) × (ax ≡ ay)) (readItems x room xs st (tab ser pos ax)) (readItems y room ys st (tab ser pos ay))
         × (sourcesIn x room xs st ser so ≡ sourcesIn y room ys st ser so)
+
+    -- both stop
+    run-stop : (xs ys : List Placed) (p q : Placed) → p .at ≡ q .at → (st : State) (ser pos : List ℕ) (ax ay : List ℤ) (so : List Span) (n : ℕ)
+        → stepOf x ser room p st ≡ Refused n → stepOf y ser room q st ≡ Refused n → Runs (p ∷ xs) (q ∷ ys) st ser pos ax ay so
+    run-stop xs ys p q at st ser pos ax ay so n z z′ =
+        rw (
+          read-stop x room p xs st (tab ser pos ax) n z,
+          read-stop y room q ys st (tab ser pos ay) n z′,
+          sources-stop x room p xs st ser so n z,
+          sources-stop y room q ys st ser so n z′,
+          at,
+        )
+        (record { found = refl; series = refl; positions = refl; amounts = λ k. k .1 }, refl)
 
     module _ (xs ys : List Placed) (at : ℕ) (i : Item) (s s′ : List ℕ) (ex : s ≡ drop at x) (ey : s′ ≡ drop at y) (p : Says name R i s s′)
         (st : State) (ser pos : List ℕ) (ax ay : List ℤ) (so : List Span) (h : shown .Shows ser)
@@ -94,22 +136,25 @@ module _ (name : List ℕ) (R : List ℕ → List ℕ → Type 0) (brought : Ent
             sources-next y room (at-item at i s′) ys st ser so st′ e z′,
             ← shown .after at (spanOf i) s s′ st′ e ser (pair-brings at i s s′ ex ey p room st ser h st′ e z),
           )
-          (ih st′ (seriesAfter at (spanOf i) s st′ e ser) (positionsAfter st′ e pos) (amountsAfter (spanOf i) s st′ e ax) (amountsAfter (spanOf i) s′ st′ e ay)
-          (sourcesAfter at (spanOf i) st′ e so) (pair-shown at i s s′ ex ey p room st ser h st′ e z))
-      run-pair (Refused n) z =
-          let z′ = sym (pair-step at i s s′ ex ey p room st ser h) ∙ z in
-          rw (
-            read-stop x room (at-item at i s) xs st (tab ser pos ax) n z,
-            read-stop y room (at-item at i s′) ys st (tab ser pos ay) n z′,
-            sources-stop x room (at-item at i s) xs st ser so n z,
-            sources-stop y room (at-item at i s′) ys st ser so n z′,
-          )
-          (record { found = refl; series = refl; positions = refl }, refl)
+          (let r = ih st′ (seriesAfter at (spanOf i) s st′ e ser) (positionsAfter st′ e pos) (amountsAfter (spanOf i) s st′ e ax) (amountsAfter (spanOf i) s′ st′ e ay)
+          (sourcesAfter at (spanOf i) st′ e so) (pair-shown at i s s′ ex ey p room st ser h st′ e z) in (
+            record {
+              found = r .0 .found;
+              series = r .0 .series;
+              positions = r .0 .positions;
+              amounts = λ k. r .0 .amounts (k .0, pair-amounts at i s s′ ex ey p room st ser h st′ e z (k .0) (k .1));
+            },
+            r .1,
+          ))
+      run-pair (Refused n) z = run-stop xs ys (at-item at i s) (at-item at i s′) refl st ser pos ax ay so n z (sym (pair-step at i s s′ ex ey p room st ser h) ∙ z)
 
     pub run-same : length x ≡ length y → {xs ys : List Placed} → Aligned name R x y xs ys
         → (st : State) (ser pos : List ℕ) (ax ay : List ℤ) (so : List Span) → shown .Shows ser → Runs xs ys st ser pos ax ay so
     unfolding readItems sourcesIn
-    run-same long over st ser pos ax ay so h = (record { found = rw long; series = refl; positions = refl }, refl)
+    run-same long over st ser pos ax ay so h = (record { found = rw long; series = refl; positions = refl; amounts = λ k. k .1 }, refl)
+    run-same long (shut {xs} {ys} at p s s′) st ser pos ax ay so h =
+        run-stop xs ys (at-item at (Unreadable p) s) (at-item at (Unreadable p) s′) refl st ser pos ax ay so 2
+        (unread-stop x ser room at p s st) (unread-stop y ser room at p s′ st)
     run-same long (pair {xs} {ys} at i s s′ ex ey p r) st ser pos ax ay so h =
         run-pair xs ys at i s s′ ex ey p st ser pos ax ay so h (λ st′ ser′ pos′ ax′ ay′ so′ h′. run-same long r st′ ser′ pos′ ax′ ay′ so′ h′)
         (stepOf x ser room (at-item at i s) st) refl
@@ -140,6 +185,12 @@ amounts-after doc at s q v st Amount so =
 unfoldable pub Parts : List ℕ → List Placed → Type 0
 Parts doc [] = Unit {0}
 Parts doc (p ∷ xs) = (p .rest ≡ drop (p .at) doc) × Parts doc xs
+
+pub parts-after : (doc l : List ℕ) (k at : ℕ) → l ≡ drop at doc → Parts doc (itemsAfter k at l)
+unfolding itemsAfter Parts
+parts-after doc [] k at e = tt
+parts-after doc (b ∷ t) (suc k) at e = parts-after doc t k (suc at) (tail-of doc at b t e)
+parts-after doc (b ∷ t) zero at e = (e, parts-after doc t (pred (itemEnd (item at (b ∷ t)))) (suc at) (tail-of doc at b t e))
 
 module _ (doc : List ℕ) (room : Room) where
   said-next : (p : Placed) (xs : List Placed) (st : State) (ser pos : List ℕ) (so : List Span) → p .rest ≡ drop (p .at) doc

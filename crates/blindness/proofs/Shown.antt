@@ -1,6 +1,6 @@
--- What the series table shows in two documents goes together, from row to row; where amounts differ, it is the same. Assumes nothing.
+-- What the series table shows in two documents goes together, from row to row. Assumes nothing.
 use Prim.Native.Nat.{ℕ, zero, suc, _+_, _-_, _≤_, _<_}
-use mathlib.Core.Path.{_≡_, refl, sym, ap, _∙_}
+use mathlib.Core.Path.{_≡_, refl, ap}
 use mathlib.Core.List.{List, []}
 use mathlib.Core.Logic.{_⊎_, inl, inr, ⊎-elim}
 use native.Mathlib.Omega.{arith}
@@ -9,6 +9,7 @@ use lib.Seq.{drop-drop, getD-set-other}
 use Rattle.lists.specs.Zeros.{zeros}
 use Rattle.lists.proofs.Cases.{eqb-cases, ltb-cases, zero-not-one}
 use Rattle.slices.specs.Part.{partOf}
+use Rattle.slices.specs.Same.{same}
 use Rattle.slices.specs.Run.{run}
 use Rattle.trims.specs.Trim.{space, dropped}
 use Rattle.slices.specs.declared.Span.{Span}
@@ -21,7 +22,7 @@ use Rattle.series.specs.declared.Field.{Field}
 use Rattle.series.specs.declared.Field.the-variants.{Identification, Object, BusinessType, Direction, Area, FirstRow, Count}
 use Rattle.series.proofs.Rows.{view-set, view-as, view-shown, view-kept}
 use Rattle.reader.specs.Rows.{broughtBy, quoted, fieldAfter, seriesWith, seriesAfter, used, usedIn, usedWith, usedBefore}
-use Rattle.blindness.proofs.Steps.{Values}
+use Rattle.blindness.proofs.Steps.{Values, same-value}
 
 -- What a value that is brought does to the series table, in x and in y, where R joins the two values.
 pub record Tabled (R : List ℕ → List ℕ → Type 0) (brought : Entry) (x y : List ℕ) : Type 1 where
@@ -42,7 +43,7 @@ pub value-part : (doc : List ℕ) (at : ℕ) (s : List ℕ) (v : Span) → s ≡
 unfolding quoted partOf
 value-part doc at s v e = rw e (ap (take (v .len)) (drop-drop (v .start) at doc))
 
--- ---- amounts: each row shows the same identification in x and in y
+-- ---- the identifications that the rows show in x and in y, a pair for each row
 
 zero-cell : (n k : ℕ) → getD (zeros n) k 0 ≡ 0
 zero-cell zero k = refl
@@ -61,39 +62,39 @@ unfolding view partOf
 row-short doc t start len i h =
     rw (List·getD-eq-default (withView t i Identification start len) 0 {n = cellAt i Identification + 1} (rw (view-set t i Identification start len .size) h))
 
-module _ (x y : List ℕ) where
-  -- each row shows the same identification in x and in y
-  abbrev Shown : List ℕ → Type 0
-  Shown t = (i : ℕ) → view x t i Identification ≡ view y t i Identification
+-- P holds of each pair, and of none and none
+module _ (x y : List ℕ) (P : List ℕ → List ℕ → Type 0) (empty : P [] []) where
+  abbrev pub Shown : List ℕ → Type 0
+  Shown t = (i : ℕ) → P (view x t i Identification) (view y t i Identification)
 
-  shown-none : (n : ℕ) → Shown (zeros n)
+  pub shown-none : (n : ℕ) → Shown (zeros n)
   unfolding view partOf
-  shown-none n i = rw (zero-cell n (cellAt i Identification + 1))
+  shown-none n i = rw (zero-cell n (cellAt i Identification + 1)) empty
 
   -- a store into a later field of a row
   shown-field : (t : List ℕ) (n : ℕ) (f : Field) (v : ℕ) → 2 ≤ cellOf f → cellOf f < rowWidth → Shown t → Shown (withField t n f v)
-  shown-field t n f v low high h i = kept x ∙ h i ∙ sym (kept y)
+  shown-field t n f v low high h i = rw (kept x, kept y) (h i)
     where
       kept : (doc : List ℕ) → view doc (withField t n f v) i Identification ≡ view doc t i Identification
       kept doc = row-kept doc t (cellAt n f) v i (λ e. omega (arith, e)) (λ e. omega (arith, e))
 
   -- another view
   shown-view : (t : List ℕ) (n : ℕ) (f : Field) (start len : ℕ) → 2 ≤ cellOf f → cellOf f + 1 < rowWidth → Shown t → Shown (withView t n f start len)
-  shown-view t n f start len low high h i = kept x ∙ h i ∙ sym (kept y)
+  shown-view t n f start len low high h i = rw (kept x, kept y) (h i)
     where
       kept : (doc : List ℕ) → view doc (withView t n f start len) i Identification ≡ view doc t i Identification
       kept doc = view-kept doc t n f start len i Identification (λ e. omega (arith, e)) (λ e. omega (arith, e)) (λ e. omega (arith, e))
 
-  -- the view of an identification that is the same in both
-  shown-row : (t : List ℕ) (n start len : ℕ) → Shown t → partOf x start len ≡ partOf y start len → Shown (withView t n Identification start len)
+  -- the view of an identification
+  shown-row : (t : List ℕ) (n start len : ℕ) → Shown t → P (partOf x start len) (partOf y start len) → Shown (withView t n Identification start len)
   shown-row t n start len h e i =
       ⊎-elim
       (λ q. rw (q .0)
       (⊎-elim
-      (λ l. view-shown x t n Identification start len (l .0) ∙ e ∙ sym (view-shown y t n Identification start len (l .0)))
-      (λ l. row-short x t start len n (l .0) ∙ sym (row-short y t start len n (l .0)))
+      (λ l. rw (view-shown x t n Identification start len (l .0), view-shown y t n Identification start len (l .0)) e)
+      (λ l. rw (row-short x t start len n (l .0), row-short y t start len n (l .0)) empty)
       (ltb-cases (cellAt n Identification + 1) (length t))))
-      (λ q. other (q .0) x ∙ h i ∙ sym (other (q .0) y))
+      (λ q. rw (other (q .0) x, other (q .0) y) (h i))
       (eqb-cases i n)
     where
       other : (i ≡ n → ⊥) → (doc : List ℕ) → view doc (withView t n Identification start len) i Identification ≡ view doc t i Identification
@@ -102,7 +103,7 @@ module _ (x y : List ℕ) where
 
   -- v is where the value of the item at the place `at` stands
   shown-after : (at : ℕ) (v : Span) (s : List ℕ) (st : State) (e : Entry) (t : List ℕ) → Shown t
-      → (e ≡ BringsIdentification → partOf x (at + v .start) (v .len) ≡ partOf y (at + v .start) (v .len)) → Shown (seriesAfter at v s st e t)
+      → (e ≡ BringsIdentification → P (partOf x (at + v .start) (v .len)) (partOf y (at + v .start) (v .len))) → Shown (seriesAfter at v s st e t)
   unfolding seriesAfter seriesWith broughtBy fieldAfter
   shown-after at v s st Nothing t h p = h
   shown-after at v s st BringsIdentification t h p = shown-row t (st .series - 1) (at + v .start) (v .len) h (p refl)
@@ -117,55 +118,55 @@ module _ (x y : List ℕ) where
   shown-after at v s st (Position q) t h p = h
   shown-after at v s st Amount t h p = h
 
-  used-same : (t : List ℕ) → Shown t → (n : ℕ) (id : List ℕ) → used x t n id ≡ used y t n id
+  -- and the next one
+  pub shown-next : (at : ℕ) (v : Span) (s s′ : List ℕ) (st : State) (e : Entry) (t : List ℕ) → s ≡ drop at x → s′ ≡ drop at y → Shown t
+      → (e ≡ BringsIdentification → P (quoted v s) (quoted v s′)) → Shown (seriesAfter at v s st e t)
+  shown-next at v s s′ st e t ex ey h p = shown-after at v s st e t h (λ id. rw (← value-part x at s v ex, ← value-part y at s′ v ey) (p id))
+
+  used-same : (t : List ℕ) → Shown t → (n : ℕ) (id id′ : List ℕ) → ((a b : List ℕ) → P a b → same a id ≡ same b id′) → used x t n id ≡ used y t n id′
   unfolding used
-  used-same t h zero id = refl
-  used-same t h (suc n) id = rw (h n, used-same t h n id)
+  used-same t h zero id id′ p = refl
+  used-same t h (suc n) id id′ p = rw (p (view x t n Identification) (view y t n Identification) (h n), used-same t h n id id′ p)
 
-  module _ (R : List ℕ → List ℕ → Type 0) where
-    same-used : (v : Span) (s s′ t : List ℕ) → Shown t → (n : ℕ) (e : Entry) → Values R Amount e (quoted v s) (quoted v s′)
-        → usedBefore x t v s n e ≡ usedBefore y t v s′ n e
-    unfolding usedBefore usedWith broughtBy usedIn
-    same-used v s s′ t h n Nothing q = refl
-    same-used v s s′ t h n Series q = refl
-    same-used v s s′ t h n BringsIdentification (inl e) = let z = e .0 in absurd (zero-not-one (cc))
-    same-used v s s′ t h n BringsIdentification (inr e) = rw e (used-same t h (n - 1) (quoted v s′))
-    same-used v s s′ t h n BringsObject q = refl
-    same-used v s s′ t h n BringsBusinessType q = refl
-    same-used v s s′ t h n BringsDirection q = refl
-    same-used v s s′ t h n BringsArea q = refl
-    same-used v s s′ t h n Interval q = refl
-    same-used v s s′ t h n (Position p) q = refl
-    same-used v s s′ t h n Amount q = refl
+  pub same-used : (v : Span) (s s′ t : List ℕ) → Shown t → (n : ℕ) (e : Entry)
+      → (e ≡ BringsIdentification → (a b : List ℕ) → P a b → same a (quoted v s) ≡ same b (quoted v s′)) → usedBefore x t v s n e ≡ usedBefore y t v s′ n e
+  unfolding usedBefore usedWith broughtBy usedIn
+  same-used v s s′ t h n Nothing p = refl
+  same-used v s s′ t h n Series p = refl
+  same-used v s s′ t h n BringsIdentification p = used-same t h (n - 1) (quoted v s) (quoted v s′) (p refl)
+  same-used v s s′ t h n BringsObject p = refl
+  same-used v s s′ t h n BringsBusinessType p = refl
+  same-used v s s′ t h n BringsDirection p = refl
+  same-used v s s′ t h n BringsArea p = refl
+  same-used v s s′ t h n Interval p = refl
+  same-used v s s′ t h n (Position q) p = refl
+  same-used v s s′ t h n Amount p = refl
 
-    same-after : (at : ℕ) (v : Span) (s s′ : List ℕ) (st : State) (e : Entry) (t : List ℕ) → Values R Amount e (quoted v s) (quoted v s′)
-        → seriesAfter at v s st e t ≡ seriesAfter at v s′ st e t
-    unfolding seriesAfter seriesWith broughtBy fieldAfter
-    same-after at v s s′ st Nothing t q = refl
-    same-after at v s s′ st Series t q = refl
-    same-after at v s s′ st BringsIdentification t q = refl
-    same-after at v s s′ st BringsObject t q = refl
-    same-after at v s s′ st BringsBusinessType t (inl e) = let z = e .0 in absurd (zero-not-one (cc))
-    same-after at v s s′ st BringsBusinessType t (inr e) = rw e
-    same-after at v s s′ st BringsDirection t (inl e) = let z = e .0 in absurd (zero-not-one (cc))
-    same-after at v s s′ st BringsDirection t (inr e) = rw e
-    same-after at v s s′ st BringsArea t q = refl
-    same-after at v s s′ st Interval t q = refl
-    same-after at v s s′ st (Position p) t q = refl
-    same-after at v s s′ st Amount t q = refl
+-- of a BusinessType and a Direction the row knows how many spaces stand around them
+pub same-after : (at : ℕ) (v : Span) (s s′ : List ℕ) (st : State) (e : Entry) (t : List ℕ)
+    → ((e ≡ BringsBusinessType) ⊎ (e ≡ BringsDirection) → quoted v s ≡ quoted v s′) → seriesAfter at v s st e t ≡ seriesAfter at v s′ st e t
+unfolding seriesAfter seriesWith broughtBy fieldAfter
+same-after at v s s′ st Nothing t q = refl
+same-after at v s s′ st Series t q = refl
+same-after at v s s′ st BringsIdentification t q = refl
+same-after at v s s′ st BringsObject t q = refl
+same-after at v s s′ st BringsBusinessType t q = rw (q (inl refl))
+same-after at v s s′ st BringsDirection t q = rw (q (inr refl))
+same-after at v s s′ st BringsArea t q = refl
+same-after at v s s′ st Interval t q = refl
+same-after at v s s′ st (Position p) t q = refl
+same-after at v s s′ st Amount t q = refl
 
-    pub amounts-tabled : Tabled R Amount x y
-    amounts-tabled =
-        record {
-          Shows = Shown;
-          none = shown-none;
-          next = λ at v s s′ st e t ex ey h q.
-              shown-after at v s st e t h
-              (λ id.
-              ⊎-elim
-              (λ z. let am = z .0 in absurd (zero-not-one (cc)))
-              (λ z. sym (value-part x at s v ex) ∙ z ∙ value-part y at s′ v ey)
-              q);
-          used = same-used;
-          after = same-after;
-        }
+-- ---- the first use: where amounts differ, each row shows the same identification in x and in y
+
+pub amounts-tabled : (x y : List ℕ) (R : List ℕ → List ℕ → Type 0) → Tabled R Amount x y
+amounts-tabled x y R =
+    record {
+      Shows = Shown x y _≡_ refl;
+      none = shown-none x y _≡_ refl;
+      next = λ at v s s′ st e t ex ey h q. shown-next x y _≡_ refl at v s s′ st e t ex ey h (λ id. same-value (λ am. zero-not-one (cc)) q);
+      used = λ v s s′ t h n e q.
+          same-used x y _≡_ refl v s s′ t h n e (λ id a b z. let p = same-value (λ am. zero-not-one (cc)) q in rw (z, p));
+      after = λ at v s s′ st e t q.
+          same-after at v s s′ st e t (λ is. same-value (λ am. ⊎-elim (λ b. zero-not-one (cc)) (λ b. zero-not-one (cc)) is) q);
+    }

@@ -11,7 +11,6 @@ use borrow.Author.Tests.{eq-eqb, ne-eqb, lt-ltb, eqb-true, ltb-true, not-true}
 use Rattle.lists.proofs.Below.{every, below}
 use Rattle.lists.proofs.Cases.{eqb-cases, zero-not-one, both-true, where-true}
 use Rattle.slices.specs.Same.{same}
-use Rattle.slices.specs.Text.{text}
 use Rattle.elements.specs.Names.{names, numberIn, elementNo}
 use Rattle.structure.specs.Rows.{nameOf, parentOf, required, repeated, endsIn, endsAtOnce, startOf, endOf}
 use Rattle.structure.specs.declared.Due.the-variants.{Row}
@@ -42,9 +41,8 @@ rowTest rows r w n =
     (cond (cond (eqb (roleOf w) 4) (cond (ltb (r + 1) (length rows)) (cond (eqb (parentOf n) r) (required n) false) false) true)
     (cond (cond (eqb (roleOf w) 9) (cond (ltb (r + 1) (length rows)) (cond (eqb (parentOf n) (parentOf w)) (required n) false) false) true)
     (cond (cond (eqb (roleOf w) 4) (not (endsAtOnce rows r)) true)
-    (cond (cond (eqb (roleOf w) 10) (eqb (nameOf w) (elementNo (text "Qty"))) true)
     (not (waits (getD rows (parentOf w) 0) false))
-    false) false) false) false)
+    false) false) false)
     false
 
 pub tested : List ℕ → Bool
@@ -57,15 +55,14 @@ pub all-tested : (kind : ℕ) → tested (rowsOf kind) ≡ true
 unfolding tested rowTest startTest due waits rowsOf beschaffungsanforderung kostenblatt elementNo numberIn names same nameOf parentOf required repeated endsAtOnce endsIn roleOf
 all-tested = of-table tested refl
 
-six : (a b c d e : Bool) {f : Bool} → cond a (cond b (cond c (cond d (cond e f false) false) false) false) false ≡ true
-    → (a ≡ true) × (b ≡ true) × (c ≡ true) × (d ≡ true) × (e ≡ true) × (f ≡ true)
-six a b c d e h =
+five : (a b c d : Bool) {e : Bool} → cond a (cond b (cond c (cond d e false) false) false) false ≡ true
+    → (a ≡ true) × (b ≡ true) × (c ≡ true) × (d ≡ true) × (e ≡ true)
+five a b c d h =
     let p = both-true a h in
     let q = both-true b (p .1) in
     let r = both-true c (q .1) in
     let s = both-true d (r .1) in
-    let t = both-true e (s .1) in
-    (p .0, q .0, r .0, s .0, t .0, t .1)
+    (p .0, q .0, r .0, s .0, s .1)
 
 three : (a b : Bool) {c : Bool} → cond a (cond b c false) false ≡ true → (a ≡ true) × (b ≡ true) × (c ≡ true)
 three a b h = let p = both-true a h in let q = both-true b (p .1) in (p .0, q .0, q .1)
@@ -133,25 +130,22 @@ module _ (rows : List ℕ) (pass : tested rows ≡ true) where
     pub interval : roleOf (at r) ≡ 4 → Follows r r
     pub position : roleOf (at r) ≡ 9 → Follows r (parentOf (at r))
     pub whole : roleOf (at r) ≡ 4 → endsAtOnce rows r ≡ false
-    pub qty : roleOf (at r) ≡ 10 → nameOf (at r) ≡ elementNo (text "Qty")
     pub parent : waits (at (parentOf (at r))) false ≡ false
 
   pub row-facts : (r : ℕ) → r < length rows → RowFacts r
   unfolding rowTest
   row-facts r l =
-      let f = six
+      let f = five
       (cond (repeated (at r)) (due (roleOf (at r)) (waits (at r) false)) true)
       (cond (eqb (roleOf (at r)) 4) (cond (ltb (r + 1) (length rows)) (cond (eqb (parentOf (at (r + 1))) r) (required (at (r + 1))) false) false) true)
       (cond (eqb (roleOf (at r)) 9) (cond (ltb (r + 1) (length rows)) (cond (eqb (parentOf (at (r + 1))) (parentOf (at r))) (required (at (r + 1))) false) false) true)
       (cond (eqb (roleOf (at r)) 4) (not (endsAtOnce rows r)) true)
-      (cond (eqb (roleOf (at r)) 10) (eqb (nameOf (at r)) (elementNo (text "Qty"))) true)
       (row-test r l) in
       record {
         interval = λ e. follows r r (where-true (eqb (roleOf (at r)) 4) (f .1) (eq-eqb (roleOf (at r)) 4 e));
         position = λ e. follows r (parentOf (at r)) (where-true (eqb (roleOf (at r)) 9) (f .2) (eq-eqb (roleOf (at r)) 9 e));
         whole = λ e. not-true (endsAtOnce rows r) (where-true (eqb (roleOf (at r)) 4) (f .3) (eq-eqb (roleOf (at r)) 4 e));
-        qty = λ e. eqb-true (nameOf (at r)) (elementNo (text "Qty")) (where-true (eqb (roleOf (at r)) 10) (f .4) (eq-eqb (roleOf (at r)) 10 e));
-        parent = not-true (waits (at (parentOf (at r))) false) (f .5);
+        parent = not-true (waits (at (parentOf (at r))) false) (f .4);
       }
 
   -- an element of an Interval that has to come is missing

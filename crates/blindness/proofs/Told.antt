@@ -15,6 +15,7 @@ use Rattle.tables.specs.Cells.{noAmounts}
 use Rattle.states.specs.Moves.{begun}
 use Rattle.states.specs.declared.Room.{Room}
 use Rattle.states.specs.declared.Entry.{Entry}
+use Rattle.states.specs.declared.Entry.the-variants.{Amount}
 use Rattle.reader.specs.Items.{itemsFrom}
 use Rattle.reader.specs.Reading.{tab, Tables, Out, blank, roomOf, roomIn, readItems, itemsRead, readAfter, readInto, orBlank, readSheet}
 use Rattle.reader.specs.Answer.{Outcome, noted, unnoted, readOf}
@@ -39,23 +40,38 @@ module _ (doc : List ℕ) (ns np na : ℕ) where
   unfolding itemsRead blank
   items-read n = ap (λ (r : Room). readItems doc r (itemsFrom doc n) begun (blank ns np na)) (room-blank ns np na)
 
-out-same : {o o′ : Out} → o ≡ o′ → SameOut o o′
-out-same e = record { found = ap (λ (o : Out). o .found) e; series = ap (λ (o : Out). o .tables .series) e; positions = ap (λ (o : Out). o .tables .positions) e }
+module _ {Kept : Type 0} where
+  out-same : {o o′ : Out} → o ≡ o′ → SameOut Kept o o′
+  out-same e =
+      record {
+        found = ap (λ (o : Out). o .found) e;
+        series = ap (λ (o : Out). o .tables .series) e;
+        positions = ap (λ (o : Out). o .tables .positions) e;
+        amounts = λ k. ap (λ (o : Out). o .tables .amounts) e;
+      }
 
-out-trans : {a b c d : Out} → a ≡ b → SameOut b c → d ≡ c → SameOut a d
-out-trans p q r = rw (p, r) q
+  out-trans : {a b c d : Out} → a ≡ b → SameOut Kept b c → d ≡ c → SameOut Kept a d
+  out-trans p q r = rw (p, r) q
+
+  out-under : {More : Type 0} {o o′ : Out} → (Kept → More) → SameOut More o o′ → SameOut Kept o o′
+  out-under f h = record { found = h .found; series = h .series; positions = h .positions; amounts = λ k. h .amounts (f k) }
 
 module _ (ns np na : ℕ) where
-  chosen-same : (t : Bool) (a b : Tables) → a .series ≡ b .series → a .positions ≡ b .positions
-      → (cond t a (blank ns np na) .series ≡ cond t b (blank ns np na) .series) × (cond t a (blank ns np na) .positions ≡ cond t b (blank ns np na) .positions)
-  chosen-same true a b p q = (p, q)
-  chosen-same false a b p q = (refl, refl)
+  -- a column of the tables or of blank ones
+  chosen-same : {A : Type 0} (f : Tables → A) (t : Bool) {a b : Tables} → f a ≡ f b → f (cond t a (blank ns np na)) ≡ f (cond t b (blank ns np na))
+  chosen-same f true p = p
+  chosen-same f false p = refl
 
-  blank-same : {o o′ : Out} → SameOut o o′ → SameOut (orBlank ns np na o) (orBlank ns np na o′)
+  blank-same : {Kept : Type 0} {o o′ : Out} → SameOut Kept o o′ → SameOut Kept (orBlank ns np na o) (orBlank ns np na o′)
   unfolding orBlank
-  blank-same {o} {o′} h =
-      let c = chosen-same (eqb (o′ .found .refusal) 0) (o .tables) (o′ .tables) (h .series) (h .positions) in
-      record { found = h .found; series = rw (h .found) (c .0); positions = rw (h .found) (c .1) }
+  blank-same {o = o} {o′ = o′} h =
+      let t = eqb (o′ .found .refusal) 0 in
+      record {
+        found = h .found;
+        series = rw (h .found) (chosen-same (λ c. c .series) t (h .series));
+        positions = rw (h .found) (chosen-same (λ c. c .positions) t (h .positions));
+        amounts = λ k. rw (h .found) (chosen-same (λ c. c .amounts) t (h .amounts k));
+      }
 
 -- all but the amounts
 pub record SameTold (o o′ : Outcome) : Type 0 where
@@ -72,48 +88,52 @@ pub told-join : {o o′ p : Outcome} → SameTold o p → SameTold o′ p → Sa
 told-join a b =
     record { answer = a .answer ∙ sym (b .answer); note = a .note ∙ sym (b .note); series = a .series ∙ sym (b .series); positions = a .positions ∙ sym (b .positions) }
 
-noted-same : (nb : ℕ) {o o′ : Out} → SameOut o o′ → SameTold (noted nb o) (noted nb o′)
+noted-same : {Kept : Type 0} (nb : ℕ) {o o′ : Out} → SameOut Kept o o′ → SameTold (noted nb o) (noted nb o′)
 unfolding noted
 noted-same nb h = record { answer = rw (h .found); note = rw (h .found); series = h .series; positions = h .positions }
 
 module _ (name : List ℕ) (R : List ℕ → List ℕ → Type 0) (brought : Entry) (unseen : Unseen R) (rows : BlindKinds name R brought) (x y : List ℕ) (shown : Tabled R brought x y)
-    (d : Replaced name R x y) (ns np na nb : ℕ) where
+    (d : Replaced name R x y) (ns np na : ℕ) where
+  -- the amounts too, where others than these are brought
+  abbrev Same : Out → Out → Type 0
+  Same = SameOut (brought ≡ Amount → ⊥)
+
   module _ (h : SameItems name R x y) where
-    runs : SameOut (itemsOut x ns np na (h .from) (noAmounts na)) (itemsOut y ns np na (h .from) (noAmounts na))
+    runs : Same (itemsOut x ns np na (h .from) (noAmounts na)) (itemsOut y ns np na (h .from) (noAmounts na))
         × (sourcesFrom x ns np na (From (h .from)) ≡ sourcesFrom y ns np na (From (h .from)))
     unfolding sourcesFrom
     runs =
-        run-same name R brought rows x y shown (roomOf ns np na) (d .long) (h .items) begun (zeros ns) (zeros np) (noAmounts na) (noAmounts na) (unsourced na) (shown .none ns)
+        let r = run-same name R brought rows x y shown (roomOf ns np na) (d .long) (h .items) begun (zeros ns) (zeros np) (noAmounts na) (noAmounts na) (unsourced na) (shown .none ns) in
+        (out-under (λ k. (k, refl)) (r .0), r .1)
 
-    into-same : SameOut (readInto x (blank ns np na)) (readInto y (blank ns np na))
+    into-same : Same (readInto x (blank ns np na)) (readInto y (blank ns np na))
     unfolding readInto readAfter
     into-same = rw (h .first, h .second) (out-trans (items-read x ns np na (h .from)) (runs .0) (items-read y ns np na (h .from)))
 
-    sheet-same : SameOut (readSheet x ns np na) (readSheet y ns np na)
+    items-same : Same (readSheet x ns np na) (readSheet y ns np na)
     unfolding readSheet
-    sheet-same =
+    items-same =
         rw (d .long)
         (⊎-elim
         (λ l. rw l (out-same refl))
         (λ l. rw l (blank-same ns np na into-same))
         (bool-cases (ltb 1048576 (length y))))
 
-    items-told : SameTold (readOf x ns np na nb) (readOf y ns np na nb)
-    unfolding readOf
-    items-told =
-        ⊎-elim
-        (λ l. rw l (told-itself (unnoted ns np na nb)))
-        (λ l. rw l (noted-same nb sheet-same))
-        (bool-cases (ltb nb 16))
-
     sources-same : sourcesFrom x ns np na (begin x) ≡ sourcesFrom y ns np na (begin y)
     sources-same = rw (h .first, h .second) (runs .1)
 
-  -- and each amount comes from the same place
-  pub replaced-same : SameTold (readOf x ns np na nb) (readOf y ns np na nb) × (sourceTable x ns np na nb ≡ sourceTable y ns np na nb)
-  unfolding sourceTable
-  replaced-same =
+  pub sheets-same : Same (readSheet x ns np na) (readSheet y ns np na) × (sourcesFrom x ns np na (begin x) ≡ sourcesFrom y ns np na (begin y))
+  sheets-same = ⊎-elim (λ e. rw e (out-same refl, refl)) (λ h. (items-same h, sources-same h)) (aligned name unseen x y d)
+
+  sheets-told : (nb : ℕ) → SameTold (readOf x ns np na nb) (readOf y ns np na nb)
+  unfolding readOf
+  sheets-told nb =
       ⊎-elim
-      (λ e. rw e (told-itself (readOf y ns np na nb), refl))
-      (λ h. let t = items-told h in (t, rw (t .answer, sources-same h)))
-      (aligned name unseen x y d)
+      (λ l. rw l (told-itself (unnoted ns np na nb)))
+      (λ l. rw l (noted-same nb (sheets-same .0)))
+      (bool-cases (ltb nb 16))
+
+  -- and each amount comes from the same place
+  pub replaced-same : (nb : ℕ) → SameTold (readOf x ns np na nb) (readOf y ns np na nb) × (sourceTable x ns np na nb ≡ sourceTable y ns np na nb)
+  unfolding sourceTable
+  replaced-same nb = let t = sheets-told nb in (t, rw (t .answer, sheets-same .1))

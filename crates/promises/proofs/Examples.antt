@@ -1,5 +1,6 @@
 -- The table of examples and the accepted Kostenblatt, by computation: every definition on the way is unfolded. Assumes nothing.
 use Prim.Native.Nat.{ℕ, _≤_}
+use mathlib.Core.List.{[], _∷_}
 use mathlib.Core.Path.{_≡_, refl, ap}
 use native.Mathlib.Omega.{arith}
 use lib.ListN.{length}
@@ -46,7 +47,11 @@ use Rattle.reader.specs.Reading.{acceptedAt, blank, roomOf, refusedAt, endedAt,
 use Rattle.reader.specs.Answer.{Outcome, noteFor, answerOf, told, noted, readOf}
 use mathlib.Core.Bool.{true}
 use Rattle.promises.specs.Examples.{examples, allPass}
-use Rattle.promises.specs.Sheet.{sheet, sheetOutcome}
+use Rattle.promises.specs.Sheet.{sheet, sheetOutcome, twiceSheet, twiceAnswer}
+use Rattle.slices.specs.declared.Span.{Span}
+use Rattle.blindness.specs.Readable.{tagNamed}
+use Rattle.blindness.specs.Sources.{valueAt}
+use Rattle.blindness.specs.Renamed.{valuesNamed, valuesNamedAfter, identificationsIn}
 use Rattle.trees.specs.Trees.{Trees}
 use Rattle.contents.specs.Said.{TagSaid}
 use Rattle.contents.specs.Spelled.{Spells}
@@ -54,7 +59,14 @@ use Rattle.contents.specs.Legal.{Legal, HasRoom}
 use Rattle.contents.proofs.Theorems.{accepted-legal}
 use Rattle.promises.proofs.Answers.{accepted-whole}
 
-computed : (allPass examples ≡ true) × (readOf sheet 25 4 4 16 ≡ sheetOutcome)
+-- where the two identifications of the sheet stand
+abbrev pub firstId : Span
+firstId = record { start = 460; len = 2 }
+
+abbrev pub secondId : Span
+secondId = record { start = 955; len = 2 }
+
+computed : (allPass examples ≡ true) × (readOf sheet 25 4 4 16 ≡ sheetOutcome) × (readOf twiceSheet 25 4 4 16 .answer ≡ twiceAnswer) × (identificationsIn sheet ≡ firstId ∷ secondId ∷ [])
 unfolding byte run same begins walk seqLen control single charAt saidBy saidAt saysAfter says nameStart nameByte white quote fit valueNext valueOver
     value openingFrom opening attributeEnd attributeQuote attributeName attribute pieceAfter piece partOf absent dtdName noDtd withDtd noneKnown anotherKnown
     notedKnown onto endsAfter ends keptOf named twice endClose endName endTag tagOf tagItem startTag item markLen beginAfter begin capital
@@ -72,7 +84,8 @@ unfolding byte run same begins walk seqLen control single charAt saidBy saidAt s
     withView view thousandthsOf used usedIn usedWith spanOf broughtBy fieldAfter seriesWith positionsWith
     amountsWith seriesAfter positionsAfter amountsAfter usedBefore acceptedAt blank roomOf refusedAt
     endedAt withoutUsed stepOf tablesAfter readItems roomIn itemsRead readAfter readInto orBlank readSheet noteFor answerOf told noted readOf
-computed = (refl, refl)
+    identificationsIn valuesNamedAfter valuesNamed tagNamed valueAt
+computed = (refl, refl, refl, refl)
 
 -- "P1 to P12 form a single table with a single proved statement."
 pub examples-pass : allPass examples ≡ true
@@ -89,6 +102,13 @@ sheet-short =
     let p : readOf sheet 25 4 4 16 .answer .place ≡ 1387 = ap (λ (o : Outcome). o .answer .place) sheet-read in
     let l = accepted-whole sheet 25 4 4 16 sheet-accepted in
     omega (arith, p, l)
+
+-- by a rule that is not one-to-one the answer is another
+pub twice-read : readOf twiceSheet 25 4 4 16 .answer ≡ twiceAnswer
+twice-read = computed .2
+
+pub sheet-ids : identificationsIn sheet ≡ firstId ∷ secondId ∷ []
+sheet-ids = computed .3
 
 -- it spells a legal content
 pub sheet-content : (kind : ℕ) × (c : Trees TagSaid) × Spells sheet kind c × Legal kind c × HasRoom (roomOf 25 4 4) kind c

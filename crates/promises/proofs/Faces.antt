@@ -1,4 +1,4 @@
--- Demand 3 of two runs of what C, Rust and the program call: `lumintayag_read_v2` and `put_reply`. Assumes nothing.
+-- Demand 3, and the promise on identifications, of two runs of what C, Rust and the program call: `lumintayag_read_v2` and `put_reply`. Assumes nothing.
 use Prim.Native.Nat.{ℕ}
 use mathlib.Core.Path.{_≡_, sym, ap, _∙_}
 use mathlib.Core.List.{List}
@@ -7,13 +7,18 @@ use lib.IntN.{ℤ, pos}
 use lib.ListN.{getD}
 use Rattle.series.specs.Row.{cellsOf}
 use Rattle.reader.specs.declared.Answer.{Answer}
-use Rattle.reader.specs.Answer.{readOf}
+use Rattle.reader.specs.Answer.{readOf, Permitted}
+use Rattle.reader.proofs.Unique.{read-one}
 use Rattle.library.specs.Cells.{cells, sevenOf, PermittedCall}
+use Rattle.library.proofs.Unique.{lumintayag-read-one}
 use Rattle.replies.specs.Reply.{noteWritten, replyTo, PermittedReply}
+use Rattle.replies.proofs.Unique.{put-reply-one}
 use Rattle.blindness.specs.Readable.{DifferInQty}
 use Rattle.blindness.specs.Blind.{OwnDigitsDiffer}
 use Rattle.blindness.proofs.Blind.{blind}
 use Rattle.blindness.proofs.Outcomes.{two-runs}
+use Rattle.blindness.specs.Renamed.{Renamed}
+use Rattle.blindness.proofs.Renamed.{renamed-same}
 
 module _ (x y : List ℕ) (d : DifferInQty x y) where
   pub two-calls : (ns np na nb k : ℕ) {r r′ : ℕ} {s s′ p p′ : List ℕ} {m m′ : List ℤ} {n n′ a a′ : List ℕ}
@@ -37,3 +42,22 @@ module _ (x y : List ℕ) (d : DifferInQty x y) where
   two-replies out u w =
       let v = rw (sym same-reply) at w in
       (u .counted ∙ sym (v .counted), u .text ∙ sym (v .text))
+
+-- where identifications are replaced the outcome is one, so that two runs are two of it
+module _ (x y : List ℕ) (d : Renamed x y) where
+  pub renamed-runs : (ns np na nb : ℕ) {a a′ : Answer} {s s′ p p′ : List ℕ} {m m′ : List ℤ} {n n′ : List ℕ}
+      → Permitted (readOf x ns np na nb) a s p m n → Permitted (readOf y ns np na nb) a′ s′ p′ m′ n′
+      → (a ≡ a′) × (s ≡ s′) × (p ≡ p′) × (m ≡ m′) × (n ≡ n′)
+  renamed-runs ns np na nb u w = read-one y ns np na nb (rw (renamed-same x y d ns np na nb) at u) w
+
+  pub renamed-calls : (ns np na nb k : ℕ) {r r′ : ℕ} {s s′ p p′ : List ℕ} {m m′ : List ℤ} {n n′ a a′ : List ℕ}
+      → PermittedCall (readOf x ns np na nb) k r s p m n a → PermittedCall (readOf y ns np na nb) k r′ s′ p′ m′ n′ a′
+      → (r ≡ r′) × (s ≡ s′) × (p ≡ p′) × (m ≡ m′) × (n ≡ n′) × (a ≡ a′)
+  renamed-calls ns np na nb k u w = lumintayag-read-one y ns np na nb k (rw (renamed-same x y d ns np na nb) at u) w
+
+  renamed-reply : replyTo x ≡ replyTo y
+  unfolding replyTo noteWritten
+  renamed-reply = rw (d .replaced .long, renamed-same x y d (cellsOf 64) 2048 2048 16)
+
+  pub renamed-replies : (out : List ℕ) {r r′ : ℕ} {b b′ : List ℕ} → PermittedReply (replyTo x) out r b → PermittedReply (replyTo y) out r′ b′ → (r ≡ r′) × (b ≡ b′)
+  renamed-replies out u w = put-reply-one y out (rw renamed-reply at u) w

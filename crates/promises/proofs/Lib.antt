@@ -10,3 +10,4 @@ pub mod Counted
 pub mod Places
 pub mod Answers
 pub mod Faces
+pub mod Renamings

@@ -22,6 +22,7 @@ use Rattle.replies.specs.Reply.{replyTo, PermittedReply}
 use Rattle.replies.proofs.Unique.{put-reply-one}
 use Rattle.blindness.specs.Readable.{DifferInQty}
 use Rattle.blindness.specs.Blind.{OwnDigitsDiffer}
+use Rattle.blindness.specs.Renamed.{IdsReplaced, Renamed}
 use Rattle.blindness.proofs.Outcomes.{two-runs}
 use Rattle.trees.specs.Trees.{Trees}
 use Rattle.contents.specs.Said.{TagSaid}
@@ -34,10 +35,11 @@ use Rattle.promises.specs.Rows.{ZeroPast, InRoom, Sized}
 use Rattle.guideline.specs.Kinds.{seriesElement}
 use Rattle.promises.specs.Items.{before, starts, kindIn, intervalElement, itemsIn, PlaceOf}
 use Rattle.promises.specs.Examples.{examples, allPass}
-use Rattle.promises.specs.Sheet.{sheet, sheetOutcome}
+use Rattle.promises.specs.Sheet.{sheet, sheetOutcome, renamedSheet, twiceSheet, twiceAnswer}
 use Rattle.promises.proofs.Answers.{ten-is, ten-only, long-is, long-only, refusal-clears, refusal-known, place-within, place-told, accepted-whole, counts-within, cells-past, rows-kept, counts-told, note-told}
-use Rattle.promises.proofs.Faces.{two-calls, two-replies}
-use Rattle.promises.proofs.Examples.{examples-pass, sheet-read, sheet-content}
+use Rattle.promises.proofs.Faces.{two-calls, two-replies, renamed-runs, renamed-calls, renamed-replies}
+use Rattle.promises.proofs.Examples.{examples-pass, sheet-read, sheet-content, twice-read}
+use Rattle.promises.proofs.Renamings.{sheet-renamed, renamed-read, sheet-twice}
 
 -- "P1 to P12 form a single table with a single proved statement."
 pub the-examples : allPass examples ≡ true
@@ -161,3 +163,30 @@ one-reply = put-reply-one
 pub replies-alone : (x y : List ℕ) → DifferInQty x y → (out : List ℕ) {r r′ : ℕ} {b b′ : List ℕ} → PermittedReply (replyTo x) out r b → PermittedReply (replyTo y) out r′ b′
     → (r ≡ r′) × (b ≡ b′)
 replies-alone = two-replies
+
+-- 02: "Replace only the TimeSeriesIdentification values in tags before the first unreadable item, by a one-to-one rule over those in the document, each with the
+-- same number of bytes and characters, with values that before and after are legal XML characters in UTF-8 and hold no `&`, `<`, quote or control byte. Then
+-- number, place, note and all tables are the same." Of two runs of the code
+pub identifications-alone : (x y : List ℕ) → Renamed x y → (ns np na nb : ℕ) {a a′ : Answer} {s s′ p p′ : List ℕ} {m m′ : List ℤ} {n n′ : List ℕ}
+    → Permitted (readOf x ns np na nb) a s p m n → Permitted (readOf y ns np na nb) a′ s′ p′ m′ n′
+    → (a ≡ a′) × (s ≡ s′) × (p ≡ p′) × (m ≡ m′) × (n ≡ n′)
+identifications-alone = renamed-runs
+
+-- the same of `lumintayag_read_v2`
+pub identifications-alone-called : (x y : List ℕ) → Renamed x y → (ns np na nb k : ℕ) {r r′ : ℕ} {s s′ p p′ : List ℕ} {m m′ : List ℤ} {n n′ a a′ : List ℕ}
+    → PermittedCall (readOf x ns np na nb) k r s p m n a → PermittedCall (readOf y ns np na nb) k r′ s′ p′ m′ n′ a′
+    → (r ≡ r′) × (s ≡ s′) × (p ≡ p′) × (m ≡ m′) × (n ≡ n′) × (a ≡ a′)
+identifications-alone-called = renamed-calls
+
+-- and of what the program prints
+pub identifications-alone-printed : (x y : List ℕ) → Renamed x y → (out : List ℕ) {r r′ : ℕ} {b b′ : List ℕ}
+    → PermittedReply (replyTo x) out r b → PermittedReply (replyTo y) out r′ b′ → (r ≡ r′) × (b ≡ b′)
+identifications-alone-printed = renamed-replies
+
+-- a pair of which that is promised: two series, both sheets accepted
+pub a-renamed-sheet : Renamed sheet renamedSheet × (readOf renamedSheet 25 4 4 16 ≡ sheetOutcome)
+a-renamed-sheet = (sheet-renamed, renamed-read)
+
+-- "by a one-to-one rule": of a pair that meets all but that the second sheet is refused with 9
+pub one-to-one-needed : IdsReplaced sheet twiceSheet × (readOf twiceSheet 25 4 4 16 .answer ≡ twiceAnswer)
+one-to-one-needed = (sheet-twice, twice-read)

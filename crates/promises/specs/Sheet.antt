@@ -1,29 +1,42 @@
--- A Kostenblatt of two series that is accepted, with the answer, the tables and the note in full.
+-- A Kostenblatt of two series that is accepted, with the answer, the tables and the note in full; and the same with other identifications.
 use Prim.Native.Nat.{ℕ}
 use mathlib.Core.List.{List, [], _∷_, _++_}
 use lib.IntN.{pos, negsuc}
 use Rattle.slices.specs.Text.{text}
 use Rattle.reader.specs.Answer.{Outcome}
+use Rattle.reader.specs.declared.Answer.{Answer}
 
-abbrev pub sheet : List ℕ
-sheet =
+-- with these two identifications
+abbrev pub sheetWith : List ℕ → List ℕ → List ℕ
+sheetWith first second =
     text "<Kostenblatt DtdBDEWNachrichtenVersion=\"1.0\">" ++
     text "<DocumentIdentification v=\"D\"/><DocumentVersion v=\"1\"/><DocumentType v=\"Z05\"/><ProcessType v=\"A14\"/>" ++
     text "<SenderIdentification v=\"9900000000001\" codingScheme=\"A10\"/><SenderRole v=\"A18\"/>" ++
     text "<ReceiverIdentification v=\"9900000000002\" codingScheme=\"A10\"/><ReceiverRole v=\"A39\"/>" ++
     text "<DocumentDateTime v=\"2024-01-01T00:00:00Z\"/><TimePeriodCovered v=\"2024-01-01T00:00Z/2024-01-01T00:30Z\"/>" ++
-    text "<CostTimeSeries><TimeSeriesIdentification v=\"S1\"/><BusinessType v=\" A01 \"/><Direction v=\" A02 \"/><Product v=\"8716867000016\"/>" ++
+    text "<CostTimeSeries><TimeSeriesIdentification v=\"" ++ first ++ text "\"/><BusinessType v=\" A01 \"/><Direction v=\" A02 \"/><Product v=\"8716867000016\"/>" ++
     text "<ConnectingArea v=\"10YDE-EON------1\" codingScheme=\"A01\"/>" ++
     text "<ResourceObject v=\"A1234567890\" codingScheme=\"NDE\"/><ResourceProvider v=\"9900000000003\" codingScheme=\"A10\"/>" ++
     text "<CurveType v=\"A03\"/><MeasurementUnit v=\"Z01\"/>" ++
     text "<Period><TimeInterval v=\"2024-01-01T00:00Z/2024-01-01T00:30Z\"/><Resolution v=\"PT15M\"/>" ++
     text "<Interval><Pos v=\"1\"/><Qty v=\"1.5\"/></Interval></Period></CostTimeSeries>" ++
-    text "<CostTimeSeries><TimeSeriesIdentification v=\"S2\"/><BusinessType v=\"Z03\"/><Product v=\"8716867000016\"/>" ++
+    text "<CostTimeSeries><TimeSeriesIdentification v=\"" ++ second ++ text "\"/><BusinessType v=\"Z03\"/><Product v=\"8716867000016\"/>" ++
     text "<ResourceObject v=\"C0000000002\" codingScheme=\"NDE\"/><ResourceProvider v=\"9900000000003\" codingScheme=\"A10\"/>" ++
     text "<CurveType v=\"A03\"/><MeasurementUnit v=\"Z01\"/>" ++
     text "<Period><TimeInterval v=\"2024-01-01T00:00Z/2024-01-01T00:30Z\"/><Resolution v=\"PT15M\"/>" ++
     text "<Interval><Pos v=\"1\"/><Qty v=\"-0.001\"/></Interval><Interval><Pos v=\"2\"/><Qty v=\"20\"/></Interval></Period></CostTimeSeries>" ++
     text "</Kostenblatt>"
+
+abbrev pub sheet : List ℕ
+sheet = sheetWith (text "S1") (text "S2")
+
+-- by a rule that is one-to-one: `S1` becomes `XX` and `S2` becomes `XY`
+abbrev pub renamedSheet : List ℕ
+renamedSheet = sheetWith (text "XX") (text "XY")
+
+-- by one that is not: both become `XX`
+abbrev pub twiceSheet : List ℕ
+twiceSheet = sheetWith (text "XX") (text "XX")
 
 -- In tables of 25, 4 and 4 cells and a note buffer of 16 bytes. Each row of the series table: start and length of TimeSeriesIdentification, of
 -- ResourceObject, of BusinessType, which is ` A01 ` in the first, of Direction, which is ` A02 `, and of ConnectingArea, both of which the second has not;
@@ -43,3 +56,7 @@ sheetOutcome =
           };
       note = 0x00 ∷ 0xEB ∷ 0x0A ∷ 0x02 ∷ 0x02 ∷ 0x03 ∷ 0 ∷ 0 ∷ 0 ∷ 0 ∷ 0 ∷ 0 ∷ 0 ∷ 0 ∷ 0 ∷ 0 ∷ [];
     }
+
+-- "9: TimeSeriesIdentification used before in this document", at the second one
+abbrev pub twiceAnswer : Answer
+twiceAnswer = record { refusal = 9; place = 926; kind = 2; series = 2; intervals = 1; quarters = 0; note = 6 }
