@@ -86,7 +86,7 @@ module _ (t : List ℕ) (d : Deep t) (r x q : ℕ) where
       (λ g.
       record {
         stands = ap (λ (i : ℕ). heightIn 16 t (parentOf (getD t i 0))) (g .itself);
-        other = λ z. never (sym (g .repeats) ∙ ap (λ (i : ℕ). repeated (getD t i 0)) (sym (g .itself) ∙ z) ∙ d .once);
+        other = λ z. never (sym (d .once) ∙ ap (λ (i : ℕ). repeated (getD t i 0)) (sym z ∙ g .itself) ∙ g .repeats);
         within = omega (arith, s .0, g .itself);
       })
       (λ g.
@@ -141,6 +141,6 @@ none-open t d x q true e = height-none 16 t
 none-open t d x q false e =
     let s = start-means t 0 x q false e in
     ⊎-elim
-    (λ g. never (sym (g .repeats) ∙ d .once))
+    (λ g. never (sym (d .once) ∙ g .repeats))
     (λ g. let n = g .1 in absurd (d .inner q (λ z. omega (arith, z, n .after)) (n .within) (n .stands)))
     (s .1)
