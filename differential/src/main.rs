@@ -105,7 +105,10 @@ fn read_back(outcome: &Outcome) -> bool {
     let note = &outcome.note[..(outcome.answer[6] as usize).min(outcome.note.len())];
     let (refusal, six) = model::read_note(note);
     let said = outcome.answer[0] == 10 || (refusal == 0 && six[..5] == outcome.answer[..5]);
-    said && notes::read_alike(note, 6) && notes::converted_alike(note, 0, 24, 2) && notes::converted_alike(note, 1, 24, 2) && notes::there_and_back(note)
+    said && notes::read_alike(note, 6)
+        && notes::converted_alike(note, 0, 24, 2)
+        && notes::converted_alike(note, 1, 24, 2)
+        && notes::there_and_back(note)
 }
 
 /// How many bytes are read at most to find a smaller document.

@@ -856,9 +856,7 @@ fn numbers_of(note: &[u8]) -> Option<Vec<u32>> {
 fn six_of(note: &[u8]) -> Option<([u32; 5], u32)> {
     match numbers_of(note)?[..] {
         [refusal, place, kind, series, intervals] if refusal != NEW_MARK => Some(([refusal, place, kind, series, intervals], 0)),
-        [NEW_MARK, refusal, place, kind, series, intervals, depth] if refusal != NEW_MARK => {
-            Some(([refusal, place, kind, series, intervals], depth))
-        }
+        [NEW_MARK, refusal, place, kind, series, intervals, depth] if refusal != NEW_MARK => Some(([refusal, place, kind, series, intervals], depth)),
         _ => None,
     }
 }

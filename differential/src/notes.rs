@@ -128,17 +128,22 @@ const NUMBERS: [&[u8]; 13] = [
     &[0x80, 0x80, 0x80, 1],
 ];
 
-/// Notes that are right or nearly right: none to nine numbers, each first and second of them, one of the others of each sort, with a byte more or less.
+/// `count` numbers, each 5 but for these.
+fn spelled(count: usize, but: &[(usize, &[u8])]) -> Vec<u8> {
+    let number = |at| but.iter().find(|(k, _)| *k == at).map_or(&[5][..], |(_, number)| *number);
+    (0..count).flat_map(|at| number(at).to_vec()).collect()
+}
+
+/// Notes that are right or nearly right: none to nine numbers, the first two each of each sort, then any of the others, with a byte more or less.
 fn edge_notes() -> Vec<Vec<u8>> {
     let mut notes = Vec::new();
     for count in 0..=9 {
-        for first in NUMBERS {
-            for second in NUMBERS {
-                for (at, other) in (2..9).zip(NUMBERS.iter().cycle().skip(count)) {
-                    let pieces = (0..count).map(|k| if k == 0 { first } else if k == 1 { second } else if k == at { *other } else { &[5] });
-                    notes.push(pieces.collect::<Vec<_>>().concat());
-                }
-            }
+        for (first, second) in NUMBERS.iter().flat_map(|first| NUMBERS.map(|second| (*first, second))) {
+            notes.push(spelled(count, &[(0, first), (1, second)]));
+        }
+        for (at, other) in (2..count).flat_map(|at| NUMBERS.map(|other| (at, other))) {
+            notes.push(spelled(count, &[(at, other)]));
+            notes.push(spelled(count, &[(0, &[NEW_MARK as u8]), (at, other)]));
         }
     }
     let more = notes.iter().map(|note| [&note[..], &[0]].concat());

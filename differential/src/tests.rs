@@ -1,6 +1,6 @@
 //! The examples of 01 and of the readings of its open points, held against the model alone.
 
-use crate::documents::document;
+use crate::documents::{document, shape};
 use crate::model::{convert, read, read_in, read_note, Lengths, Outcome, LONGEST, ROW};
 
 const ROOM: Lengths = Lengths { series: 64 * ROW, positions: 2048, amounts: 2048, note: 16 };
@@ -189,7 +189,8 @@ fn no_notes() {
 fn converted_notes() {
     let (old, flat, deep) = ([3, 0xAC, 2, 2, 0, 0], [100, 3, 0xAC, 2, 2, 0, 0, 0], [100, 3, 0xAC, 2, 2, 0, 0, 4]);
     for room in 0..=30 {
-        let all_of = |note: &[u8]| if room < 24 { ([10, 0], vec![0; room]) } else { ([0, note.len() as u32], [note, &vec![0; room - note.len()]].concat()) };
+        let all_of =
+            |note: &[u8]| if room < 24 { ([10, 0], vec![0; room]) } else { ([0, note.len() as u32], [note, &vec![0; room - note.len()]].concat()) };
         assert_eq!(convert(&old, 1, room), all_of(&flat));
         assert_eq!(convert(&old, 0, room), all_of(&old));
         for new in [flat, deep] {
@@ -248,8 +249,8 @@ fn depths_without_items() {
     for shape in [0, 1, 2] {
         for note in 0..=30 {
             let outcome = read_in(shape, ROOT.as_bytes(), &Lengths { note, ..ROOM });
-            assert_eq!(outcome.answer[0], if note < 16 { 10 } else { 3 });
-            assert_eq!(outcome.answer[6], if note < 16 { 0 } else if shape == 0 { 5 } else { 7 });
+            let (refusal, length) = if note < 16 { (10, 0) } else { (3, if shape == 0 { 5 } else { 7 }) };
+            assert_eq!((outcome.answer[0], outcome.answer[6]), (refusal, length));
             assert!(note >= 16 || outcome.note == vec![0; note]);
         }
     }
@@ -370,4 +371,21 @@ fn generated() {
     let all = shapes.iter().chain(&spaces).chain([&after, &odd]);
     assert!(all.clone().all(|many| *many > 100), "{shapes:?} {spaces:?} {after} {odd}");
     assert_eq!(document(5, 77).bytes, document(5, 77).bytes);
+}
+
+/// Both shapes are asked for, the new one by several numbers, and the generated documents are refused at every depth that a right document has.
+#[test]
+fn generated_shapes_and_depths() {
+    let (mut shapes, mut depths) = (std::collections::BTreeMap::new(), [0; 6]);
+    for number in 0..30_000 {
+        *shapes.entry(shape(5, number)).or_insert(0) += 1;
+        let made = document(5, number);
+        let outcome = read_in(1, &made.bytes, &made.lengths);
+        let (none, six) = read_note(&outcome.note[..outcome.answer[6] as usize]);
+        if none == 0 && six[0] != 0 {
+            depths[six[5] as usize] += 1;
+        }
+    }
+    assert!(shapes.len() > 3 && shapes.contains_key(&0) && shapes.contains_key(&1), "{shapes:?}");
+    assert!(depths.iter().all(|many| *many > 100), "{depths:?}");
 }

@@ -110,7 +110,8 @@ impl Told {
     /// Reads the document into what is lent.
     pub(crate) fn of(doc: &[u8], lent: Lent<'_>, shape: Shape) -> Result<Self, Refused> {
         let mut bytes = [0; NOTE_ROOM];
-        let [number, place, kind, series, intervals, quarters, len] = foreign::read(doc, lent.series, lent.positions, lent.amounts, shape, &mut bytes);
+        let [number, place, kind, series, intervals, quarters, len] =
+            foreign::read(doc, lent.series, lent.positions, lent.amounts, shape, &mut bytes);
         let note = Note::told(bytes, len as usize, [number, place, kind, series, intervals]);
         match Refusal::from_number(number) {
             None => Ok(Told { quarters, note }),

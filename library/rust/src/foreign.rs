@@ -63,8 +63,7 @@ pub(crate) fn read_note(note: &[u8]) -> Option<[u32; NOTE_NUMBERS]> {
 pub(crate) fn convert_note(note: &[u8], shape: Shape) -> Option<([u8; NOTE_ROOM], usize)> {
     let (mut out, mut answer) = ([0; NOTE_ROOM], [0; CONVERTED_NUMBERS]);
     // SAFETY: each pointer comes with the length of the slice or array that it is of, and Rust lends the written ones to nobody else.
-    let refusal = unsafe {
-        lumintayag_convert_note(note.as_ptr(), note.len(), shape.number(), out.as_mut_ptr(), out.len(), answer.as_mut_ptr(), answer.len())
-    };
+    let refusal =
+        unsafe { lumintayag_convert_note(note.as_ptr(), note.len(), shape.number(), out.as_mut_ptr(), out.len(), answer.as_mut_ptr(), answer.len()) };
     (refusal == 0).then_some((out, answer[1] as usize))
 }
