@@ -387,5 +387,5 @@ fn generated_shapes_and_depths() {
         }
     }
     assert!(shapes.len() > 3 && shapes.contains_key(&0) && shapes.contains_key(&1), "{shapes:?}");
-    assert!(depths.iter().all(|many| *many > 100), "{depths:?}");
+    assert!(depths.iter().all(|many| *many > 20), "{depths:?}");
 }
