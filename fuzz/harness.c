@@ -1,7 +1,7 @@
 /*
  * The entry of libFuzzer. An input is sizes and a note's shape in its first bytes and a document after them. What is lent is allocated to the byte, so that
- * AddressSanitizer sees one byte too far; the plain module reads first, then the module whose assumptions are checked, into buffers that hold other bytes before.
- * What a promise says of one call or of the two together is checked, and a broken one ends the program.
+ * AddressSanitizer sees one byte too far; the plain module reads first, then the module whose assumptions are checked, into buffers that hold other bytes
+ * before. What a promise says of one call or of the two together is checked, and a broken one ends the program.
  *
  * Nothing goes to disk: the corpus is in memory, and so are the files by which libFuzzer is given the samples (memfd).
  */
@@ -296,6 +296,9 @@ static void judge_note(struct outcome o, const uint32_t *n, uint32_t shape) {
     hold(read_note_by(lumintayag_read_note_v2, note, n[6] - 1, 6, six) == 11, "a note cut short is none");
     if (n[6] < lent.note) hold(read_note_by(lumintayag_read_note_v2, note, n[6] + 1, 6, six) == 11, "a zero is no part of a note");
     judge_bytes(note, n[6]);
+    o.note[is_new] = NEW_MARK; /* a refusal has one byte */
+    hold(judge_bytes(note, n[6]) == 0, "with a refusal of 100 it is no note");
+    o.note[is_new] = (uint8_t)n[0];
 }
 
 /* The same document with a note in the other shape: nothing else differs. */
