@@ -15,6 +15,7 @@ use Rattle.tables.specs.Cells.{noAmounts}
 use Rattle.states.specs.Moves.{begun}
 use Rattle.states.specs.declared.Room.{Room}
 use Rattle.states.specs.declared.Entry.{Entry}
+use Rattle.notes.specs.declared.Shape.{Shape}
 use Rattle.reader.specs.Items.{itemsFrom}
 use Rattle.reader.specs.Reading.{tab, Tables, Out, blank, roomOf, roomIn, readItems, itemsRead, readAfter, readInto, orBlank, readSheet}
 use Rattle.reader.specs.Answer.{Outcome, noted, unnoted, readOf}
@@ -72,12 +73,12 @@ pub told-join : {o o′ p : Outcome} → SameTold o p → SameTold o′ p → Sa
 told-join a b =
     record { answer = a .answer ∙ sym (b .answer); note = a .note ∙ sym (b .note); series = a .series ∙ sym (b .series); positions = a .positions ∙ sym (b .positions) }
 
-noted-same : (nb : ℕ) {o o′ : Out} → SameOut o o′ → SameTold (noted nb o) (noted nb o′)
+noted-same : (shape : Shape) (nb : ℕ) {o o′ : Out} → SameOut o o′ → SameTold (noted shape nb o) (noted shape nb o′)
 unfolding noted
-noted-same nb h = record { answer = rw (h .found); note = rw (h .found); series = h .series; positions = h .positions }
+noted-same shape nb h = record { answer = rw (h .found); note = rw (h .found); series = h .series; positions = h .positions }
 
 module _ (name : List ℕ) (R : List ℕ → List ℕ → Type 0) (brought : Entry) (unseen : Unseen R) (rows : BlindKinds name R brought) (x y : List ℕ) (shown : Tabled R brought x y)
-    (d : Replaced name R x y) (ns np na nb : ℕ) where
+    (d : Replaced name R x y) (ns np na : ℕ) (shape : Shape) (nb : ℕ) where
   module _ (h : SameItems name R x y) where
     runs : SameOut (itemsOut x ns np na (h .from) (noAmounts na)) (itemsOut y ns np na (h .from) (noAmounts na))
         × (sourcesFrom x ns np na (From (h .from)) ≡ sourcesFrom y ns np na (From (h .from)))
@@ -98,22 +99,22 @@ module _ (name : List ℕ) (R : List ℕ → List ℕ → Type 0) (brought : Ent
         (λ l. rw l (blank-same ns np na into-same))
         (bool-cases (ltb 1048576 (length y))))
 
-    items-told : SameTold (readOf x ns np na nb) (readOf y ns np na nb)
+    items-told : SameTold (readOf x ns np na shape nb) (readOf y ns np na shape nb)
     unfolding readOf
     items-told =
         ⊎-elim
         (λ l. rw l (told-itself (unnoted ns np na nb)))
-        (λ l. rw l (noted-same nb sheet-same))
+        (λ l. rw l (noted-same shape nb sheet-same))
         (bool-cases (ltb nb 16))
 
     sources-same : sourcesFrom x ns np na (begin x) ≡ sourcesFrom y ns np na (begin y)
     sources-same = rw (h .first, h .second) (runs .1)
 
   -- and each amount comes from the same place
-  pub replaced-same : SameTold (readOf x ns np na nb) (readOf y ns np na nb) × (sourceTable x ns np na nb ≡ sourceTable y ns np na nb)
+  pub replaced-same : SameTold (readOf x ns np na shape nb) (readOf y ns np na shape nb) × (sourceTable x ns np na shape nb ≡ sourceTable y ns np na shape nb)
   unfolding sourceTable
   replaced-same =
       ⊎-elim
-      (λ e. rw e (told-itself (readOf y ns np na nb), refl))
+      (λ e. rw e (told-itself (readOf y ns np na shape nb), refl))
       (λ h. let t = items-told h in (t, rw (t .answer, sources-same h)))
       (aligned name unseen x y d)

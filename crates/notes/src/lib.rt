@@ -176,8 +176,8 @@ fn old_note(l: &[u32]) -> NoteRead
     requires { ⌜ length (now l) ≡ 5 ⌝ }
     ensures { λ r. ⌜ r ≡ oldNote (now (l .entry)) ⌝ }
 {
-    let refusal = l[0];
-    if refusal == MARK {
+    let first = l[0];
+    if first == MARK {
         return NoteRead::NotOneNote;
     }
     let place = l[1];
@@ -185,7 +185,7 @@ fn old_note(l: &[u32]) -> NoteRead
     let series = l[3];
     let intervals = l[4];
     NoteRead::Taken(Note {
-        refusal,
+        refusal: first,
         place,
         kind,
         series,

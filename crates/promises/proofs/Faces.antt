@@ -1,4 +1,4 @@
--- Demand 3 of two runs of what C, Rust and the program call: `lumintayag_read_v2` and `put_reply`. Assumes nothing.
+-- Demand 3 of two runs of what C, Rust and the program call: `lumintayag_read_v3` and `put_reply`. Assumes nothing.
 use Prim.Native.Nat.{ℕ}
 use mathlib.Core.Path.{_≡_, sym, ap, _∙_}
 use mathlib.Core.List.{List}
@@ -6,6 +6,8 @@ use mathlib.Core.Logic.{_⊎_}
 use lib.IntN.{ℤ, pos}
 use lib.ListN.{getD}
 use Rattle.series.specs.Row.{cellsOf}
+use Rattle.notes.specs.declared.Shape.{Shape}
+use Rattle.notes.specs.declared.Shape.the-variants.{Old}
 use Rattle.reader.specs.declared.Answer.{Answer}
 use Rattle.reader.specs.Answer.{readOf}
 use Rattle.library.specs.Cells.{cells, sevenOf, PermittedCall}
@@ -16,11 +18,11 @@ use Rattle.blindness.proofs.Blind.{blind}
 use Rattle.blindness.proofs.Outcomes.{two-runs}
 
 module _ (x y : List ℕ) (d : DifferInQty x y) where
-  pub two-calls : (ns np na nb k : ℕ) {r r′ : ℕ} {s s′ p p′ : List ℕ} {m m′ : List ℤ} {n n′ a a′ : List ℕ}
-      → PermittedCall (readOf x ns np na nb) k r s p m n a → PermittedCall (readOf y ns np na nb) k r′ s′ p′ m′ n′ a′
-      → (r ≡ r′) × (a ≡ a′) × (n ≡ n′) × (s ≡ s′) × (p ≡ p′) × ((j : ℕ) → (getD m j (pos 0) ≡ getD m′ j (pos 0)) ⊎ OwnDigitsDiffer ns np na nb x y j)
-  two-calls ns np na nb k u w =
-      let t = two-runs x y ns np na nb d (u .leaves) (w .leaves) in (
+  pub two-calls : (ns np na : ℕ) (shape : Shape) (nb k : ℕ) {r r′ : ℕ} {s s′ p p′ : List ℕ} {m m′ : List ℤ} {n n′ a a′ : List ℕ}
+      → PermittedCall (readOf x ns np na shape nb) k r s p m n a → PermittedCall (readOf y ns np na shape nb) k r′ s′ p′ m′ n′ a′
+      → (r ≡ r′) × (a ≡ a′) × (n ≡ n′) × (s ≡ s′) × (p ≡ p′) × ((j : ℕ) → (getD m j (pos 0) ≡ getD m′ j (pos 0)) ⊎ OwnDigitsDiffer ns np na shape nb x y j)
+  two-calls ns np na shape nb k u w =
+      let t = two-runs x y ns np na shape nb d (u .leaves) (w .leaves) in (
         u .refuses ∙ ap (λ (b : Answer). b .refusal) (t .0) ∙ sym (w .refuses),
         u .puts ∙ ap (λ (b : Answer). cells k (sevenOf b)) (t .0) ∙ sym (w .puts),
         t .1,
@@ -31,7 +33,7 @@ module _ (x y : List ℕ) (d : DifferInQty x y) where
 
   same-reply : replyTo x ≡ replyTo y
   unfolding replyTo noteWritten
-  same-reply = let b = blind x y (cellsOf 64) 2048 2048 16 d in rw (d .long, b .answer, b .note)
+  same-reply = let b = blind x y (cellsOf 64) 2048 2048 Old 16 d in rw (d .long, b .answer, b .note)
 
   pub two-replies : (out : List ℕ) {r r′ : ℕ} {b b′ : List ℕ} → PermittedReply (replyTo x) out r b → PermittedReply (replyTo y) out r′ b′ → (r ≡ r′) × (b ≡ b′)
   two-replies out u w =

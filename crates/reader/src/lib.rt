@@ -94,11 +94,11 @@ fn refused_at(n: u32, place: u32, st: State, rows: &[usize]) -> Found
 }
 
 // Before the first item nothing is counted and nothing is open.
-fn refused_first(n: u32, place: u32) -> Found
-    ensures { λ r. ⌜ r ≡ refusedAt n place begun ⌝ }
+fn refused_first(refusal: u32, place: u32) -> Found
+    ensures { λ r. ⌜ r ≡ refusedAt refusal place begun ⌝ }
 {
     Found {
-        refusal: n,
+        refusal,
         place,
         kind: 0,
         series: 0,

@@ -5,8 +5,8 @@ use Rattle.notes.proofs.old_note.Tie as tie
 use Rattle.notes.proofs.old_note.Reads as reads
 use Rattle.notes.proofs.old_note.Lts as lts
 
-shared-slice-read-refusal : tie.Need-shared-slice-read-refusal
-shared-slice-read-refusal c = search needs
+shared-slice-read-first : tie.Need-shared-slice-read-first
+shared-slice-read-first c = search needs
 
 returns : tie.Need-returns
 returns c = simp (eq-eqb _ _ (c .if1 .taken))
@@ -30,7 +30,7 @@ pub old-note-spec : {M : Type 1} → statement M
 old-note-spec =
     tie.close
     (tie.spec
-    shared-slice-read-refusal
+    shared-slice-read-first
     returns
     shared-slice-read-place
     shared-slice-read-kind
