@@ -360,7 +360,7 @@ static void judge_identifications(const uint8_t *doc, struct outcome first, cons
     uint8_t *other = filled(length, 0);
     memcpy(other, doc, length);
     if (turn_identifications(other, first.series, n[3])) {
-        struct outcome o = read_by(lumintayag_read_v2, other, 7, 0x22);
+        struct outcome o = read_by(lumintayag_read_v3, other, 7, lent.shape, 0x22);
         hold(same(first, o) && memcmp(o.answer, n, 28) == 0, "identifications replaced by a one-to-one rule change nothing");
         let_go(o);
     }
