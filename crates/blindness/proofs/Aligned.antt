@@ -80,7 +80,8 @@ module _ (name : List ℕ) where
 
   module _ {R : List ℕ → List ℕ → Type 0} (u : Unseen R) (x y : List ℕ) where
     -- an unreadable item, whose bytes are the same
-    unread-aligned : (at b c : ℕ) (t v : List ℕ) → itemRefusal (item at (b ∷ t)) ≡ 2 → c ∷ v ≡ b ∷ t → Aligned name R x y (itemsAfter zero at (b ∷ t)) (itemsAfter zero at (c ∷ v))
+    unread-aligned : (at b c : ℕ) (t v : List ℕ) → itemRefusal (item at (b ∷ t)) ≡ 2 → c ∷ v ≡ b ∷ t
+        → Aligned name R x y (itemsAfter zero at (b ∷ t)) (itemsAfter zero at (c ∷ v))
     unfolding itemsAfter
     unread-aligned at b c t v e same =
         let u = unreadable (item at (b ∷ t)) e in rw (ap (item at) same, u .1) (shut at (u .0) (b ∷ t) (c ∷ v))

@@ -38,4 +38,5 @@ unfolding elementNo
 name-one n m e some =
     let at = pred (elementNo m) in
     let j : elementNo m ≡ 1 + at = omega (arith, some) in
-    same-equal n (getD names at []) (number-in n names 1 at (omega arith) (e ∙ j)) ∙ sym (same-equal m (getD names at []) (number-in m names 1 at (omega arith) j))
+    same-equal n (getD names at []) (number-in n names 1 at (omega arith) (e ∙ j))
+    ∙ sym (same-equal m (getD names at []) (number-in m names 1 at (omega arith) j))

@@ -36,7 +36,8 @@ module _ (name : List ℕ) (R : List ℕ → List ℕ → Type 0) where
   -- a tag says the same in s and in s′, but for its `v` if it bears the name
   pub record TagSays (t : Tag) (s s′ : List ℕ) : Type 0 where
     pub parts : PartsSame t s s′
-    pub v : ((partOf s 1 (t .name) ≡ name) × R (valueIn s (t .v)) (valueIn s′ (t .v))) ⊎ ((partOf s 1 (t .name) ≡ name → ⊥) × (valueIn s (t .v) ≡ valueIn s′ (t .v)))
+    pub v : ((partOf s 1 (t .name) ≡ name) × R (valueIn s (t .v)) (valueIn s′ (t .v)))
+        ⊎ ((partOf s 1 (t .name) ≡ name → ⊥) × (valueIn s (t .v) ≡ valueIn s′ (t .v)))
 
   unfoldable pub Says : Item → List ℕ → List ℕ → Type 0
   Says (Start t) s s′ = TagSays t s s′
@@ -52,7 +53,8 @@ module _ (name : List ℕ) (R : List ℕ → List ℕ → Type 0) where
     pair : {xs ys : List Placed} (at : ℕ) (i : Item) (s s′ : List ℕ) → s ≡ drop at x → s′ ≡ drop at y → Says i s s′ → Aligned x y xs ys
         → Aligned x y (record { at = at; item = i; rest = s } ∷ xs) (record { at = at; item = i; rest = s′ } ∷ ys)
     -- one that cannot be read, and whatever is behind it
-    shut : {xs ys : List Placed} (at p : ℕ) (s s′ : List ℕ) → Aligned x y (record { at = at; item = Unreadable p; rest = s } ∷ xs) (record { at = at; item = Unreadable p; rest = s′ } ∷ ys)
+    shut : {xs ys : List Placed} (at p : ℕ) (s s′ : List ℕ)
+        → Aligned x y (record { at = at; item = Unreadable p; rest = s } ∷ xs) (record { at = at; item = Unreadable p; rest = s′ } ∷ ys)
 
   -- s is the part that begins with the item
   module _ (before : ℕ) (s s′ : List ℕ) (long : length s ≡ length s′) where

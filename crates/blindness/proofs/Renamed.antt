@@ -34,6 +34,7 @@ use Rattle.reader.specs.Rows.{quoted}
 use Rattle.reader.specs.Reading.{Out, out, readSheet}
 use Rattle.notes.specs.declared.Shape.{Shape}
 use Rattle.reader.specs.Answer.{readOf}
+use Rattle.digits.specs.Unseen.{Unseen}
 use Rattle.digits.specs.Items.{InSpan, InV, JoinsV}
 use Rattle.digits.specs.Identifications.{PutFor}
 use Rattle.digits.proofs.Identifications.{put-unseen, put-judged}
@@ -225,13 +226,14 @@ module _ (x y : List ℕ) (d : Renamed x y) where
 
   sheet-same : (ns np na : ℕ) → readSheet x ns np na ≡ readSheet y ns np na
   sheet-same ns np na =
-      let h = sheets-same named Put Identification (record { whole = λ r. put-unseen .whole (r .value) }) (id-kinds Put (λ a b p. p .value)) x y ids-tabled put-replaced ns np na .0 in
-      whole h (λ e. zero-not-one (cc))
+      let unseen : Unseen Put = record { whole = λ r. put-unseen .whole (r .value) } in
+      whole (sheets-same named Put Identification unseen (id-kinds Put (λ a b p. p .value)) x y ids-tabled put-replaced ns np na .0) (λ e. zero-not-one (cc))
     where
       whole : {Kept : Type 0} {o o′ : Out} → SameOut Kept o o′ → Kept → o ≡ o′
       whole {Kept} {o} {o′} h k =
           let e : _≡_ {A = Out}
-          (out (o .found) (o .tables .series) (o .tables .positions) (o .tables .amounts)) (out (o′ .found) (o′ .tables .series) (o′ .tables .positions) (o′ .tables .amounts)) =
+          (out (o .found) (o .tables .series) (o .tables .positions) (o .tables .amounts))
+          (out (o′ .found) (o′ .tables .series) (o′ .tables .positions) (o′ .tables .amounts)) =
           rw (h .found, h .series, h .positions, h .amounts k) in e
 
   -- "number, place, note and all tables are the same"

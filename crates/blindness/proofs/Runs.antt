@@ -63,7 +63,8 @@ unfolding stepOf withoutUsed step moved
 unread-stop doc series room at p s st = refl
 
 -- an amount is brought by the same value
-amounts-same : (v : Span) (s s′ : List ℕ) (st : State) (e : Entry) (t : List ℤ) → (e ≡ Amount → quoted v s ≡ quoted v s′) → amountsAfter v s st e t ≡ amountsAfter v s′ st e t
+amounts-same : (v : Span) (s s′ : List ℕ) (st : State) (e : Entry) (t : List ℤ) → (e ≡ Amount → quoted v s ≡ quoted v s′)
+    → amountsAfter v s st e t ≡ amountsAfter v s′ st e t
 unfolding amountsAfter amountsWith broughtBy
 amounts-same v s s′ st Nothing t q = refl
 amounts-same v s s′ st Series t q = refl
@@ -146,7 +147,8 @@ module _ (name : List ℕ) (R : List ℕ → List ℕ → Type 0) (brought : Ent
             },
             r .1,
           ))
-      run-pair (Refused n) z = run-stop xs ys (at-item at i s) (at-item at i s′) refl st ser pos ax ay so n z (sym (pair-step at i s s′ ex ey p room st ser h) ∙ z)
+      run-pair (Refused n) z =
+          run-stop xs ys (at-item at i s) (at-item at i s′) refl st ser pos ax ay so n z (sym (pair-step at i s s′ ex ey p room st ser h) ∙ z)
 
     pub run-same : length x ≡ length y → {xs ys : List Placed} → Aligned name R x y xs ys
         → (st : State) (ser pos : List ℕ) (ax ay : List ℤ) (so : List Span) → shown .Shows ser → Runs xs ys st ser pos ax ay so

@@ -154,7 +154,8 @@ module _ (name : List ℕ) (R : List ℕ → List ℕ → Type 0) (brought : Ent
           by NotDue q = tt
 
       -- the name of any other tag is not that of such a row
-      start-other : (elementNo name ≡ 0 → ⊥) → (partOf s 1 (t .name) ≡ name → ⊥) → Others (started x kind rows (elementNo (partOf s 1 (t .name))) t s empty room)
+      start-other : (elementNo name ≡ 0 → ⊥) → (partOf s 1 (t .name) ≡ name → ⊥)
+          → Others (started x kind rows (elementNo (partOf s 1 (t .name))) t s empty room)
       unfolding started startedAt startedBy Others
       start-other known h = by (startOf rows (x .row) (x .inside) (elementNo (partOf s 1 (t .name)))) refl
         where
@@ -162,7 +163,9 @@ module _ (name : List ℕ) (R : List ℕ → List ℕ → Type 0) (brought : Ent
           by (Row r) q =
               let j = startJudged x kind rows r t s empty room in
               by-cond Others (eqb (j .number) 0)
-              (λ z. h (name-one (partOf s 1 (t .name)) name (sym (row-named rows (x .row) (x .inside) (elementNo (partOf s 1 (t .name))) r q) ∙ blind .alone r (j .first) z) known))
+              (λ z.
+              let e = row-named rows (x .row) (x .inside) (elementNo (partOf s 1 (t .name))) r q in
+              h (name-one (partOf s 1 (t .name)) name (sym e ∙ blind .alone r (j .first) z) known))
               tt
           by NotDue q = tt
 

@@ -104,7 +104,8 @@ module _ (name : List ℕ) (R : List ℕ → List ℕ → Type 0) (brought : Ent
         × (sourcesFrom x ns np na (From (h .from)) ≡ sourcesFrom y ns np na (From (h .from)))
     unfolding sourcesFrom
     runs =
-        let r = run-same name R brought rows x y shown (roomOf ns np na) (d .long) (h .items) begun (zeros ns) (zeros np) (noAmounts na) (noAmounts na) (unsourced na) (shown .none ns) in
+        let r = run-same name R brought rows x y shown (roomOf ns np na) (d .long) (h .items) begun
+        (zeros ns) (zeros np) (noAmounts na) (noAmounts na) (unsourced na) (shown .none ns) in
         (out-under (λ k. (k, refl)) (r .0), r .1)
 
     into-same : Same (readInto x (blank ns np na)) (readInto y (blank ns np na))

@@ -85,6 +85,10 @@ quote-is q h = ⊎-elim (λ y. inl (y .0)) (λ y. inr (eqb-true q 0x27 (rw (y .1
 quote-low : (q : ℕ) → quote q ≡ true → (0x20 ≤ q) × (q < 0x80)
 quote-low q h = ⊎-elim (λ e. (omega (arith, e), omega (arith, e))) (λ e. (omega (arith, e), omega (arith, e))) (quote-is q h)
 
+quote-fit : (q : ℕ) → quote q ≡ true → fit q ≡ true
+unfolding fit
+quote-fit q h = ⊎-elim (λ e. rw e) (λ e. rw e) (quote-is q h)
+
 fit-other : (c : ℕ) → 0x20 ≤ c → (c ≡ 0x3C → ⊥) → (c ≡ 0x26 → ⊥) → fit c ≡ true
 unfolding fit
 fit-other c l a b =
@@ -126,8 +130,7 @@ module _ (q : ℕ) (quotes : quote q ≡ true) where
   unfolding walk valueNext byte
   closed-at at rest =
       let low = quote-low q quotes in
-      let f = fit-other q (low .0) (λ e. ⊎-elim (λ z. omega (arith, e, z)) (λ z. omega (arith, e, z)) (quote-is q quotes)) (λ e. ⊎-elim (λ z. omega (arith, e, z)) (λ z. omega (arith, e, z)) (quote-is q quotes)) in
-      rw (walk, char-printed (q ∷ rest) (low .0) (low .1), f, eq-eqb q q refl)
+      rw (walk, char-printed (q ∷ rest) (low .0) (low .1), quote-fit q quotes, eq-eqb q q refl)
 
   abbrev charsFrom : ℕ → List ℕ → Bool
   charsFrom k b = walk charAt charNext charsOver tt k b
@@ -157,7 +160,8 @@ module _ (q : ℕ) (quotes : quote q ≡ true) where
   whole rest (c ∷ b) zero at m l h r z = by (charAt (c ∷ b)) refl (whole rest b)
     where
       by : (x : Char) → charAt (c ∷ b) ≡ x
-          → ((k at m : ℕ) → k ≤ length b → charsFrom k b ≡ true → run idByte b ≡ length b → m + k ≡ at + length b → walk charAt (valueNext q) valueOver at k (b ++ q ∷ rest) ≡ Long m)
+          → ((k at m : ℕ) → k ≤ length b → charsFrom k b ≡ true → run idByte b ≡ length b → m + k ≡ at + length b
+          → walk charAt (valueNext q) valueOver at k (b ++ q ∷ rest) ≡ Long m)
           → walk charAt (valueNext q) valueOver at zero (c ∷ b ++ q ∷ rest) ≡ Long m
       by NoChar g f = never (rw (walk, g) at h)
       by (Is d n) g f =

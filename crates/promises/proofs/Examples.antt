@@ -68,7 +68,8 @@ firstId = record { start = 460; len = 2 }
 abbrev pub secondId : Span
 secondId = record { start = 955; len = 2 }
 
-computed : (allPass examples ≡ true) × (readOf sheet 25 4 4 Old 16 ≡ sheetOutcome) × (readOf twiceSheet 25 4 4 Old 16 .answer ≡ twiceAnswer) × (identificationsIn sheet ≡ firstId ∷ secondId ∷ [])
+computed : (allPass examples ≡ true) × (readOf sheet 25 4 4 Old 16 ≡ sheetOutcome)
+    × (readOf twiceSheet 25 4 4 Old 16 .answer ≡ twiceAnswer) × (identificationsIn sheet ≡ firstId ∷ secondId ∷ [])
 unfolding byte run same begins walk seqLen control single charAt saidBy saidAt saysAfter says nameStart nameByte white quote fit valueNext valueOver
     value openingFrom opening attributeEnd attributeQuote attributeName attribute pieceAfter piece partOf absent dtdName noDtd withDtd noneKnown anotherKnown
     notedKnown onto endsAfter ends keptOf named twice endClose endName endTag tagOf tagItem startTag item markLen beginAfter begin capital
