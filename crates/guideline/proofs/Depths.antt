@@ -34,7 +34,7 @@ module _ (t : List ℕ) where
       let b = both-true (not (repeated (getD t 0 0))) (a .1) in
       let c = both-true (eqb (nameOf (getD t 0 0)) 255) (b .1) in
       let at : (i : ℕ) → (i ≡ 0 → ⊥) → i < length t
-          → (eqb (heightIn 16 t i) (suc (heightIn 16 t (parentOf (getD t i 0)))) ≡ true) × (ltb (parentOf (getD t i 0)) 255 ≡ true) =
+      → (eqb (heightIn 16 t i) (suc (heightIn 16 t (parentOf (getD t i 0)))) ≡ true) × (ltb (parentOf (getD t i 0)) 255 ≡ true) =
       λ i f l. both-true (eqb (heightIn 16 t i) (suc (heightIn 16 t (parentOf (getD t i 0))))) (rw (ne-eqb i 0 f) at (row-of climbsOne t (c .1) i l)) in
       record {
         climbs = λ i f l. eqb-true (heightIn 16 t i) (suc (heightIn 16 t (parentOf (getD t i 0)))) (at i f l .0);

@@ -48,7 +48,7 @@ three-hundred = refl
 pub first-notes : (noteOf Old (record { refusal = 3; place = 0; kind = 0; series = 0; intervals = 0; depth = 0 }) ≡ 0x03 ∷ 0x00 ∷ 0x00 ∷ 0x00 ∷ 0x00 ∷ [])
     × (noteOf Old (record { refusal = 3; place = 45; kind = 2; series = 0; intervals = 0; depth = 1 }) ≡ 0x03 ∷ 0x2D ∷ 0x02 ∷ 0x00 ∷ 0x00 ∷ [])
     × (noteOf New (record { refusal = 3; place = 45; kind = 2; series = 0; intervals = 0; depth = 1 })
-        ≡ 0x64 ∷ 0x03 ∷ 0x2D ∷ 0x02 ∷ 0x00 ∷ 0x00 ∷ 0x01 ∷ [])
+    ≡ 0x64 ∷ 0x03 ∷ 0x2D ∷ 0x02 ∷ 0x00 ∷ 0x00 ∷ 0x01 ∷ [])
 unfolding groupsIn flat
 first-notes = (refl, refl, refl)
 

@@ -105,7 +105,15 @@ pub fn write_note(note: &mut [u8], shape: Shape, n: Note) -> Put
             write_numbers(note, &five)
         }
         Shape::New => {
-            let seven = [MARK, n.refusal, n.place, n.kind, n.series, n.intervals, n.depth];
+            let seven = [
+                MARK,
+                n.refusal,
+                n.place,
+                n.kind,
+                n.series,
+                n.intervals,
+                n.depth,
+            ];
             write_numbers(note, &seven)
         }
     }
