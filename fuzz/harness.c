@@ -1,7 +1,7 @@
 /*
- * The entry of libFuzzer. An input is sizes in its first bytes and a document after them. What is lent is allocated to the byte, so that AddressSanitizer
- * sees one byte too far; the plain module reads first, then the module whose assumptions are checked, into buffers that hold other bytes before.
- * What a promise says of one call or of the two together is checked, and a broken one ends the program.
+ * The entry of libFuzzer. An input is sizes and a note's shape in its first bytes and a document after them. What is lent is allocated to the byte, so that
+ * AddressSanitizer sees one byte too far; the plain module reads first, then the module whose assumptions are checked, into buffers that hold other bytes
+ * before. What a promise says of one call or of the two together is checked, and a broken one ends the program.
  *
  * Nothing goes to disk: the corpus is in memory, and so are the files by which libFuzzer is given the samples (memfd).
  */
@@ -15,18 +15,24 @@
 
 #include "../library/lumintayag.h"
 
-uint32_t checked_lumintayag_read_v2(const uint8_t *doc, size_t doc_len, uint32_t *series, size_t series_len, uint32_t *positions, size_t positions_len,
-                                    int64_t *amounts, size_t amounts_len, uint8_t *note, size_t note_len, uint32_t *answer, size_t answer_len);
-uint32_t checked_lumintayag_read_note(const uint8_t *note, size_t note_len, uint32_t *five, size_t five_len);
+uint32_t checked_lumintayag_read_v3(const uint8_t *doc, size_t doc_len, uint32_t *series, size_t series_len, uint32_t *positions, size_t positions_len,
+                                    int64_t *amounts, size_t amounts_len, uint32_t shape, uint8_t *note, size_t note_len, uint32_t *answer,
+                                    size_t answer_len);
+uint32_t checked_lumintayag_read_note_v2(const uint8_t *note, size_t note_len, uint32_t *six, size_t six_len);
+uint32_t checked_lumintayag_convert_note(const uint8_t *note, size_t note_len, uint32_t shape, uint8_t *out, size_t out_len, uint32_t *answer,
+                                         size_t answer_len);
 
-enum { SIZES = 8 };
+enum { SIZES = 10, OLD = LUMINTAYAG_NOTE_OLD, NEW = LUMINTAYAG_NOTE_NEW, NEW_MARK = 100 };
 
 struct sizes {
-    size_t series, positions, amounts, note, answer, five;
+    size_t series, positions, amounts, note, answer, six, out;
+    uint32_t shape;
 };
 
+/* The last byte of a shape's number is that of the input, so that numbers from 256 on are asked for too. */
 static struct sizes sizes_of(const uint8_t *b) {
-    struct sizes s = {b[0], b[1] + 256 * (b[2] & 1), b[3] + 256 * (b[4] & 1), b[5] & 31, b[6] & 15, b[7] & 7};
+    struct sizes s = {b[0],      b[1] + 256 * (b[2] & 1), b[3] + 256 * (b[4] & 1), b[5] & 31,
+                      b[6] & 15, b[7] & 7,                b[8] & 63,               b[9] < 128 ? b[9] : b[9] * UINT32_C(0x01010100)};
     return s;
 }
 
@@ -39,12 +45,12 @@ struct outcome {
 
 static struct sizes lent;
 static size_t length;
-static uint64_t refusals[11], notes[2];
+static uint64_t refusals[11], notes[3];
 
 static void hold(int holds, const char *promise) {
     if (holds) return;
-    fprintf(stderr, "BROKEN: %s\ndocument of %zu bytes; lent: series %zu, positions %zu, amounts %zu, note %zu, answer %zu, five %zu\n", promise, length,
-            lent.series, lent.positions, lent.amounts, lent.note, lent.answer, lent.five);
+    fprintf(stderr, "BROKEN: %s\ndocument of %zu bytes; lent: series %zu, positions %zu, amounts %zu, note %zu, answer %zu, six %zu, out %zu; shape %lu\n",
+            promise, length, lent.series, lent.positions, lent.amounts, lent.note, lent.answer, lent.six, lent.out, (unsigned long)lent.shape);
     abort();
 }
 
@@ -55,13 +61,14 @@ static void *filled(size_t bytes, int pattern) {
     return p;
 }
 
-typedef uint32_t reading(const uint8_t *, size_t, uint32_t *, size_t, uint32_t *, size_t, int64_t *, size_t, uint8_t *, size_t, uint32_t *, size_t);
+typedef uint32_t reading(const uint8_t *, size_t, uint32_t *, size_t, uint32_t *, size_t, int64_t *, size_t, uint32_t, uint8_t *, size_t, uint32_t *, size_t);
 
-static struct outcome read_by(reading *read, const uint8_t *doc, size_t answer_len, int pattern) {
+static struct outcome read_by(reading *read, const uint8_t *doc, size_t answer_len, uint32_t shape, int pattern) {
     struct outcome o = {filled(length, 0), filled(lent.note, pattern), filled(4 * lent.series, pattern), filled(4 * lent.positions, pattern),
                         filled(4 * answer_len, pattern), filled(8 * lent.amounts, pattern), 0};
     memcpy(o.doc, doc, length);
-    o.returned = read(o.doc, length, o.series, lent.series, o.positions, lent.positions, o.amounts, lent.amounts, o.note, lent.note, o.answer, answer_len);
+    o.returned =
+        read(o.doc, length, o.series, lent.series, o.positions, lent.positions, o.amounts, lent.amounts, shape, o.note, lent.note, o.answer, answer_len);
     hold(memcmp(o.doc, doc, length) == 0, "the document is not written to");
     return o;
 }
@@ -77,13 +84,20 @@ static int is_zero(const void *p, size_t from, size_t to) {
     return 1;
 }
 
+static int same_positions(struct outcome a, struct outcome b) {
+    return a.returned == b.returned && memcmp(a.series, b.series, 4 * lent.series) == 0 && memcmp(a.positions, b.positions, 4 * lent.positions) == 0;
+}
+
 static int same_but_amounts(struct outcome a, struct outcome b) {
-    return a.returned == b.returned && memcmp(a.series, b.series, 4 * lent.series) == 0 && memcmp(a.positions, b.positions, 4 * lent.positions) == 0 &&
-           memcmp(a.note, b.note, lent.note) == 0;
+    return same_positions(a, b) && memcmp(a.note, b.note, lent.note) == 0;
+}
+
+static int same_tables(struct outcome a, struct outcome b) {
+    return same_positions(a, b) && memcmp(a.amounts, b.amounts, 8 * lent.amounts) == 0;
 }
 
 static int same(struct outcome a, struct outcome b) {
-    return same_but_amounts(a, b) && memcmp(a.amounts, b.amounts, 8 * lent.amounts) == 0;
+    return same_tables(a, b) && memcmp(a.note, b.note, lent.note) == 0;
 }
 
 /* `n` has the seven numbers. */
@@ -151,40 +165,151 @@ static void judge_acceptance(struct outcome o, const uint32_t *n) {
 
 typedef uint32_t rereading(const uint8_t *, size_t, uint32_t *, size_t);
 
-/* The refusal; `five` has the numbers for which there was room, and 0 in the place of the others. */
-static uint32_t read_note_by(rereading *read, const uint8_t *bytes, size_t count, size_t room, uint32_t *five) {
+/* The refusal; `six` has the numbers for which there was room, and 0 in the place of the others. */
+static uint32_t read_note_by(rereading *read, const uint8_t *bytes, size_t count, size_t room, uint32_t *six) {
     uint8_t *note = filled(count, 0);
     uint32_t *cells = filled(4 * room, 0xB3);
     memcpy(note, bytes, count);
     uint32_t returned = read(note, count, cells, room);
-    memset(five, 0, 20);
-    memcpy(five, cells, 4 * (room < 5 ? room : 5));
+    memset(six, 0, 24);
+    memcpy(six, cells, 4 * (room < 6 ? room : 6));
     hold(returned == 0 || returned == 11, "the note reader answers 0 or 11");
-    hold(room <= 5 || is_zero(cells, 20, 4 * room), "cells past the fifth are 0");
-    hold(returned == 0 || is_zero(five, 0, 20), "on 11 the five numbers are 0");
-    for (int k = 0; k < 5; k++) hold(five[k] < 1 << 21, "a number of a note is below 2^21");
+    hold(room <= 6 || is_zero(cells, 24, 4 * room), "cells past the sixth are 0");
+    hold(returned == 0 || is_zero(six, 0, 24), "on 11 the six numbers are 0");
+    for (int k = 0; k < 6; k++) hold(six[k] < 1 << 21, "a number of a note is below 2^21");
     free(note), free(cells);
     return returned;
 }
 
-static void judge_note(const uint8_t *note, const uint32_t *n) {
-    uint32_t five[5], again[5];
-    hold(n[6] >= 5 && n[6] <= 15, "a note has 5 to 15 bytes");
-    hold(is_zero(note, n[6], lent.note), "the bytes past the note are 0");
-    hold(read_note_by(lumintayag_read_note, note, n[6], 5, five) == 0 && memcmp(five, n, 20) == 0, "a note read back gives its five numbers");
-    hold(read_note_by(checked_lumintayag_read_note, note, n[6], lent.five, again) == 0 && memcmp(five, again, 4 * (lent.five < 5 ? lent.five : 5)) == 0,
-         "a note read into fewer cells gives the first numbers");
-    hold(read_note_by(lumintayag_read_note, note, n[6] - 1, 5, five) == 11, "a note cut short is none");
-    if (n[6] < lent.note) hold(read_note_by(lumintayag_read_note, note, n[6] + 1, 5, five) == 11, "a zero is no part of a note");
+/* Whether bytes are a note, and its six numbers, as the papers have it: five numbers whose first is not 100, or seven whose first is 100 and whose second
+ * is not; each shortest and below 2^21. */
+static int is_note(const uint8_t *bytes, size_t count, uint32_t *six) {
+    uint32_t numbers[8] = {0};
+    size_t many = 0, groups = 0;
+    for (size_t i = 0; i < count; i++) {
+        if (many == 8 || groups == 3) return 0;
+        numbers[many] |= (uint32_t)(bytes[i] & 127) << (7 * groups++);
+        if (bytes[i] >= 128) continue;
+        if (groups > 1 && bytes[i] == 0) return 0;
+        many++, groups = 0;
+    }
+    int is_new = many == 7 && numbers[0] == NEW_MARK;
+    memcpy(six, numbers + is_new, 24);
+    if (!is_new) six[5] = 0;
+    return groups == 0 && (many == 5 || is_new) && six[0] != NEW_MARK;
 }
 
-/* Any bytes as a note. */
-static void judge_bytes(const uint8_t *bytes, size_t count) {
-    uint32_t five[5], again[5];
+typedef uint32_t converting(const uint8_t *, size_t, uint32_t, uint8_t *, size_t, uint32_t *, size_t);
+
+/* The refusal; what is written is left in `out`, which has 64 bytes, and its length in `written`. */
+static uint32_t convert_by(converting *convert, const uint8_t *bytes, size_t count, uint32_t shape, size_t room, uint8_t *out, size_t *written) {
+    uint8_t *note = filled(count, 0), *cells = filled(room, 0x6B);
+    uint32_t *answer = filled(4 * lent.answer, 0xB3), two[2] = {0};
+    memcpy(note, bytes, count);
+    uint32_t returned = convert(note, count, shape, cells, room, answer, lent.answer);
+    memcpy(two, answer, 4 * (lent.answer < 2 ? lent.answer : 2));
+    hold(lent.answer < 1 || two[0] == returned, "what is returned is the refusal");
+    hold(lent.answer <= 2 || is_zero(answer, 8, 4 * lent.answer), "cells past the second are 0");
+    hold((returned == 10) == (room < 24), "10 is given for an output of fewer than 24 bytes, and for nothing else");
+    hold(returned == 0 || (two[1] == 0 && is_zero(cells, 0, room)), "on a refusal the output is all 0");
+    /* A note's last byte may be 0, so that its length is the answer's; where there is no cell for it, all of the output is compared. */
+    *written = lent.answer < 2 || returned != 0 ? room : two[1];
+    hold(*written <= room && is_zero(cells, *written, room), "the bytes past the note are 0");
+    memcpy(out, cells, room);
+    free(note), free(cells), free(answer);
+    return returned;
+}
+
+/* A note there and back: old to new to old gives the same bytes, new to old to new does exactly when the depth is 0. */
+static void judge_turns(const uint8_t *note, size_t count, uint32_t depth) {
+    uint8_t out[64], again[64];
+    uint32_t two[2] = {0}, own = note[0] == NEW_MARK ? NEW : OLD, other = own == OLD ? NEW : OLD, six[6];
+    size_t less = depth < 128 ? 2 : depth < 16384 ? 3 : 4;
+    hold(lumintayag_convert_note(note, count, own, out, 24, two, 2) == 0 && two[1] == count && memcmp(out, note, count) == 0,
+         "a note that has the shape stays as it is");
+    hold(lumintayag_convert_note(note, count, other, out, 24, two, 2) == 0, "a note is turned into the other shape");
+    hold(two[1] == (own == OLD ? count + 2 : count - less), "it has the number 100 and a depth more, or less");
+    hold(is_note(out, two[1], six) && six[5] == 0 && (out[0] == NEW_MARK) == (own == OLD), "the other shape has depth 0");
+    hold(lumintayag_convert_note(out, two[1], own, again, 24, two, 2) == 0, "it is turned back");
+    hold((two[1] == count && memcmp(again, note, count) == 0) == (depth == 0), "there and back gives the same exactly when the depth is 0");
+}
+
+/* Any bytes as a note: 0 where they are none, 1 for an old one, 2 for a new one. */
+static int judge_bytes(const uint8_t *bytes, size_t count) {
+    uint32_t expected[6], six[6], again[6];
+    uint8_t out[64], other[64];
+    size_t written, twice;
+    int is_one = is_note(bytes, count, expected);
+    uint32_t refusal = read_note_by(lumintayag_read_note_v2, bytes, count, 6, six);
+    hold((refusal == 0) == is_one && (!is_one || memcmp(six, expected, 24) == 0), "what is a note is told by its numbers");
+    hold(refusal == read_note_by(checked_lumintayag_read_note_v2, bytes, count, 6, again) && memcmp(six, again, 24) == 0, "the two modules read a note alike");
+    uint32_t converted = convert_by(lumintayag_convert_note, bytes, count, lent.shape, lent.out, out, &written);
+    hold(converted == (lent.out < 24 ? 10 : is_one ? 0 : 11), "10, then 11 for bytes that are no note");
+    uint32_t checked = convert_by(checked_lumintayag_convert_note, bytes, count, lent.shape, lent.out, other, &twice);
+    hold(converted == checked && written == twice && memcmp(out, other, lent.out) == 0, "the two modules convert a note alike");
+    if (converted == 0 && lent.answer >= 2) hold(is_note(out, written, again) && memcmp(again, six, 20) == 0, "the note in another shape says the same");
+    if (is_one) judge_turns(bytes, count, six[5]);
+    return !is_one ? 0 : bytes[0] == NEW_MARK ? 2 : 1;
+}
+
+/* The first bytes of an input, and the same after the number 100, as a note. */
+static void judge_front(const uint8_t *bytes, size_t count) {
+    uint8_t marked[25] = {NEW_MARK};
     if (count > 24) count = 24;
-    uint32_t refusal = read_note_by(lumintayag_read_note, bytes, count, 5, five);
-    hold(refusal == read_note_by(checked_lumintayag_read_note, bytes, count, 5, again) && memcmp(five, again, 20) == 0, "the two modules read a note alike");
-    notes[refusal == 0]++;
+    if (count > 0) memcpy(marked + 1, bytes, count);
+    notes[judge_bytes(marked + 1, count)]++;
+    notes[judge_bytes(marked, count + 1)]++;
+}
+
+/* Start tags less end tags of the items before a place; all of those are readable. */
+static uint32_t open_before(const uint8_t *doc, size_t place) {
+    uint32_t open = 0;
+    for (size_t i = 0; i < place; i++) {
+        if (doc[i] != '<') continue;
+        if (i + 3 < place && memcmp(doc + i, "<!--", 4) == 0) {
+            for (i += 6; doc[i] != '>' || doc[i - 1] != '-' || doc[i - 2] != '-';) i++;
+            continue;
+        }
+        uint8_t kind = doc[i + 1], quote = 0;
+        for (; quote != 0 || doc[i] != '>'; i++) {
+            if (quote == 0 && (doc[i] == '"' || doc[i] == '\'')) quote = doc[i];
+            else if (doc[i] == quote) quote = 0;
+        }
+        if (kind == '/') open--;
+        else if (kind != '?' && doc[i - 1] != '/') open++;
+    }
+    return open;
+}
+
+/* The note of a reading in a shape: `n` has the seven numbers of its answer. */
+static void judge_note(struct outcome o, const uint32_t *n, uint32_t shape) {
+    const uint8_t *note = o.note;
+    uint32_t six[6], again[6], is_new = shape != OLD;
+    uint32_t depth = n[0] == 0 || n[0] == 1 ? 0 : open_before(o.doc, n[1]);
+    hold(n[6] >= 5 + 2 * is_new && n[6] <= 11 + 2 * is_new, "a note of the reader has 5 to 11 bytes, in the new shape 7 to 13");
+    hold((note[0] == NEW_MARK) == is_new, "a new note begins with 100");
+    hold(is_zero(note, n[6], lent.note), "the bytes past the note are 0");
+    hold(read_note_by(lumintayag_read_note_v2, note, n[6], 6, six) == 0 && memcmp(six, n, 20) == 0, "a note read back gives its numbers");
+    hold(six[5] == (is_new ? depth : 0), "the depth is that of the elements open before the faulty item");
+    hold(read_note_by(checked_lumintayag_read_note_v2, note, n[6], lent.six, again) == 0 && memcmp(six, again, 4 * (lent.six < 6 ? lent.six : 6)) == 0,
+         "a note read into fewer cells gives the first numbers");
+    hold(read_note_by(lumintayag_read_note_v2, note, n[6] - 1, 6, six) == 11, "a note cut short is none");
+    if (n[6] < lent.note) hold(read_note_by(lumintayag_read_note_v2, note, n[6] + 1, 6, six) == 11, "a zero is no part of a note");
+    judge_bytes(note, n[6]);
+    o.note[is_new] = NEW_MARK; /* a refusal has one byte */
+    hold(judge_bytes(note, n[6]) == 0, "with a refusal of 100 it is no note");
+    o.note[is_new] = (uint8_t)n[0];
+}
+
+/* The same document with a note in the other shape: nothing else differs. */
+static void judge_other_shape(const uint8_t *doc, struct outcome first, const uint32_t *n) {
+    uint32_t other = lent.shape == OLD ? NEW : OLD, cells[7];
+    struct outcome o = read_by(lumintayag_read_v3, doc, 7, other, 0x3C);
+    memcpy(cells, o.answer, sizeof cells);
+    hold(same_tables(first, o) && memcmp(o.answer, n, 24) == 0, "nothing but the note depends on its shape");
+    if (n[0] == 10) hold(is_zero(o.note, 0, lent.note) && cells[6] == 0, "10 is given in either shape");
+    else judge_note(o, cells, other);
+    let_go(o);
 }
 
 /* In an accepted document each tag Qty has one attribute, so that its quoted digits are readable Qty digits; those in a comment change nothing either. */
@@ -204,7 +329,7 @@ static void judge_digits(const uint8_t *doc, struct outcome first, const uint32_
     uint8_t *other = filled(length, 0);
     memcpy(other, doc, length);
     turn_digits(other);
-    struct outcome o = read_by(lumintayag_read_v2, other, 7, 0x11);
+    struct outcome o = read_by(lumintayag_read_v3, other, 7, lent.shape, 0x11);
     hold(same_but_amounts(first, o) && memcmp(o.answer, n, 28) == 0, "nothing but the amounts depends on the digits of a price");
     let_go(o);
     free(other);
@@ -235,7 +360,7 @@ static void judge_identifications(const uint8_t *doc, struct outcome first, cons
     uint8_t *other = filled(length, 0);
     memcpy(other, doc, length);
     if (turn_identifications(other, first.series, n[3])) {
-        struct outcome o = read_by(lumintayag_read_v2, other, 7, 0x22);
+        struct outcome o = read_by(lumintayag_read_v3, other, 7, lent.shape, 0x22);
         hold(same(first, o) && memcmp(o.answer, n, 28) == 0, "identifications replaced by a one-to-one rule change nothing");
         let_go(o);
     }
@@ -251,8 +376,8 @@ int LLVMFuzzerTestOneInput(const uint8_t *data, size_t size) {
     length = size < SIZES ? 0 : size - SIZES;
     lent = sizes_of(first);
 
-    struct outcome a = read_by(lumintayag_read_v2, doc, lent.answer, 0xA5);
-    struct outcome b = read_by(checked_lumintayag_read_v2, doc, 7, 0x5A);
+    struct outcome a = read_by(lumintayag_read_v3, doc, lent.answer, lent.shape, 0xA5);
+    struct outcome b = read_by(checked_lumintayag_read_v3, doc, 7, lent.shape, 0x5A);
     const uint32_t *n = b.answer;
     hold(same(a, b), "the same document gives the same, whatever stood in what is lent");
     hold(memcmp(a.answer, n, 4 * (lent.answer < 7 ? lent.answer : 7)) == 0, "the answer in fewer cells is its first numbers");
@@ -262,16 +387,19 @@ int LLVMFuzzerTestOneInput(const uint8_t *data, size_t size) {
     else judge_refusal(b, n);
     refusals[n[0]]++;
     if (n[0] == 10) hold(is_zero(b.note, 0, lent.note) && is_zero(n + 1, 0, 24), "on 10 the note buffer and the other numbers are 0");
-    else judge_note(b.note, n);
-    judge_bytes(doc, length);
+    else judge_note(b, n, lent.shape);
+    judge_other_shape(doc, a, n);
+    judge_front(doc, length);
     let_go(a), let_go(b);
     return 0;
 }
 
-/* Room for all rows; for no series; for one row; for fewer amounts than positions; a note of 15. Each sample is lent one of these. */
+/* Room for all rows; for no series; for one row; for fewer amounts than positions; a note of 15; outputs of 24 and of 23 bytes; both shapes. Each sample is
+ * lent one of these. */
 static const uint8_t ROOM[][SIZES] = {
-    {255, 255, 1, 255, 1, 16, 7, 5}, {255, 255, 0, 200, 0, 31, 15, 7}, {12, 1, 0, 1, 0, 16, 7, 5}, {255, 255, 1, 255, 1, 16, 0, 0},
-    {11, 10, 0, 10, 0, 16, 3, 4},    {255, 255, 1, 255, 1, 16, 7, 6},  {71, 3, 0, 2, 0, 20, 9, 1},  {255, 255, 1, 255, 1, 15, 7, 5},
+    {255, 255, 1, 255, 1, 16, 7, 6, 24, 0}, {255, 255, 0, 200, 0, 31, 15, 7, 40, 1},   {12, 1, 0, 1, 0, 16, 7, 5, 24, 1},
+    {11, 10, 0, 10, 0, 16, 3, 4, 23, 0},    {255, 255, 1, 255, 1, 16, 0, 0, 24, 200},  {255, 255, 1, 255, 1, 16, 7, 6, 25, 1},
+    {71, 3, 0, 2, 0, 20, 9, 1, 63, 100},    {255, 255, 1, 255, 1, 15, 7, 5, 0, 1},
 };
 
 /* libFuzzer's own changes break most documents. Half of the changes are these, which keep a document near to acceptance: another value between quotes, white
@@ -358,7 +486,7 @@ static int in_memory(const char *folder, const char *name, size_t number) {
 static void tell(void) {
     printf("documents by refusal:");
     for (int k = 0; k <= 10; k++) printf(" %d: %llu", k, (unsigned long long)refusals[k]);
-    printf("\nnotes taken: %llu, refused: %llu\n", (unsigned long long)notes[1], (unsigned long long)notes[0]);
+    printf("\nnotes taken: %llu old, %llu new, refused: %llu\n", (unsigned long long)notes[1], (unsigned long long)notes[2], (unsigned long long)notes[0]);
 }
 
 int LLVMFuzzerInitialize(int *argc, char ***argv);

@@ -23,23 +23,30 @@ size_t NAMED(AS, _readable_len)(const uint8_t *doc, size_t doc_len) {
 #else
 
 uint32_t NAMED(IN, _version)(void);
-uint32_t NAMED(IN, _read_v2)(struct slice *doc, struct slice *series, struct slice *positions, struct slice *amounts, struct slice *note, struct slice *answer);
-uint32_t NAMED(IN, _read_note)(struct slice *note, struct slice *five);
+uint32_t NAMED(IN, _read_v3)(struct slice *doc, struct slice *series, struct slice *positions, struct slice *amounts, uint32_t shape, struct slice *note,
+                             struct slice *answer);
+uint32_t NAMED(IN, _read_note_v2)(struct slice *note, struct slice *six);
+uint32_t NAMED(IN, _convert_note)(struct slice *note, uint32_t shape, struct slice *out, struct slice *answer);
 
 uint32_t NAMED(AS, _version)(void) {
     return NAMED(IN, _version)();
 }
 
-uint32_t NAMED(AS, _read_v2)(const uint8_t *doc, size_t doc_len, uint32_t *series, size_t series_len, uint32_t *positions, size_t positions_len,
-                             int64_t *amounts, size_t amounts_len, uint8_t *note, size_t note_len, uint32_t *answer, size_t answer_len) {
+uint32_t NAMED(AS, _read_v3)(const uint8_t *doc, size_t doc_len, uint32_t *series, size_t series_len, uint32_t *positions, size_t positions_len,
+                             int64_t *amounts, size_t amounts_len, uint32_t shape, uint8_t *note, size_t note_len, uint32_t *answer, size_t answer_len) {
     struct slice d = {doc, doc_len}, s = {series, series_len}, p = {positions, positions_len}, a = {amounts, amounts_len}, n = {note, note_len},
                  r = {answer, answer_len};
-    return NAMED(IN, _read_v2)(&d, &s, &p, &a, &n, &r);
+    return NAMED(IN, _read_v3)(&d, &s, &p, &a, shape, &n, &r);
 }
 
-uint32_t NAMED(AS, _read_note)(const uint8_t *note, size_t note_len, uint32_t *five, size_t five_len) {
-    struct slice n = {note, note_len}, f = {five, five_len};
-    return NAMED(IN, _read_note)(&n, &f);
+uint32_t NAMED(AS, _read_note_v2)(const uint8_t *note, size_t note_len, uint32_t *six, size_t six_len) {
+    struct slice n = {note, note_len}, s = {six, six_len};
+    return NAMED(IN, _read_note_v2)(&n, &s);
+}
+
+uint32_t NAMED(AS, _convert_note)(const uint8_t *note, size_t note_len, uint32_t shape, uint8_t *out, size_t out_len, uint32_t *answer, size_t answer_len) {
+    struct slice n = {note, note_len}, o = {out, out_len}, r = {answer, answer_len};
+    return NAMED(IN, _convert_note)(&n, shape, &o, &r);
 }
 
 #endif

@@ -6,7 +6,7 @@
  * to call, open no file and call nothing but memset. They end for every input. What they answer and leave behind
  * is proved for every document and every length of every slice (crates/library, crates/reader, crates/notes,
  * crates/readable); no input is excepted. Threads may call them at the same time, each with slices of its own.
- * lumintayag_read_v2 takes 67 KB of stack, whatever the document; a thread that has 128 KiB has enough.
+ * lumintayag_read_v3 takes 67 KB of stack, whatever the document; a thread that has 128 KiB has enough.
  *
  * Slices. A lent slice is two arguments: a pointer, and a length in elements (not in bytes). What no proof can see
  * is left to the caller:
@@ -29,23 +29,38 @@ extern "C" {
 #endif
 
 /*
- * The version of this header, a.b.c as 10000 a + 100 b + c: 0.2.0. lumintayag_version answers that of the archive
+ * The version of this header, a.b.c as 10000 a + 100 b + c: 0.3.0. lumintayag_version answers that of the archive
  * or shared object; a program that checks that the two are equal knows that they belong together.
  * A function whose arguments, rows or cells are laid out anew gets a new name, and the old name is gone: a
  * program that knows the old layout is not linked with the new one.
  */
-#define LUMINTAYAG_VERSION 200
+#define LUMINTAYAG_VERSION 300
 uint32_t lumintayag_version(void);
 
 /* A longer document is refused with 1. */
 #define LUMINTAYAG_DOCUMENT_MOST 1048576
 
-/* A shorter note buffer is refused with 10. A note has at most 15 bytes. */
+/*
+ * The document reader refuses a shorter note buffer with 10, in either shape, and the converter a shorter buffer for
+ * the note that it writes. A note has at most 15 bytes in the old shape and 19 in the new; one that the document
+ * reader writes fits into 16.
+ */
 #define LUMINTAYAG_NOTE_ROOM 16
+#define LUMINTAYAG_CONVERTED_ROOM 24
 
-/* Numbers in the answer, and in a note. */
+/*
+ * The shapes of a note. Each number that is not 0 asks for the new one.
+ * Old: refusal, place, kind, series, intervals. New: the number 100, these five, and the depth, which is the count
+ * of elements open before the faulty item: one that the item would open is not counted, one that it would close is.
+ * On acceptance it is 0. No old note begins with 100, and no new one has 100 for its refusal.
+ */
+#define LUMINTAYAG_NOTE_OLD 0
+#define LUMINTAYAG_NOTE_NEW 1
+
+/* Numbers in the answer, those that the note reader tells of a note, and in the answer of the converter. */
 #define LUMINTAYAG_ANSWER_NUMBERS 7
-#define LUMINTAYAG_NOTE_NUMBERS 5
+#define LUMINTAYAG_NOTE_NUMBERS 6
+#define LUMINTAYAG_CONVERTED_NUMBERS 2
 
 /* u32 numbers that a series takes in the series table. */
 #define LUMINTAYAG_SERIES_ROW 12
@@ -75,8 +90,9 @@ uint32_t lumintayag_version(void);
 #define LUMINTAYAG_CODE 7            /* value outside its code list */
 #define LUMINTAYAG_AGAINST 8         /* value or count against another value */
 #define LUMINTAYAG_USED_BEFORE 9     /* TimeSeriesIdentification used before in this document */
-#define LUMINTAYAG_NOTE_TOO_SHORT 10 /* the note buffer has fewer than 16 bytes; place 0 */
-#define LUMINTAYAG_NOT_ONE_NOTE 11   /* lumintayag_read_note only: the bytes aren't one note */
+#define LUMINTAYAG_NOTE_TOO_SHORT 10 /* the note buffer has fewer than 16 bytes, place 0; the converter's has fewer
+                                        than 24 */
+#define LUMINTAYAG_NOT_ONE_NOTE 11   /* note reader and converter only: the bytes aren't one note */
 
 /* Kinds. 0 is a document whose root was not accepted. */
 #define LUMINTAYAG_BESCHAFFUNGSANFORDERUNG 1
@@ -91,6 +107,17 @@ enum {
     LUMINTAYAG_INTERVALS = 4, /* intervals; on a refusal, their start tags before the faulty item */
     LUMINTAYAG_QUARTERS = 5,  /* N: quarter hours of TimePeriodCovered; 0 on every refusal */
     LUMINTAYAG_NOTE_LEN = 6   /* bytes of the note; 0 on refusal 10 */
+};
+
+/* Of the six numbers of a note the first five have the cells of the answer's. */
+enum {
+    LUMINTAYAG_DEPTH = 5 /* elements open before the faulty item; 0 on acceptance, and in an old note */
+};
+
+/* The cells of the converter's answer. */
+enum {
+    LUMINTAYAG_CONVERTED_REFUSAL = 0, /* 0, 10 or 11 */
+    LUMINTAYAG_CONVERTED_LEN = 1      /* bytes of the note that was written; 0 on a refusal */
 };
 
 /*
@@ -117,7 +144,9 @@ enum {
  * positions  the Pos of each interval, in document order, counted over all series.
  * amounts    at the same index its Qty, in thousandths: 12.5 is 12500. Room for intervals is the shorter of
  *            positions_len and amounts_len.
- * note       the first five numbers of the answer as bytes, for the support desk.
+ * shape      that of the note: LUMINTAYAG_NOTE_OLD, or LUMINTAYAG_NOTE_NEW. Nothing else depends on it but the
+ *            note's length in the answer.
+ * note       the first five numbers of the answer as bytes, for the support desk; in the new shape the depth too.
  * answer     the seven numbers. Where answer_len is smaller, the first ones; where it is larger, the cells past
  *            the seventh are 0.
  *
@@ -135,23 +164,39 @@ enum {
  * are the same, which the caller has to see to.
  *
  * Nothing but the amounts depends on the digits of a price: two documents of equal length that differ only in
- * digits of readable Qty values get the same answer and note, and the same cells but for the amounts of accepted
- * intervals whose own digits differ (proved: docs/ARCHITECTURE.md).
+ * digits of readable Qty values get the same answer and, in the same shape, the same note, and the same cells but for
+ * the amounts of accepted intervals whose own digits differ (proved: docs/ARCHITECTURE.md).
  */
-uint32_t lumintayag_read_v2(const uint8_t *doc, size_t doc_len,
+uint32_t lumintayag_read_v3(const uint8_t *doc, size_t doc_len,
                             uint32_t *series, size_t series_len,
                             uint32_t *positions, size_t positions_len,
                             int64_t *amounts, size_t amounts_len,
+                            uint32_t shape,
                             uint8_t *note, size_t note_len,
                             uint32_t *answer, size_t answer_len);
 
 /*
- * Reads a note back: exactly five numbers, each shortest and below 2^21, and nothing after; so note_len is the
- * note's length and not that of its buffer. It answers 0, and five holds refusal, place, kind, series and
- * intervals; or it answers 11, and five is all 0. Where five_len is smaller than 5, the first numbers; where it is
- * larger, the cells past the fifth are 0.
+ * Reads a note of either shape back: exactly five numbers whose first is not 100, or exactly seven whose first is
+ * 100 and whose second is not; each shortest and below 2^21, and nothing after, so that note_len is the note's
+ * length and not that of its buffer. It answers 0, and six holds refusal, place, kind, series, intervals and depth,
+ * which is 0 of an old note; or it answers 11, and six is all 0. Where six_len is smaller than 6, the first numbers;
+ * where it is larger, the cells past the sixth are 0.
  */
-uint32_t lumintayag_read_note(const uint8_t *note, size_t note_len, uint32_t *five, size_t five_len);
+uint32_t lumintayag_read_note_v2(const uint8_t *note, size_t note_len, uint32_t *six, size_t six_len);
+
+/*
+ * Writes a note in the asked shape into out: an old one in the new shape with depth 0, a new one in the old shape
+ * without its depth, and one that has the shape already as it is. It answers 0, and answer holds 0 and the length of
+ * what was written; or it answers 10 where out has fewer than 24 bytes, else 11 where the bytes are no note of either
+ * shape, and the length is 0. The bytes of out past the note are 0, and on a refusal all of them. Where answer_len is
+ * smaller than 2, the first number; where it is larger, the cells past the second are 0.
+ *
+ * Old to new to old gives the same bytes; new to old to new does exactly when the depth is 0 (proved).
+ */
+uint32_t lumintayag_convert_note(const uint8_t *note, size_t note_len,
+                                 uint32_t shape,
+                                 uint8_t *out, size_t out_len,
+                                 uint32_t *answer, size_t answer_len);
 
 /*
  * The place of the first unreadable item of a document, or its length where there is none. It looks at bytes,

@@ -11,17 +11,24 @@ static int wrong(int is, const char *what) {
 
 int main(void) {
     static const uint8_t root[] = "<Kostenblatt DtdBDEWNachrichtenVersion=\"1.0\">", told[] = {3, 45, 2, 0, 0};
-    uint8_t note[LUMINTAYAG_NOTE_ROOM];
-    uint32_t answer[LUMINTAYAG_ANSWER_NUMBERS], five[LUMINTAYAG_NOTE_NUMBERS], numbers[ROW];
+    enum { OLD = LUMINTAYAG_NOTE_OLD, NEW = LUMINTAYAG_NOTE_NEW };
+    uint8_t note[LUMINTAYAG_NOTE_ROOM], out[LUMINTAYAG_CONVERTED_ROOM];
+    uint32_t answer[LUMINTAYAG_ANSWER_NUMBERS], six[LUMINTAYAG_NOTE_NUMBERS], two[LUMINTAYAG_CONVERTED_NUMBERS], numbers[ROW];
     int64_t amounts[1];
     int bad = wrong(lumintayag_version() != LUMINTAYAG_VERSION, "the version");
-    bad |= wrong(lumintayag_read_v2(NULL, 0, numbers, ROW, numbers + ROW, 0, amounts, 1, note, sizeof note, answer, 7) != 3 || answer[LUMINTAYAG_PLACE] != 0, "no document");
-    bad |= wrong(lumintayag_read_v2(root, 45, NULL, 0, NULL, 0, NULL, 0, note, sizeof note, answer, 7) != 3 || answer[LUMINTAYAG_PLACE] != 45, "no tables");
-    bad |= wrong(lumintayag_read_v2(root, 45, NULL, 0, NULL, 0, NULL, 0, note, sizeof note, NULL, 0) != 3 || note[1] != 45, "no answer");
-    bad |= wrong(lumintayag_read_v2(NULL, 0, NULL, 0, NULL, 0, NULL, 0, NULL, 0, NULL, 0) != 10, "nothing");
-    bad |= wrong(lumintayag_read_note(NULL, 0, five, 5) != 11 || five[0] != 0, "no note");
-    bad |= wrong(lumintayag_read_note(told, sizeof told, NULL, 0) != 0, "no five numbers");
-    bad |= wrong(lumintayag_read_note(NULL, 0, NULL, 0) != 11, "neither");
+    bad |= wrong(lumintayag_read_v3(NULL, 0, numbers, ROW, numbers + ROW, 0, amounts, 1, OLD, note, sizeof note, answer, 7) != 3 || answer[LUMINTAYAG_PLACE] != 0, "no document");
+    bad |= wrong(lumintayag_read_v3(root, 45, NULL, 0, NULL, 0, NULL, 0, OLD, note, sizeof note, answer, 7) != 3 || answer[LUMINTAYAG_PLACE] != 45, "no tables");
+    bad |= wrong(lumintayag_read_v3(root, 45, NULL, 0, NULL, 0, NULL, 0, OLD, note, sizeof note, NULL, 0) != 3 || note[1] != 45, "no answer");
+    bad |= wrong(lumintayag_read_v3(root, 45, NULL, 0, NULL, 0, NULL, 0, NEW, note, sizeof note, NULL, 0) != 3 || note[0] != 100 || note[6] != 1, "no answer, a new note");
+    bad |= wrong(lumintayag_read_v3(NULL, 0, NULL, 0, NULL, 0, NULL, 0, OLD, NULL, 0, NULL, 0) != 10, "nothing");
+    bad |= wrong(lumintayag_read_v3(NULL, 0, NULL, 0, NULL, 0, NULL, 0, NEW, NULL, 0, NULL, 0) != 10, "nothing, in the new shape");
+    bad |= wrong(lumintayag_read_note_v2(NULL, 0, six, 6) != 11 || six[0] != 0, "no note");
+    bad |= wrong(lumintayag_read_note_v2(told, sizeof told, NULL, 0) != 0, "no six numbers");
+    bad |= wrong(lumintayag_read_note_v2(NULL, 0, NULL, 0) != 11, "neither");
+    bad |= wrong(lumintayag_convert_note(NULL, 0, NEW, out, sizeof out, two, 2) != 11 || two[0] != 11 || two[1] != 0 || out[0] != 0, "no note to convert");
+    bad |= wrong(lumintayag_convert_note(told, sizeof told, NEW, NULL, 0, two, 2) != 10 || two[0] != 10 || two[1] != 0, "nothing to convert into");
+    bad |= wrong(lumintayag_convert_note(told, sizeof told, NEW, out, sizeof out, NULL, 0) != 0 || out[0] != 100, "a note converted, no answer");
+    bad |= wrong(lumintayag_convert_note(NULL, 0, OLD, NULL, 0, NULL, 0) != 10, "no note, nothing to convert into, no answer");
     bad |= wrong(lumintayag_readable_len(NULL, 0) != 0, "no document to walk");
     return bad;
 }

@@ -3,7 +3,7 @@
 
     explain.py CRATE      writes CRATE/stdin and CRATE/stdout
 
-A line is a note where it is the printed form of five numbers below 2^21. The words for each number are written here a second time.
+A line is a note where it is the printed form of five numbers below 2^21, or of seven in the new shape. The words for each number are written here a second time.
 """
 import re
 import sys
@@ -21,6 +21,8 @@ REFUSALS = [
     "a TimeSeriesIdentification was used before",
     "the note buffer has fewer than 16 bytes",
 ]
+DEPTHS = ["", "one element", "two elements", "three elements", "four elements", "five elements", "six elements", "seven elements",
+          "eight elements", "nine elements", "ten elements", "eleven elements", "twelve elements"]
 KINDS = ["no root yet", "Beschaffungsanforderung", "Kostenblatt"]
 
 
@@ -36,7 +38,7 @@ def printed(*numbers):
 
 
 def numbers_on(line):
-    """the five numbers of which the line is the printed note, or none"""
+    """the five numbers and the depth of which the line is the printed note, or none"""
     if not re.fullmatch("[0-9A-F]{2}( [0-9A-F]{2})*", line):
         return None
     found, value, unit = [], 0, 1
@@ -47,24 +49,30 @@ def numbers_on(line):
         if b < 128:
             found.append(value)
             value, unit = 0, 1
-    good = len(found) == 5 and max(found) < 2 ** 21 and printed(*found) == line
-    return found if good else None
+    if printed(*found) != line or any(n >= 2 ** 21 for n in found):
+        return None
+    if len(found) == 5 and found[0] != 100:
+        return found + [0]
+    if len(found) == 7 and found[0] == 100 and found[1] != 100:
+        return found[1:]
+    return None
 
 
 def explained(line):
     found = numbers_on(line)
     if found is None:
         return "This is not a note.\n"
-    refusal, place, kind, series, intervals = found
+    refusal, place, kind, series, intervals, depth = found
     words = REFUSALS[refusal] if refusal < len(REFUSALS) else "an unknown refusal"
     name = KINDS[kind] if kind < len(KINDS) else "an unknown kind"
     many = "interval" if intervals == 1 else "intervals"
+    deep = DEPTHS[depth] if depth < len(DEPTHS) else f"{depth} elements"
     if refusal == 0:
         head, where, before = "Accepted", f"Length: the document has {place} bytes.", "the document has"
     else:
         head, where, before = "Refused", f"Place: byte {place} of the document, its first byte being byte 0.", "before that place"
     return (f"{head}: {refusal}, {words}.\n{where}\nKind: {kind}, {name}.\n"
-            f"Counts: {before} {series} series and {intervals} {many}.\n")
+            f"Counts: {before} {series} series and {intervals} {many}.\n" + (f"Depth: {deep} deep.\n" if depth else ""))
 
 
 LINES = [
@@ -76,6 +84,12 @@ LINES = [
     # notes that no document reader gives
     printed(11, 0, 0, 0, 0), printed(0, 0, 0, 0, 0), printed(300, 2097151, 3, 10, 2),
     printed(2097151, 2097151, 2097151, 2097151, 2097151),
+    # the new shape, at every depth that has a word and at some that have none
+    printed(100, 0, 15871, 2, 2, 192, 0), printed(100, 3, 45, 2, 0, 0, 1), *[printed(100, 6, 1234, 2, 2, 17, d) for d in range(18)],
+    printed(100, *[2097151] * 6), printed(100, 2097151, 0, 0, 0, 0, 128),
+    # not notes: five that begin with 100, seven whose second is 100, seven with another first number, six, eight
+    printed(100, 0, 0, 0, 0), printed(100, 100, 0, 0, 0, 0, 0), printed(99, 3, 45, 2, 0, 0, 1), printed(100, 3, 45, 2, 0, 0),
+    printed(100, 3, 45, 2, 0, 0, 1, 0), printed(100, 3, 45, 2, 0, 0, 2097152), "E4 00 03 2D 02 00 00 01",
     # not notes: half a byte missing or too much, four and six numbers, zeros after it, not shortest, 2^21
     "03 2D 02 00 0", "03 2D 02 00 00 0", "03 2D 02 00", "03 2D 02 00 00 00", "03 2D 02 00 00 00 00", "03 AD 00 02 00 00",
     "03 00 00 00 80 80 80 01", " ".join(["00"] * 16),

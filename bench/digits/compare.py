@@ -1,20 +1,24 @@
-"""Reads the counts that callgrind left, one for each call, and compares them within each pair: compare.py FOLDER."""
+"""Reads the counts that callgrind left, one for each call, and compares them within each pair, for each shape of the note: compare.py FOLDER."""
 import re
 import sys
 from collections import Counter
 from pathlib import Path
 
 folder = Path(sys.argv[1])
-refusals = (folder / "refusals").read_text().split()
+told = [line.split() for line in (folder / "refusals").read_text().splitlines()]
 counts = []
-for call in range(1, 2 * len(refusals) + 1):
+for call in range(1, 2 * len(told) + 1):
     found = re.search(r"^(?:totals|summary): (\d+)", (folder / f"count.{call}").read_text(), re.M)
     counts.append(int(found[1]))
-pairs = list(zip(counts[::2], counts[1::2]))
-differ = [(k, a, b) for k, (a, b) in enumerate(pairs) if a != b]
-print(len(pairs), "pairs; refusals:", dict(sorted(Counter(map(int, refusals)).items())))
-print("instructions of a call: from", min(counts), "to", max(counts))
-print("pairs with different counts:", len(differ))
-for k, a, b in differ[:5]:
-    print("  pair", k, a, b)
-sys.exit(1 if differ else 0)
+pairs = list(zip(told, counts[::2], counts[1::2]))
+any_differ = False
+for shape in ("old", "new"):
+    own = [(refusal, a, b) for (of, refusal), a, b in pairs if of == shape]
+    differ = [(k, a, b) for k, (_, a, b) in enumerate(own) if a != b]
+    print(len(own), "pairs, note in the", shape, "shape; refusals:", dict(sorted(Counter(int(refusal) for refusal, _, _ in own).items())))
+    print("instructions of a call: from", min(min(a, b) for _, a, b in own), "to", max(max(a, b) for _, a, b in own))
+    print("pairs with different counts:", len(differ))
+    for k, a, b in differ[:5]:
+        print("  pair", k, a, b)
+    any_differ = any_differ or bool(differ) or len(own) == 0
+sys.exit(1 if any_differ else 0)

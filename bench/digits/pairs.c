@@ -1,5 +1,5 @@
-/* 200 pairs of documents that differ only in digits of readable Qty values, each read once. Under callgrind, which counts the instructions of
- * lumintayag_read_v2 alone, each call leaves one count. No document and no amount is written anywhere. */
+/* 200 pairs of documents that differ only in digits of readable Qty values, each read once with a note in the old shape and once in the new. Under callgrind,
+ * which counts the instructions of lumintayag_read_v3 alone, each call leaves one count. No document and no amount is written anywhere. */
 #include <stdint.h>
 #include <stdio.h>
 #include <string.h>
@@ -77,25 +77,32 @@ static uint8_t doc[ROOM], note[16], notes[2][16];
 static uint32_t series[64], positions[128], answer[7], answers[2][7];
 static int64_t amounts[128];
 
-static void count(int k, size_t rows) {
+static void count(int k, size_t rows, uint32_t shape) {
     memcpy(doc, text[k], at);
     CALLGRIND_ZERO_STATS;
-    lumintayag_read_v2(doc, at, series, 64, positions, rows, amounts, 128, note, 16, answer, 7);
+    lumintayag_read_v3(doc, at, series, 64, positions, rows, amounts, 128, shape, note, 16, answer, 7);
     CALLGRIND_DUMP_STATS;
     memcpy(answers[k], answer, sizeof answer);
     memcpy(notes[k], note, sizeof note);
 }
 
+/* The shape and the refusal; 0 where the answers or the notes differ. */
+static int compared(unsigned pair, uint32_t shape) {
+    for (int k = 0; k < 2; k++) count(k, pair % 7 == 6 ? 20 : 128, shape); /* now and then a table that is full */
+    if (memcmp(answers[0], answers[1], sizeof answer) != 0 || memcmp(notes[0], notes[1], sizeof note) != 0) {
+        printf("pair %u: the answers differ\n", pair);
+        return 0;
+    }
+    printf("%s %u\n", shape == LUMINTAYAG_NOTE_OLD ? "old" : "new", (unsigned)answer[0]);
+    return 1;
+}
+
 int main(void) {
-    lumintayag_read_v2(doc, 0, series, 64, positions, 128, amounts, 128, note, 16, answer, 7); /* the linker's work is done here */
+    /* the linker's work is done here */
+    lumintayag_read_v3(doc, 0, series, 64, positions, 128, amounts, 128, LUMINTAYAG_NOTE_OLD, note, 16, answer, 7);
     for (unsigned pair = 0; pair < PAIRS; pair++) {
         document(pair);
-        for (int k = 0; k < 2; k++) count(k, pair % 7 == 6 ? 20 : 128); /* now and then a table that is full */
-        if (memcmp(answers[0], answers[1], sizeof answer) != 0 || memcmp(notes[0], notes[1], sizeof note) != 0) {
-            printf("pair %u: the answers differ\n", pair);
-            return 1;
-        }
-        printf("%u\n", answer[0]);
+        if (!compared(pair, LUMINTAYAG_NOTE_OLD) || !compared(pair, LUMINTAYAG_NOTE_NEW)) return 1;
     }
     return 0;
 }

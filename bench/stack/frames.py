@@ -1,4 +1,4 @@
-"""The longest way down from lumintayag_read_v2: frames.py MODULE.su OPTIMIZED.ll BYTES, the frames of each function that clang tells, the calls of the
+"""The longest way down from lumintayag_read_v3: frames.py MODULE.su OPTIMIZED.ll BYTES, the frames of each function that clang tells, the calls of the
 optimized module, and the bytes that a call takes beside its frame."""
 import re
 import sys
@@ -26,5 +26,5 @@ def deepest(name, above=()):
     return frames[name] + int(sys.argv[3]) + most[0], [f"{name} {frames[name]}"] + most[1]
 
 
-total, way = deepest("lumintayag_read_v2")
+total, way = deepest("lumintayag_read_v3")
 print(f"{total} bytes:", ", ".join(way))

@@ -1,4 +1,4 @@
-/* How much stack a call of lumintayag_read_v2 takes, with its caller's frame: the deepest byte that is written on a painted stack, and the smallest stack on
+/* How much stack a call of lumintayag_read_v3 takes, with its caller's frame: the deepest byte that is written on a painted stack, and the smallest stack on
  * which every call comes back, over the samples of a folder and over documents of 1 MiB that are made in memory. Nothing is written to a file. */
 #define _GNU_SOURCE
 #include <dirent.h>
@@ -31,8 +31,8 @@ static const struct document *read_now;
 static ucontext_t here, there;
 
 static void call(void) {
-    lumintayag_read_v2(read_now->bytes, read_now->length, series, sizeof series / sizeof *series, positions, LUMINTAYAG_INTERVALS_ROOM,
-                       amounts, LUMINTAYAG_INTERVALS_ROOM, note, 16, answer, 7);
+    lumintayag_read_v3(read_now->bytes, read_now->length, series, sizeof series / sizeof *series, positions, LUMINTAYAG_INTERVALS_ROOM,
+                       amounts, LUMINTAYAG_INTERVALS_ROOM, LUMINTAYAG_NOTE_NEW, note, 16, answer, 7);
 }
 
 /* The lowest address of a stack below which nothing can be touched. */

@@ -259,6 +259,11 @@ fn lengths_for(random: &mut Random, pieces: &[Piece]) -> Lengths {
     Lengths { series, positions, amounts, note }
 }
 
+/// The shape that is asked for: the old one, or the new one by its number or by another.
+pub fn shape(seed: u64, number: u64) -> u32 {
+    *Random::new(seed ^ 0x7368_6170, number).pick(&[0, 0, 1, 1, 1, 2, 100, 1 << 31, u32::MAX])
+}
+
 // ---------------------------------------------------------------- Rules broken
 
 /// Most often one rule is broken; with more, an item may have several faults.

@@ -1,7 +1,7 @@
 //! The proved library, called as C calls it.
 
 use differential::model::{Lengths, Outcome};
-use lumintayag_sys::{lumintayag_read_note, lumintayag_read_v2};
+use lumintayag_sys::{lumintayag_convert_note, lumintayag_read_note_v2, lumintayag_read_v3};
 
 /// Cells after those that are lent; none of them may change.
 const GUARD: usize = 3;
@@ -26,12 +26,12 @@ const WORD: u32 = 0xA5A5_5A5A;
 const LONG: i64 = -0x5A5A_A5A5_1234_5678;
 const BYTE: u8 = 0xC7;
 
-pub fn read(doc: &[u8], lengths: &Lengths) -> Result<Outcome, &'static str> {
+pub fn read_in(shape: u32, doc: &[u8], lengths: &Lengths) -> Result<Outcome, &'static str> {
     let (mut series, mut positions) = (full(lengths.series, WORD), full(lengths.positions, WORD));
     let (mut amounts, mut note, mut answer) = (full(lengths.amounts, LONG), full(lengths.note, BYTE), full(7, WORD));
     // Each length is at most that of the slice its pointer is from.
     let returned = unsafe {
-        lumintayag_read_v2(
+        lumintayag_read_v3(
             doc.as_ptr(),
             doc.len(),
             series.as_mut_ptr(),
@@ -40,6 +40,7 @@ pub fn read(doc: &[u8], lengths: &Lengths) -> Result<Outcome, &'static str> {
             lengths.positions,
             amounts.as_mut_ptr(),
             lengths.amounts,
+            shape,
             note.as_mut_ptr(),
             lengths.note,
             answer.as_mut_ptr(),
@@ -53,10 +54,18 @@ pub fn read(doc: &[u8], lengths: &Lengths) -> Result<Outcome, &'static str> {
     Ok(Outcome { answer, series: lent(series, WORD)?, positions: lent(positions, WORD)?, amounts: lent(amounts, LONG)?, note: lent(note, BYTE)? })
 }
 
-pub fn read_note(note: &[u8]) -> Result<(u32, [u32; 5]), &'static str> {
-    let mut five = full(5, WORD);
+/// The refusal and `cells` cells with the numbers of a note.
+pub fn read_note(note: &[u8], cells: usize) -> Result<(u32, Vec<u32>), &'static str> {
+    let mut six = full(cells, WORD);
     // Both lengths are at most those of the slices.
-    let returned = unsafe { lumintayag_read_note(note.as_ptr(), note.len(), five.as_mut_ptr(), 5) };
-    let five = lent(five, WORD)?.try_into().map_err(|_| "no five numbers")?;
-    Ok((returned, five))
+    let returned = unsafe { lumintayag_read_note_v2(note.as_ptr(), note.len(), six.as_mut_ptr(), cells) };
+    Ok((returned, lent(six, WORD)?))
+}
+
+/// The refusal, `cells` cells with the numbers of the answer, and `room` bytes with the note that was written.
+pub fn convert(note: &[u8], shape: u32, room: usize, cells: usize) -> Result<(u32, Vec<u32>, Vec<u8>), &'static str> {
+    let (mut out, mut answer) = (full(room, BYTE), full(cells, WORD));
+    // Each length is at most that of the slice its pointer is from.
+    let returned = unsafe { lumintayag_convert_note(note.as_ptr(), note.len(), shape, out.as_mut_ptr(), room, answer.as_mut_ptr(), cells) };
+    Ok((returned, lent(answer, WORD)?, lent(out, BYTE)?))
 }

@@ -4,21 +4,21 @@
 //!
 //! All that is lent is full of a pattern, so that a cell which was not cleared shows; cells past the lent ones have to keep it.
 
-use differential::documents::{document, Document};
+use differential::documents::{document, shape, Document};
 use differential::model::{self, Lengths, Outcome};
 use differential::random::Random;
 use differential::renaming::renamed;
 use std::process::ExitCode;
 
 mod library;
+mod notes;
 
 const USAGE: &str = "usage: differential COUNT [SEED [FIRST]]";
 
 /// How many documents there were of each refusal; 0 is acceptance.
 struct Tally {
     refusals: [u64; 11],
-    notes: u64,
-    notes_taken: u64,
+    notes: notes::Tally,
     renamed: u64,
     renamed_taken: u64,
     bytes: u64,
@@ -33,77 +33,100 @@ fn main() -> ExitCode {
     }
     let seed = arguments.get(1).copied().unwrap_or(1);
     let first = arguments.get(2).copied().unwrap_or(0);
-    let mut tally = Tally { refusals: [0; 11], notes: 0, notes_taken: 0, renamed: 0, renamed_taken: 0, bytes: 0 };
+    let mut tally = Tally { refusals: [0; 11], notes: notes::Tally::default(), renamed: 0, renamed_taken: 0, bytes: 0 };
+    let Some(edges) = notes::edges() else { return ExitCode::FAILURE };
     for number in first..first.saturating_add(arguments[0]) {
         let made = document(seed, number);
-        if !same_reading(&made, seed, number, &mut tally) || !same_notes(seed, number, &mut tally) || !same_renamed(&made, seed, number, &mut tally) {
+        if !same_reading(&made, seed, number, &mut tally) || !notes::same(seed, number, &mut tally.notes) || !same_renamed(&made, seed, number, &mut tally) {
             return ExitCode::FAILURE;
         }
     }
-    print_tally(arguments[0], &tally);
+    print_tally(arguments[0], edges, &tally);
     ExitCode::SUCCESS
 }
 
-fn print_tally(count: u64, tally: &Tally) {
+fn print_tally(count: u64, edges: usize, tally: &Tally) {
     println!("{count} documents, {} bytes: {} accepted", tally.bytes, tally.refusals[0]);
     for (number, many) in tally.refusals.iter().enumerate().skip(1) {
         println!("refusal {number}: {many}");
     }
-    println!("{} notes, {} accepted", tally.notes, tally.notes_taken);
+    println!("{edges} notes at the edges");
+    println!("{} notes: {} old, {} new", tally.notes.all, tally.notes.old, tally.notes.new);
     println!("{} documents with other identifications, {} accepted", tally.renamed, tally.renamed_taken);
     println!("no difference");
 }
 
+/// A document and what is lent for it, the shape of the note among it.
+struct Call<'d> {
+    doc: &'d [u8],
+    lengths: &'d Lengths,
+    shape: u32,
+}
+
+impl Call<'_> {
+    fn by_model(&self) -> Outcome {
+        model::read_in(self.shape, self.doc, self.lengths)
+    }
+
+    fn by_library(&self) -> Result<Outcome, &'static str> {
+        library::read_in(self.shape, self.doc, self.lengths)
+    }
+
+    fn differs(&self, expected: &Outcome) -> bool {
+        match self.by_library() {
+            Ok(outcome) => outcome != *expected || !read_back(&outcome),
+            Err(_) => true,
+        }
+    }
+
+    fn print_both(&self) {
+        println!("model:   {:?}", self.by_model());
+        match self.by_library() {
+            Ok(outcome) => println!("library: {outcome:?}"),
+            Err(broken) => println!("library: {broken}"),
+        }
+    }
+}
+
 /// The answer, all cells, the note, and the note read back.
 fn same_reading(made: &Document, seed: u64, number: u64, tally: &mut Tally) -> bool {
-    let expected = model::read(&made.bytes, &made.lengths);
+    let call = Call { doc: &made.bytes, lengths: &made.lengths, shape: shape(seed, number) };
+    let expected = call.by_model();
     tally.bytes += made.bytes.len() as u64;
     tally.refusals[expected.answer[0] as usize] += 1;
-    if !differs(&made.bytes, &made.lengths, &expected) {
+    if !call.differs(&expected) {
         return true;
     }
-    println!("difference: seed {seed}, number {number}, {} bytes, {:?}", made.bytes.len(), made.lengths);
-    print_both(&made.bytes, &made.lengths);
-    let smallest = shrunk(&made.bytes, &made.lengths);
+    println!("difference: seed {seed}, number {number}, {} bytes, {:?}, shape {}", made.bytes.len(), made.lengths, call.shape);
+    call.print_both();
+    let smallest = shrunk(&call);
     println!("smallest document found, {} bytes: {}", smallest.len(), smallest.escape_ascii());
-    print_both(&smallest, &made.lengths);
+    Call { doc: &smallest, ..call }.print_both();
     false
 }
 
-fn differs(doc: &[u8], lengths: &Lengths, expected: &Outcome) -> bool {
-    match library::read(doc, lengths) {
-        Ok(outcome) => outcome != *expected || !read_back(&outcome),
-        Err(_) => true,
-    }
-}
-
-/// The note of a reading says the first five numbers of its answer; with refusal 10 there is none.
+/// The note of a reading says the first five numbers of its answer, also in the other shape; with refusal 10 there is none.
 fn read_back(outcome: &Outcome) -> bool {
     let note = &outcome.note[..(outcome.answer[6] as usize).min(outcome.note.len())];
-    let expected = model::read_note(note);
-    let said = outcome.answer[0] == 10 || expected == (0, [0, 1, 2, 3, 4].map(|at: usize| outcome.answer[at]));
-    said && library::read_note(note) == Ok(expected)
-}
-
-fn print_both(doc: &[u8], lengths: &Lengths) {
-    println!("model:   {:?}", model::read(doc, lengths));
-    match library::read(doc, lengths) {
-        Ok(outcome) => println!("library: {outcome:?}"),
-        Err(broken) => println!("library: {broken}"),
-    }
+    let (refusal, six) = model::read_note(note);
+    let said = outcome.answer[0] == 10 || (refusal == 0 && six[..5] == outcome.answer[..5]);
+    said && notes::read_alike(note, 6)
+        && notes::converted_alike(note, 0, 24, 2)
+        && notes::converted_alike(note, 1, 24, 2)
+        && notes::there_and_back(note)
 }
 
 /// How many bytes are read at most to find a smaller document.
 const PATIENCE: usize = 2_000_000_000;
 
 /// The document with as many pieces left out as can be, within patience, while the two still differ.
-fn shrunk(doc: &[u8], lengths: &Lengths) -> Vec<u8> {
-    let mut doc = doc.to_vec();
+fn shrunk(call: &Call) -> Vec<u8> {
+    let mut doc = call.doc.to_vec();
     let mut size = doc.len().div_ceil(2);
     let mut patience = PATIENCE;
     while size > 0 && patience > 0 {
         let before = doc.len();
-        doc = without_pieces(doc, size, lengths, &mut patience);
+        doc = without_pieces(doc, size, call, &mut patience);
         if doc.len() == before {
             size /= 2;
         }
@@ -111,14 +134,15 @@ fn shrunk(doc: &[u8], lengths: &Lengths) -> Vec<u8> {
     doc
 }
 
-fn without_pieces(doc: Vec<u8>, size: usize, lengths: &Lengths, patience: &mut usize) -> Vec<u8> {
+fn without_pieces(doc: Vec<u8>, size: usize, call: &Call, patience: &mut usize) -> Vec<u8> {
     let mut doc = doc;
     let mut at = 0;
     while at < doc.len() && *patience > 0 {
         *patience = patience.saturating_sub(doc.len());
         let mut less = doc.clone();
         less.drain(at..(at + size).min(doc.len()));
-        if differs(&less, lengths, &model::read(&less, lengths)) {
+        let shorter = Call { doc: &less, ..*call };
+        if shorter.differs(&shorter.by_model()) {
             doc = less;
         } else {
             at += size;
@@ -131,7 +155,8 @@ fn without_pieces(doc: Vec<u8>, size: usize, lengths: &Lengths, patience: &mut u
 fn same_renamed(made: &Document, seed: u64, number: u64, tally: &mut Tally) -> bool {
     let random = &mut Random::new(seed ^ 0x6E61_6D65, number);
     let Some(other) = renamed(random, &made.bytes) else { return true };
-    let (first, second) = (library::read(&made.bytes, &made.lengths), library::read(&other, &made.lengths));
+    let by_library = |doc: &[u8]| library::read_in(shape(seed, number), doc, &made.lengths);
+    let (first, second) = (by_library(&made.bytes), by_library(&other));
     tally.renamed += 1;
     tally.renamed_taken += u64::from(first.as_ref().is_ok_and(|outcome| outcome.answer[0] == 0));
     if first.is_ok() && first == second {
@@ -140,42 +165,4 @@ fn same_renamed(made: &Document, seed: u64, number: u64, tally: &mut Tally) -> b
     println!("difference: seed {seed}, number {number}, identifications replaced\nbefore: {first:?}\nafter:  {second:?}");
     println!("before: {}\nafter:  {}", made.bytes.escape_ascii(), other.escape_ascii());
     false
-}
-
-/// A few bytes that may be a note, for both note readers.
-fn same_notes(seed: u64, number: u64, tally: &mut Tally) -> bool {
-    let random = &mut Random::new(seed ^ 0x6E6F_7465, number);
-    let note = some_note(random);
-    tally.notes += 1;
-    let (expected, answered) = (model::read_note(&note), library::read_note(&note));
-    if answered == Ok(expected) {
-        tally.notes_taken += u64::from(expected.0 == 0);
-        return true;
-    }
-    println!("difference: seed {seed}, number {number}, note {note:02X?}\nmodel:   {expected:?}\nlibrary: {answered:?}");
-    false
-}
-
-fn some_note(random: &mut Random) -> Vec<u8> {
-    let mut note = Vec::new();
-    for _ in 0..random.one_of(&[0, 1, 4, 5, 5, 5, 5, 5, 5, 6]) {
-        put_groups(random, &mut note);
-    }
-    if random.one_in(6) {
-        note.resize(note.len() + random.below(3), 0);
-    }
-    if random.one_in(6) {
-        note.truncate(random.below(note.len() + 1));
-    }
-    note
-}
-
-/// A number of one to four groups, the last of which may be 0.
-fn put_groups(random: &mut Random, note: &mut Vec<u8>) {
-    let groups = random.one_of(&[1, 1, 1, 1, 1, 1, 2, 2, 2, 3, 3, 4]);
-    for group in 1..=groups {
-        let any = random.byte() & 0x7F;
-        let low = *random.pick(&[0, 1, 0x7F, any, any, any]);
-        note.push(if group < groups { low | 0x80 } else { low });
-    }
 }

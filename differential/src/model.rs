@@ -27,6 +27,12 @@ pub struct Outcome {
 pub const LONGEST: usize = 1_048_576;
 /// "the note buffer has fewer than 16 bytes"
 pub const LEAST_NOTE: usize = 16;
+/// "converting into fewer than 24 bytes is 10"
+pub const LEAST_CONVERTED: usize = 24;
+/// "A new note begins with the number 100"
+pub const NEW_MARK: u32 = 100;
+/// The shape by number: this one is the old one, every other the new one.
+pub const OLD: u32 = 0;
 /// "A series row grows from eight numbers to twelve"; the last two are "its first interval row; its interval count".
 pub const ROW: usize = 12;
 const FIRST: usize = 10;
@@ -479,6 +485,9 @@ struct Reading<'d> {
     interval_room: usize,
     kind: u32,
     open: Vec<Open>,
+    /// Start tags and end tags in items before the one at hand.
+    starts: u32,
+    ends: u32,
     /// The value of TimePeriodCovered and its length divided by 15 minutes.
     covered: &'d [u8],
     n: u32,
@@ -497,6 +506,8 @@ impl<'d> Reading<'d> {
             interval_room: lengths.positions.min(lengths.amounts),
             kind: 0,
             open: Vec::new(),
+            starts: 0,
+            ends: 0,
             covered: &[],
             n: 0,
             originals: 0,
@@ -518,6 +529,11 @@ impl<'d> Reading<'d> {
             let Some((item, after)) = item_at(doc, at) else { return (2, at) };
             if let Err(refusal) = self.step(&item) {
                 return (refusal, at);
+            }
+            match item {
+                Item::Tag { empty: false, .. } => self.starts += 1,
+                Item::End { .. } => self.ends += 1,
+                _ => {}
             }
             at = after;
         }
@@ -776,6 +792,15 @@ fn note_of(numbers: &[u32]) -> Vec<u8> {
     note
 }
 
+/// "A new note begins with the number 100, then the old five, then the count of elements open before the faulty item"
+fn note_in(shape: u32, five: &[u32; 5], depth: u32) -> Vec<u8> {
+    if shape == OLD {
+        note_of(five)
+    } else {
+        note_of(&[&[NEW_MARK], &five[..], &[depth]].concat())
+    }
+}
+
 fn filled<T: Copy + Default>(rows: Vec<T>, length: usize) -> Vec<T> {
     let mut cells = rows;
     cells.resize(length, T::default());
@@ -793,18 +818,26 @@ fn refused(lengths: &Lengths, answer: [u32; 7], note: Vec<u8>) -> Outcome {
     }
 }
 
-/// Reads a document: "10 is looked at first, then 1, then the items from front to back."
+/// Reads a document, with a note in the old shape.
 pub fn read(doc: &[u8], lengths: &Lengths) -> Outcome {
+    read_in(OLD, doc, lengths)
+}
+
+/// Reads a document: "10 is looked at first, then 1, then the items from front to back." "The caller picks the shape that the reader writes".
+pub fn read_in(shape: u32, doc: &[u8], lengths: &Lengths) -> Outcome {
     if lengths.note < LEAST_NOTE {
         return refused(lengths, [10, 0, 0, 0, 0, 0, 0], Vec::new());
     }
     if doc.len() > LONGEST {
-        return refused(lengths, [1, 0, 0, 0, 0, 0, 5], note_of(&[1, 0, 0, 0, 0]));
+        let note = note_in(shape, &[1, 0, 0, 0, 0], 0);
+        return refused(lengths, [1, 0, 0, 0, 0, 0, note.len() as u32], note);
     }
     let mut reading = Reading::new(doc, lengths);
     let (refusal, place) = reading.items();
     let five = [refusal, place as u32, reading.kind, reading.series.len() as u32, reading.positions.len() as u32];
-    let note = note_of(&five);
+    // "the count of elements open before the faulty item; on acceptance 0"
+    let depth = if refusal == 0 { 0 } else { reading.starts - reading.ends };
+    let note = note_in(shape, &five, depth);
     let n = if refusal == 0 { reading.n } else { 0 };
     let answer = [five[0], five[1], five[2], five[3], five[4], n, note.len() as u32];
     if refusal != 0 {
@@ -830,19 +863,42 @@ fn number_of(note: &[u8]) -> Option<(u32, &[u8])> {
     Some((number, note.get(length..)?))
 }
 
-fn five_of(note: &[u8]) -> Option<[u32; 5]> {
-    let mut five = [0; 5];
+/// All numbers of a note, up to its end.
+fn numbers_of(note: &[u8]) -> Option<Vec<u32>> {
+    let mut numbers = Vec::new();
     let mut rest = note;
-    for cell in &mut five {
-        (*cell, rest) = number_of(rest)?;
+    while !rest.is_empty() {
+        let (number, after) = number_of(rest)?;
+        numbers.push(number);
+        rest = after;
     }
-    rest.is_empty().then_some(five)
+    Some(numbers)
 }
 
-/// Reads a note: 0 and its five numbers, or 11 and zeros.
-pub fn read_note(note: &[u8]) -> (u32, [u32; 5]) {
-    match five_of(note) {
-        Some(five) => (0, five),
-        None => (11, [0; 5]),
+/// "the note reader reads both, an old one with depth 0. From now on five numbers beginning with 100 are no note, nor are seven whose second is 100."
+fn six_of(note: &[u8]) -> Option<([u32; 5], u32)> {
+    match numbers_of(note)?[..] {
+        [refusal, place, kind, series, intervals] if refusal != NEW_MARK => Some(([refusal, place, kind, series, intervals], 0)),
+        [NEW_MARK, refusal, place, kind, series, intervals, depth] if refusal != NEW_MARK => Some(([refusal, place, kind, series, intervals], depth)),
+        _ => None,
     }
+}
+
+/// Reads a note: 0 and its numbers (refusal, place, kind, series, intervals, depth), or 11 and zeros.
+pub fn read_note(note: &[u8]) -> (u32, [u32; 6]) {
+    match six_of(note) {
+        Some(([refusal, place, kind, series, intervals], depth)) => (0, [refusal, place, kind, series, intervals, depth]),
+        None => (11, [0; 6]),
+    }
+}
+
+/// Writes a note in a shape: "Old notes are turned into new ones with depth 0, new into old by leaving it out." The refusal, the length of what is
+/// written, and all of the output: "converting into fewer than 24 bytes is 10, then 11 for bytes that are neither; output is then all 0".
+pub fn convert(note: &[u8], shape: u32, room: usize) -> ([u32; 2], Vec<u8>) {
+    if room < LEAST_CONVERTED {
+        return ([10, 0], vec![0; room]);
+    }
+    let Some((five, depth)) = six_of(note) else { return ([11, 0], vec![0; room]) };
+    let written = note_in(shape, &five, depth);
+    ([0, written.len() as u32], filled(written, room))
 }

@@ -1,7 +1,7 @@
 //! The examples of 01 and of the readings of its open points, held against the model alone.
 
-use crate::documents::document;
-use crate::model::{identifications, read, read_note, Lengths, Outcome, ROW};
+use crate::documents::{document, shape};
+use crate::model::{convert, identifications, read, read_in, read_note, Lengths, Outcome, LONGEST, ROW};
 use crate::random::Random;
 use crate::renaming::{clean, renamed};
 
@@ -119,7 +119,7 @@ fn tables_and_note() {
     assert_eq!(outcome.series[..ROW], row);
     assert!(outcome.series[ROW..].iter().all(|cell| *cell == 0));
     assert_eq!((outcome.positions[0], outcome.amounts[0], outcome.answer[5]), (1, -1, 4));
-    assert_eq!(read_note(&outcome.note[..outcome.answer[6] as usize]), (0, [0, doc.len() as u32, 2, 1, 1]));
+    assert_eq!(read_note(&outcome.note[..outcome.answer[6] as usize]), (0, [0, doc.len() as u32, 2, 1, 1, 0]));
 }
 
 #[test]
@@ -150,11 +150,112 @@ fn room_by_twelve() {
 
 #[test]
 fn notes() {
-    assert_eq!(read_note(&[0xAC, 2, 0, 0, 0, 0]), (0, [300, 0, 0, 0, 0]));
-    for wrong in [&[0, 0, 0, 0][..], &[0; 6], &[0x80, 0, 0, 0, 0, 0], &[0x80, 0x80, 0x80, 1, 0, 0, 0, 0], &[]] {
-        assert_eq!(read_note(wrong), (11, [0; 5]));
+    assert_eq!(read_note(&[0xAC, 2, 0, 0, 0, 0]), (0, [300, 0, 0, 0, 0, 0]));
+    assert_eq!(read_note(&[0xFF, 0xFF, 0x7F, 0, 0, 0, 0]), (0, [0x1F_FFFF, 0, 0, 0, 0, 0]));
+    assert_eq!(read_note(&[0, 100, 0, 0, 0]), (0, [0, 100, 0, 0, 0, 0]));
+    assert_eq!(read_note(&[100, 3, 45, 2, 0, 0, 1]), (0, [3, 45, 2, 0, 0, 1]));
+    assert_eq!(read_note(&[100, 3, 100, 2, 0, 0, 0xFF, 0xFF, 0x7F]), (0, [3, 100, 2, 0, 0, 0x1F_FFFF]));
+}
+
+/// Four, six and eight numbers; five that begin with 100, seven that do not and seven whose second is 100; not shortest, 2^21, a byte too many.
+#[test]
+fn no_notes() {
+    let wrong: [&[u8]; 16] = [
+        &[],
+        &[0, 0, 0, 0],
+        &[0; 6],
+        &[100, 0, 0, 0, 0, 0],
+        &[0; 7],
+        &[0; 8],
+        &[100, 0, 0, 0, 0, 0, 0, 0],
+        &[100, 45, 2, 0, 0],
+        &[100, 100, 45, 2, 0, 0, 1],
+        &[0x80, 0, 0, 0, 0, 0],
+        &[0xE4, 0, 3, 45, 2, 0, 0, 1],
+        &[100, 3, 45, 2, 0, 0, 0x81, 0],
+        &[0x80, 0x80, 0x80, 1, 0, 0, 0, 0],
+        &[100, 3, 45, 2, 0, 0, 0x80, 0x80, 0x80, 1],
+        &[3, 45, 2, 0, 0, 1],
+        &[100, 3, 45, 2, 0, 0, 0x81],
+    ];
+    for note in wrong {
+        assert_eq!(read_note(note), (11, [0; 6]), "{note:02X?}");
+        for shape in [0, 1] {
+            assert_eq!(convert(note, shape, 24), ([11, 0], vec![0; 24]));
+            assert_eq!(convert(note, shape, 23), ([10, 0], vec![0; 23]));
+        }
     }
-    assert_eq!(read_note(&[0xFF, 0xFF, 0x7F, 0, 0, 0, 0]), (0, [0x1F_FFFF, 0, 0, 0, 0]));
+}
+
+#[test]
+fn converted_notes() {
+    let (old, flat, deep) = ([3, 0xAC, 2, 2, 0, 0], [100, 3, 0xAC, 2, 2, 0, 0, 0], [100, 3, 0xAC, 2, 2, 0, 0, 4]);
+    for room in 0..=30 {
+        let all_of =
+            |note: &[u8]| if room < 24 { ([10, 0], vec![0; room]) } else { ([0, note.len() as u32], [note, &vec![0; room - note.len()]].concat()) };
+        assert_eq!(convert(&old, 1, room), all_of(&flat));
+        assert_eq!(convert(&old, 0, room), all_of(&old));
+        for new in [flat, deep] {
+            assert_eq!(convert(&new, 0, room), all_of(&old));
+            assert_eq!(convert(&new, u32::MAX, room), all_of(&new));
+        }
+    }
+}
+
+/// The new note of a document in its first seven numbers, which all have one byte but for the place.
+fn depth(doc: &str) -> u32 {
+    let outcome = read_in(1, doc.as_bytes(), &ROOM);
+    let (refusal, six) = read_note(&outcome.note[..outcome.answer[6] as usize]);
+    assert_eq!((refusal, &six[..5]), (0, &read(doc.as_bytes(), &ROOM).answer[..5]), "{doc}");
+    assert_eq!(outcome.answer[6], read(doc.as_bytes(), &ROOM).answer[6] + 2, "{doc}");
+    six[5]
+}
+
+/// "the count of elements open before the faulty item; on acceptance 0"
+#[test]
+fn depths() {
+    assert_eq!(read_in(1, ROOT.as_bytes(), &ROOM).note[..8], [0x64, 3, 0x2D, 2, 0, 0, 1, 0]);
+    assert_eq!(depth(&kind_2()), 0);
+    for (old, new, deep) in [
+        ("<Qty v=\"-0.001\"/>", "<Qty v=\"5.\"/>", 4),
+        ("<Qty v=\"-0.001\"/>", "<Qty v=\"5.\"></Qty>", 4),
+        ("<Pos v=\"1\"/>", "<Pos v=\"1\">x</Pos>", 5),
+        ("<Pos v=\"1\"/>", "<Pos v=\"1\"></Qty>", 5),
+        ("<Interval>", "<Interval a=''>", 3),
+        ("</Interval>", "</Period>", 4),
+        ("</Period>", "</CostTimeSeries>", 3),
+        ("<CostTimeSeries>", "<Kostenblatt>", 1),
+        ("</Kostenblatt>", "</CostTimeSeries>", 1),
+        ("</Kostenblatt>", "</Kostenblatt>x", 0),
+        ("</Kostenblatt>", "</Kostenblatt><Kostenblatt/>", 0),
+        ("</Kostenblatt>", "", 1),
+        ("<Kostenblatt ", "<Kostenblat ", 0),
+        ("<DocumentIdentification v=\"d\"/>", "<!-- <a> --> <DocumentIdentification v=\"d\"></DocumentIdentification > <!>", 1),
+    ] {
+        let doc = kind_2().replacen(old, new, 1);
+        assert!(doc != kind_2() && depth(&doc) == deep, "{new}");
+    }
+    assert_eq!((depth(""), depth("<?xml?>"), depth("<a>"), depth("</a>"), depth("x")), (0, 0, 0, 0, 0));
+    let mut open = ROOT.to_string();
+    for (more, deep) in [(HEAD, 1), ("<CostTimeSeries>", 2), ("<TimeSeriesIdentification v=''>", 3), ("</TimeSeriesIdentification>", 2)] {
+        open += more;
+        assert_eq!(depth(&open), deep, "{more}");
+    }
+}
+
+/// Refused with 1 it is 0; with 10 there is no note, in either shape, and 16 bytes are asked for.
+#[test]
+fn depths_without_items() {
+    let long = read_in(1, &vec![b' '; LONGEST + 1], &ROOM);
+    assert_eq!((long.answer, &long.note[..8]), ([1, 0, 0, 0, 0, 0, 7], &[100, 1, 0, 0, 0, 0, 0, 0][..]));
+    for shape in [0, 1, 2] {
+        for note in 0..=30 {
+            let outcome = read_in(shape, ROOT.as_bytes(), &Lengths { note, ..ROOM });
+            let (refusal, length) = if note < 16 { (10, 0) } else { (3, if shape == 0 { 5 } else { 7 }) };
+            assert_eq!((outcome.answer[0], outcome.answer[6]), (refusal, length));
+            assert!(note >= 16 || outcome.note == vec![0; note]);
+        }
+    }
 }
 
 #[test]
@@ -311,4 +412,21 @@ fn identifications_before_an_unreadable_item() {
     let tags = "<TimeSeriesIdentification v='a'/><x/><TimeSeriesIdentification w=\"1\" v=\"bc\"><TimeSeriesIdentification/>&<TimeSeriesIdentification v='d'/>";
     let found: Vec<&str> = identifications(tags.as_bytes()).into_iter().map(|place| &tags[place]).collect();
     assert_eq!(found, ["a", "bc"]);
+}
+
+/// Both shapes are asked for, the new one by several numbers, and the generated documents are refused at every depth that a right document has.
+#[test]
+fn generated_shapes_and_depths() {
+    let (mut shapes, mut depths) = (std::collections::BTreeMap::new(), [0; 6]);
+    for number in 0..30_000 {
+        *shapes.entry(shape(5, number)).or_insert(0) += 1;
+        let made = document(5, number);
+        let outcome = read_in(1, &made.bytes, &made.lengths);
+        let (none, six) = read_note(&outcome.note[..outcome.answer[6] as usize]);
+        if none == 0 && six[0] != 0 {
+            depths[six[5] as usize] += 1;
+        }
+    }
+    assert!(shapes.len() > 3 && shapes.contains_key(&0) && shapes.contains_key(&1), "{shapes:?}");
+    assert!(depths.iter().all(|many| *many > 20), "{depths:?}");
 }

@@ -90,8 +90,8 @@ int main(int argc, char **argv) {
     static struct offer offers[64];
     unsigned long quarter = argc == 2 ? strtoul(argv[1], NULL, 10) : 0;
     const uint8_t *doc = (const uint8_t *)sheet;
-    if (lumintayag_read_v2(doc, sizeof sheet - 1, series, 64 * LUMINTAYAG_SERIES_ROW, positions, 2048, amounts, 2048, note, sizeof note, answer,
-                           LUMINTAYAG_ANSWER_NUMBERS))
+    if (lumintayag_read_v3(doc, sizeof sheet - 1, series, 64 * LUMINTAYAG_SERIES_ROW, positions, 2048, amounts, 2048, LUMINTAYAG_NOTE_OLD, note, sizeof note,
+                           answer, LUMINTAYAG_ANSWER_NUMBERS))
         return fprintf(stderr, "refusal %" PRIu32 " at %" PRIu32 "\n", answer[LUMINTAYAG_REFUSAL], answer[LUMINTAYAG_PLACE]), 1;
     if (answer[LUMINTAYAG_KIND] != LUMINTAYAG_KOSTENBLATT)
         return fprintf(stderr, "a document of kind %" PRIu32 " has no prices\n", answer[LUMINTAYAG_KIND]), 1;

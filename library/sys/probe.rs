@@ -2,10 +2,15 @@
 #[path = "src/functions.rs"]
 mod functions;
 
-use functions::{lumintayag_read_v2, lumintayag_read_note, lumintayag_readable_len, lumintayag_version};
+use functions::{lumintayag_convert_note, lumintayag_read_note_v2, lumintayag_read_v3, lumintayag_readable_len, lumintayag_version};
 
 fn main() {
-    let others = [lumintayag_read_v2 as *const (), lumintayag_read_note as *const (), lumintayag_readable_len as *const ()];
+    let others = [
+        lumintayag_read_v3 as *const (),
+        lumintayag_read_note_v2 as *const (),
+        lumintayag_convert_note as *const (),
+        lumintayag_readable_len as *const (),
+    ];
     std::hint::black_box(others);
     // It takes no argument, and every version has it.
     println!("{}", unsafe { lumintayag_version() });

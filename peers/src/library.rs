@@ -1,6 +1,6 @@
 //! The proved library, called as C calls it.
 
-use lumintayag_sys::lumintayag_read_v2;
+use lumintayag_sys::lumintayag_read_v3;
 
 #[derive(Clone, Copy)]
 pub struct Answer {
@@ -11,6 +11,9 @@ pub struct Answer {
 
 /// Numbers that a series takes.
 const ROW: usize = 12;
+
+/// The shape of the note, which is not looked at.
+const OLD: u32 = 0;
 
 /// A series is longer than this, and so is an Interval: with a row for each there is room for all of them. What is lent then
 /// plays no part, and with less room no other document is accepted.
@@ -24,7 +27,7 @@ pub fn read(doc: &[u8]) -> Answer {
     let (mut note, mut answer) = ([0_u8; 16], [0_u32; 7]);
     // Each length is that of the slice its pointer is from.
     unsafe {
-        lumintayag_read_v2(
+        lumintayag_read_v3(
             doc.as_ptr(),
             doc.len(),
             series.as_mut_ptr(),
@@ -33,6 +36,7 @@ pub fn read(doc: &[u8]) -> Answer {
             rows,
             amounts.as_mut_ptr(),
             rows,
+            OLD,
             note.as_mut_ptr(),
             note.len(),
             answer.as_mut_ptr(),

@@ -1,6 +1,6 @@
 //! Reads whole documents by the document reader (validation, tables, note), beside the bare events of expat, quick-xml and libxml2, libxml2's judgement by
 //! the XML Schemas of `peers/`, as a tree and as a stream, and plain scans of the bytes.
-use lumintayag_sys::lumintayag_read_v2;
+use lumintayag_sys::lumintayag_read_v3;
 use side_by_side::{best, document, grouped, peers, print_head, print_row, short, worst, Walk};
 use std::cell::RefCell;
 
@@ -25,7 +25,7 @@ fn lent(series: usize, intervals: usize) -> Lent {
 fn reader(doc: &[u8]) -> usize {
     LENT.with_borrow_mut(|t| {
         let refusal = unsafe {
-            lumintayag_read_v2(
+            lumintayag_read_v3(
                 doc.as_ptr(),
                 doc.len(),
                 t.series.as_mut_ptr(),
@@ -34,6 +34,7 @@ fn reader(doc: &[u8]) -> usize {
                 t.positions.len(),
                 t.amounts.as_mut_ptr(),
                 t.amounts.len(),
+                OLD,
                 t.note.as_mut_ptr(),
                 t.note.len(),
                 t.answer.as_mut_ptr(),
@@ -46,6 +47,9 @@ fn reader(doc: &[u8]) -> usize {
 
 /// Numbers that a series takes.
 const ROW: usize = 12;
+
+/// The shape of the note.
+const OLD: u32 = 0;
 
 /// Room for every document of 1 MiB.
 const MOST: (usize, usize) = (2_558, 23_302);

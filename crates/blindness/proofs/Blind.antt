@@ -29,6 +29,7 @@ use Rattle.states.specs.Moves.{begun}
 use Rattle.states.specs.declared.Entry.the-variants.{Amount}
 use Rattle.numbers.specs.Alike.{Alike}
 use Rattle.digits.proofs.Chars.{digits-unseen}
+use Rattle.notes.specs.declared.Shape.{Shape}
 use Rattle.reader.specs.Items.{itemsFrom}
 use Rattle.reader.specs.Rows.{quoted, thousandthsOf}
 use Rattle.reader.specs.Reading.{Tables, Out, blank, roomOf, refusedAt, readAfter, readInto, orBlank, readSheet}
@@ -91,15 +92,15 @@ module _ (doc : List ℕ) (ns np na : ℕ) where
       (bool-cases (ltb 1048576 (length doc)))
 
   -- "It is stored in thousandths": each amount is that which the value at its source says
-  pub amounts-said : (nb : ℕ) → readOf doc ns np na nb .tables .amounts ≡ map (amountAt doc) (sourceTable doc ns np na nb)
+  pub amounts-said : (shape : Shape) (nb : ℕ) → readOf doc ns np na shape nb .tables .amounts ≡ map (amountAt doc) (sourceTable doc ns np na shape nb)
   unfolding readOf sourceTable unnoted noted told answerOf refusedAt blank
-  amounts-said nb = ⊎-elim (λ l. rw l (none-said doc na)) (λ l. rw l sheet-said) (bool-cases (ltb nb 16))
+  amounts-said shape nb = ⊎-elim (λ l. rw l (none-said doc na)) (λ l. rw l sheet-said) (bool-cases (ltb nb 16))
 
-  table-said : (nb k : ℕ) → amountCell ns np na nb doc k ≡ amountAt doc (getD (sourceTable doc ns np na nb) k absent)
-  table-said nb k =
-      ap (λ (l : List ℤ). getD l k (pos 0)) (amounts-said nb)
-      ∙ ap (getD (map (amountAt doc) (sourceTable doc ns np na nb)) k) (sym (nothing-said doc))
-      ∙ List·getD-map (amountAt doc) (sourceTable doc ns np na nb) k absent
+  table-said : (shape : Shape) (nb k : ℕ) → amountCell ns np na shape nb doc k ≡ amountAt doc (getD (sourceTable doc ns np na shape nb) k absent)
+  table-said shape nb k =
+      ap (λ (l : List ℤ). getD l k (pos 0)) (amounts-said shape nb)
+      ∙ ap (getD (map (amountAt doc) (sourceTable doc ns np na shape nb)) k) (sym (nothing-said doc))
+      ∙ List·getD-map (amountAt doc) (sourceTable doc ns np na shape nb) k absent
 
 -- ---- and these are its Qty values, in document order
 
@@ -141,11 +142,11 @@ module _ (doc : List ℕ) (ns np na : ℕ) where
       )
 
   -- what a document that is accepted passed
-  taken : (nb : ℕ) → readOf doc ns np na nb .answer .refusal ≡ 0
+  taken : (shape : Shape) (nb : ℕ) → readOf doc ns np na shape nb .answer .refusal ≡ 0
       → (length doc ≤ 1048576) × (readInto doc (blank ns np na) .found .refusal ≡ 0)
-      × (readOf doc ns np na nb .answer .intervals ≡ readInto doc (blank ns np na) .found .intervals)
+      × (readOf doc ns np na shape nb .answer .intervals ≡ readInto doc (blank ns np na) .found .intervals)
   unfolding readOf unnoted noted told answerOf refusedAt readSheet orBlank
-  taken nb e =
+  taken shape nb e =
       ⊎-elim
       (λ (y : ltb nb 16 ≡ true). let z : _≡_ {A = ℕ} 10 0 = rw y at e in absurd (omega (arith, z)))
       (λ (y : ltb nb 16 ≡ false).
@@ -155,53 +156,53 @@ module _ (doc : List ℕ) (ns np na : ℕ) where
       (bool-cases (ltb 1048576 (length doc))))
       (bool-cases (ltb nb 16))
 
-  accepted-sourced : (nb : ℕ) → readOf doc ns np na nb .answer .refusal ≡ 0 → Sourced (begin doc)
+  accepted-sourced : (shape : Shape) (nb : ℕ) → readOf doc ns np na shape nb .answer .refusal ≡ 0 → Sourced (begin doc)
   unfolding readInto
-  accepted-sourced nb e = let t = taken nb e in begin-sourced (t .0) (begin doc) (t .1)
+  accepted-sourced shape nb e = let t = taken shape nb e in begin-sourced (t .0) (begin doc) (t .1)
 
-  source-told : (nb k : ℕ) → getD (sourceTable doc ns np na nb) k absent ≡ source ns np na nb doc k
+  source-told : (shape : Shape) (nb k : ℕ) → getD (sourceTable doc ns np na shape nb) k absent ≡ source ns np na shape nb doc k
   unfolding sourceTable sourcesOf unsourced
-  source-told nb k =
+  source-told shape nb k =
       ⊎-elim
-      (λ y. rw y (accepted-sourced nb (eqb-true (readOf doc ns np na nb .answer .refusal) 0 y) .0 k))
+      (λ y. rw y (accepted-sourced shape nb (eqb-true (readOf doc ns np na shape nb .answer .refusal) 0 y) .0 k))
       (λ y. rw y (none-at na k))
-      (bool-cases (eqb (readOf doc ns np na nb .answer .refusal) 0))
+      (bool-cases (eqb (readOf doc ns np na shape nb .answer .refusal) 0))
 
-  pub cell-said : (nb k : ℕ) → amountCell ns np na nb doc k ≡ amountAt doc (source ns np na nb doc k)
-  cell-said nb k = table-said doc ns np na nb k ∙ ap (amountAt doc) (source-told nb k)
+  pub cell-said : (shape : Shape) (nb k : ℕ) → amountCell ns np na shape nb doc k ≡ amountAt doc (source ns np na shape nb doc k)
+  cell-said shape nb k = table-said doc ns np na shape nb k ∙ ap (amountAt doc) (source-told shape nb k)
 
   -- a cell with a source is that of an interval
-  source-interval : (nb k : ℕ) → readOf doc ns np na nb .answer .refusal ≡ 0
-      → (source ns np na nb doc k ≡ absent) ⊎ (k < readOf doc ns np na nb .answer .intervals)
+  source-interval : (shape : Shape) (nb k : ℕ) → readOf doc ns np na shape nb .answer .refusal ≡ 0
+      → (source ns np na shape nb doc k ≡ absent) ⊎ (k < readOf doc ns np na shape nb .answer .intervals)
   unfolding sourcesOf readInto
-  source-interval nb k e =
-      let t = taken nb e in
-      let n = t .2 ∙ accepted-sourced nb e .1 in
+  source-interval shape nb k e =
+      let t = taken shape nb e in
+      let n = t .2 ∙ accepted-sourced shape nb e .1 in
       ⊎-elim
       (λ l. inr (rw n (l .0)))
-      (λ l. inl (rw (eq-eqb (readOf doc ns np na nb .answer .refusal) 0 e) (List·getD-eq-default (qtyValuesAfter doc (begin doc)) absent (l .0))))
+      (λ l. inl (rw (eq-eqb (readOf doc ns np na shape nb .answer .refusal) 0 e) (List·getD-eq-default (qtyValuesAfter doc (begin doc)) absent (l .0))))
       (ltb-cases k (length (qtyValuesAfter doc (begin doc))))
 
 -- ---- two documents
 
-module _ (x y : List ℕ) (ns np na nb : ℕ) where
+module _ (x y : List ℕ) (ns np na : ℕ) (shape : Shape) (nb : ℕ) where
   -- all but the amounts, and where these come from
   abbrev Same : Type 0
-  Same = SameTold (readOf x ns np na nb) (readOf y ns np na nb) × (sourceTable x ns np na nb ≡ sourceTable y ns np na nb)
+  Same = SameTold (readOf x ns np na shape nb) (readOf y ns np na shape nb) × (sourceTable x ns np na shape nb ≡ sourceTable y ns np na shape nb)
 
-module _ (ns np na nb : ℕ) where
-  qty-same : (x y : List ℕ) → Replaced (text "Qty") Alike x y → Same x y ns np na nb
-  qty-same x y d = replaced-same (text "Qty") Alike Amount digits-unseen qty-kinds x y (amounts-tabled x y Alike) d ns np na nb
+module _ (ns np na : ℕ) (shape : Shape) (nb : ℕ) where
+  qty-same : (x y : List ℕ) → Replaced (text "Qty") Alike x y → Same x y ns np na shape nb
+  qty-same x y d = replaced-same (text "Qty") Alike Amount digits-unseen qty-kinds x y (amounts-tabled x y Alike) d ns np na shape nb
 
-  all-same : (x y : List ℕ) → DifferInQty x y → Same x y ns np na nb
+  all-same : (x y : List ℕ) → DifferInQty x y → Same x y ns np na shape nb
   all-same x y d =
       let p = qty-same x (between x y d) (first-replaced x y d) in
       let q = qty-same y (between x y d) (second-replaced x y d) in
       (told-join (p .0) (q .0), p .1 ∙ sym (q .1))
 
-module _ (x y : List ℕ) (ns np na nb : ℕ) where
+module _ (x y : List ℕ) (ns np na : ℕ) (shape : Shape) (nb : ℕ) where
   -- on every refusal no cell has a source
-  refused-source : (k : ℕ) → eqb (readOf x ns np na nb .answer .refusal) 0 ≡ false → source ns np na nb x k ≡ absent
+  refused-source : (k : ℕ) → eqb (readOf x ns np na shape nb .answer .refusal) 0 ≡ false → source ns np na shape nb x k ≡ absent
   unfolding sourcesOf
   refused-source k e = rw e
 
@@ -209,47 +210,47 @@ module _ (x y : List ℕ) (ns np na nb : ℕ) where
   unfolding quoted partOf absent
   nothing-quoted = refl
 
-  own-same : (k : ℕ) → sourceTable x ns np na nb ≡ sourceTable y ns np na nb → source ns np na nb x k ≡ source ns np na nb y k
-  own-same k e = sym (source-told x ns np na nb k) ∙ ap (λ (l : List Span). getD l k absent) e ∙ source-told y ns np na nb k
+  own-same : (k : ℕ) → sourceTable x ns np na shape nb ≡ sourceTable y ns np na shape nb → source ns np na shape nb x k ≡ source ns np na shape nb y k
+  own-same k e = sym (source-told x ns np na shape nb k) ∙ ap (λ (l : List Span). getD l k absent) e ∙ source-told y ns np na shape nb k
 
-  cell-same : (k : ℕ) → quoted (source ns np na nb x k) x ≡ quoted (source ns np na nb y k) y → amountCell ns np na nb x k ≡ amountCell ns np na nb y k
+  cell-same : (k : ℕ) → quoted (source ns np na shape nb x k) x ≡ quoted (source ns np na shape nb y k) y → amountCell ns np na shape nb x k ≡ amountCell ns np na shape nb y k
   unfolding amountAt
-  cell-same k e = cell-said x ns np na nb k ∙ ap (λ (l : List ℕ). thousandthsOf (amountOf (says (dropped l)))) e ∙ sym (cell-said y ns np na nb k)
+  cell-same k e = cell-said x ns np na shape nb k ∙ ap (λ (l : List ℕ). thousandthsOf (amountOf (says (dropped l)))) e ∙ sym (cell-said y ns np na shape nb k)
 
-  cells : Same x y ns np na nb → (k : ℕ) → (amountCell ns np na nb x k ≡ amountCell ns np na nb y k) ⊎ OwnDigitsDiffer ns np na nb x y k
+  cells : Same x y ns np na shape nb → (k : ℕ) → (amountCell ns np na shape nb x k ≡ amountCell ns np na shape nb y k) ⊎ OwnDigitsDiffer ns np na shape nb x y k
   cells h k =
       let own = own-same k (h .1) in
       ⊎-elim
       (λ e. inl (cell-same k e))
-      (λ (differ : quoted (source ns np na nb x k) x ≡ quoted (source ns np na nb y k) y → ⊥).
+      (λ (differ : quoted (source ns np na shape nb x k) x ≡ quoted (source ns np na shape nb y k) y → ⊥).
       ⊎-elim
       (λ t.
-      let z = eqb-true (readOf x ns np na nb .answer .refusal) 0 t in
+      let z = eqb-true (readOf x ns np na shape nb .answer .refusal) 0 t in
       ⊎-elim
-      (λ (none : source ns np na nb x k ≡ absent). absurd (differ (rw (← own, none) nothing-quoted)))
+      (λ (none : source ns np na shape nb x k ≡ absent). absurd (differ (rw (← own, none) nothing-quoted)))
       (λ interval.
       inr
       (record {
         interval = interval;
         accepted = (z, sym (ap (λ (a : Answer). a .refusal) (h .0 .answer)) ∙ z);
         own = own;
-        says = (cell-said x ns np na nb k, cell-said y ns np na nb k);
+        says = (cell-said x ns np na shape nb k, cell-said y ns np na shape nb k);
         differ = differ;
       }))
-      (source-interval x ns np na nb k z))
+      (source-interval x ns np na shape nb k z))
       (λ t. absurd (differ (rw (← own, refused-source k t) nothing-quoted)))
-      (bool-cases (eqb (readOf x ns np na nb .answer .refusal) 0)))
-      (list-cases (quoted (source ns np na nb x k) x) (quoted (source ns np na nb y k) y))
+      (bool-cases (eqb (readOf x ns np na shape nb .answer .refusal) 0)))
+      (list-cases (quoted (source ns np na shape nb x k) x) (quoted (source ns np na shape nb y k) y))
 
-  pub blind : DifferInQty x y → SameButAmounts ns np na nb x y
+  pub blind : DifferInQty x y → SameButAmounts ns np na shape nb x y
   blind d =
-      let h = all-same ns np na nb x y d in
+      let h = all-same ns np na shape nb x y d in
       record {
         answer = h .0 .answer;
         note = h .0 .note;
         series = h .0 .series;
         positions = h .0 .positions;
-        long = ap length (amounts-said x ns np na nb) ∙ length-map (sourceTable x ns np na nb) (amountAt x) ∙ ap length (h .1)
-            ∙ sym (ap length (amounts-said y ns np na nb) ∙ length-map (sourceTable y ns np na nb) (amountAt y));
+        long = ap length (amounts-said x ns np na shape nb) ∙ length-map (sourceTable x ns np na shape nb) (amountAt x) ∙ ap length (h .1)
+            ∙ sym (ap length (amounts-said y ns np na shape nb) ∙ length-map (sourceTable y ns np na shape nb) (amountAt y));
         amounts = cells h;
       }

@@ -32,6 +32,7 @@ use Rattle.states.specs.declared.Entry.the-variants.{Identification}
 use Rattle.reader.specs.Items.{Placed, itemsFrom}
 use Rattle.reader.specs.Rows.{quoted}
 use Rattle.reader.specs.Reading.{Out, out, readSheet}
+use Rattle.notes.specs.declared.Shape.{Shape}
 use Rattle.reader.specs.Answer.{readOf}
 use Rattle.digits.specs.Unseen.{Unseen}
 use Rattle.digits.specs.Items.{InSpan, InV, JoinsV}
@@ -236,6 +237,6 @@ module _ (x y : List ℕ) (d : Renamed x y) where
           rw (h .found, h .series, h .positions, h .amounts k) in e
 
   -- "number, place, note and all tables are the same"
-  pub renamed-same : (ns np na nb : ℕ) → readOf x ns np na nb ≡ readOf y ns np na nb
+  pub renamed-same : (ns np na : ℕ) (shape : Shape) (nb : ℕ) → readOf x ns np na shape nb ≡ readOf y ns np na shape nb
   unfolding readOf
-  renamed-same ns np na nb = rw (sheet-same ns np na)
+  renamed-same ns np na shape nb = rw (sheet-same ns np na)

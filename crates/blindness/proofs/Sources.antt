@@ -17,6 +17,7 @@ use Rattle.states.specs.declared.Room.{Room}
 use Rattle.states.specs.declared.Entry.{Entry}
 use Rattle.states.specs.declared.Entry.the-variants.{Nothing, Series, Identification, Object, BusinessType, Direction, Area, Interval, Position, Amount}
 use Rattle.states.specs.declared.Step.the-variants.{Next, Refused}
+use Rattle.notes.specs.declared.Shape.{Shape}
 use Rattle.reader.specs.Items.{Placed, itemsFrom}
 use Rattle.reader.specs.Rows.{seriesAfter}
 use Rattle.reader.specs.Reading.{stepOf, roomOf}
@@ -52,5 +53,5 @@ sourcesFrom doc ns np na (From n) = sourcesIn doc (roomOf ns np na) (itemsFrom d
 sourcesFrom doc ns np na (Misdeclared p) = unsourced na
 
 -- for tables of these lengths; on every refusal no cell has a source
-unfoldable pub sourceTable : List ℕ → ℕ → ℕ → ℕ → ℕ → List Span
-sourceTable doc ns np na nb = cond (eqb (readOf doc ns np na nb .answer .refusal) 0) (sourcesFrom doc ns np na (begin doc)) (unsourced na)
+unfoldable pub sourceTable : List ℕ → ℕ → ℕ → ℕ → Shape → ℕ → List Span
+sourceTable doc ns np na shape nb = cond (eqb (readOf doc ns np na shape nb .answer .refusal) 0) (sourcesFrom doc ns np na (begin doc)) (unsourced na)

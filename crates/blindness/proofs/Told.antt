@@ -16,6 +16,7 @@ use Rattle.states.specs.Moves.{begun}
 use Rattle.states.specs.declared.Room.{Room}
 use Rattle.states.specs.declared.Entry.{Entry}
 use Rattle.states.specs.declared.Entry.the-variants.{Amount}
+use Rattle.notes.specs.declared.Shape.{Shape}
 use Rattle.reader.specs.Items.{itemsFrom}
 use Rattle.reader.specs.Reading.{tab, Tables, Out, blank, roomOf, roomIn, readItems, itemsRead, readAfter, readInto, orBlank, readSheet}
 use Rattle.reader.specs.Answer.{Outcome, noted, unnoted, readOf}
@@ -88,9 +89,9 @@ pub told-join : {o o′ p : Outcome} → SameTold o p → SameTold o′ p → Sa
 told-join a b =
     record { answer = a .answer ∙ sym (b .answer); note = a .note ∙ sym (b .note); series = a .series ∙ sym (b .series); positions = a .positions ∙ sym (b .positions) }
 
-noted-same : {Kept : Type 0} (nb : ℕ) {o o′ : Out} → SameOut Kept o o′ → SameTold (noted nb o) (noted nb o′)
+noted-same : {Kept : Type 0} (shape : Shape) (nb : ℕ) {o o′ : Out} → SameOut Kept o o′ → SameTold (noted shape nb o) (noted shape nb o′)
 unfolding noted
-noted-same nb h = record { answer = rw (h .found); note = rw (h .found); series = h .series; positions = h .positions }
+noted-same shape nb h = record { answer = rw (h .found); note = rw (h .found); series = h .series; positions = h .positions }
 
 module _ (name : List ℕ) (R : List ℕ → List ℕ → Type 0) (brought : Entry) (unseen : Unseen R) (rows : BlindKinds name R brought) (x y : List ℕ) (shown : Tabled R brought x y)
     (d : Replaced name R x y) (ns np na : ℕ) where
@@ -126,15 +127,16 @@ module _ (name : List ℕ) (R : List ℕ → List ℕ → Type 0) (brought : Ent
   pub sheets-same : Same (readSheet x ns np na) (readSheet y ns np na) × (sourcesFrom x ns np na (begin x) ≡ sourcesFrom y ns np na (begin y))
   sheets-same = ⊎-elim (λ e. rw e (out-same refl, refl)) (λ h. (items-same h, sources-same h)) (aligned name unseen x y d)
 
-  sheets-told : (nb : ℕ) → SameTold (readOf x ns np na nb) (readOf y ns np na nb)
+  sheets-told : (shape : Shape) (nb : ℕ) → SameTold (readOf x ns np na shape nb) (readOf y ns np na shape nb)
   unfolding readOf
-  sheets-told nb =
+  sheets-told shape nb =
       ⊎-elim
       (λ l. rw l (told-itself (unnoted ns np na nb)))
-      (λ l. rw l (noted-same nb (sheets-same .0)))
+      (λ l. rw l (noted-same shape nb (sheets-same .0)))
       (bool-cases (ltb nb 16))
 
   -- and each amount comes from the same place
-  pub replaced-same : (nb : ℕ) → SameTold (readOf x ns np na nb) (readOf y ns np na nb) × (sourceTable x ns np na nb ≡ sourceTable y ns np na nb)
+  pub replaced-same : (shape : Shape) (nb : ℕ) → SameTold (readOf x ns np na shape nb) (readOf y ns np na shape nb)
+      × (sourceTable x ns np na shape nb ≡ sourceTable y ns np na shape nb)
   unfolding sourceTable
-  replaced-same nb = let t = sheets-told nb in (t, rw (t .answer, sheets-same .1))
+  replaced-same shape nb = let t = sheets-told shape nb in (t, rw (t .answer, sheets-same .1))

@@ -13,6 +13,7 @@ use Rattle.numbers.specs.Amount.{amountOf}
 use Rattle.prolog.specs.Prolog.{begin}
 use Rattle.prolog.specs.declared.Begin.{Begin}
 use Rattle.prolog.specs.declared.Begin.the-variants.{From, Misdeclared}
+use Rattle.notes.specs.declared.Shape.{Shape}
 use Rattle.reader.specs.Items.{Placed, itemsFrom}
 use Rattle.reader.specs.Rows.{quoted, thousandthsOf}
 use Rattle.reader.specs.Answer.{readOf}
@@ -32,8 +33,8 @@ qtyValuesAfter doc (From n) = qtyValues (itemsFrom doc n)
 qtyValuesAfter doc (Misdeclared p) = []
 
 -- the sources of the amounts of a document that is accepted; on every refusal there are none
-unfoldable pub sourcesOf : List ℕ → ℕ → ℕ → ℕ → ℕ → List Span
-sourcesOf doc ns np na nb = cond (eqb (readOf doc ns np na nb .answer .refusal) 0) (qtyValuesAfter doc (begin doc)) []
+unfoldable pub sourcesOf : List ℕ → ℕ → ℕ → ℕ → Shape → ℕ → List Span
+sourcesOf doc ns np na shape nb = cond (eqb (readOf doc ns np na shape nb .answer .refusal) 0) (qtyValuesAfter doc (begin doc)) []
 
 -- the amount that the value at a source says; where there is none, 0
 unfoldable pub amountAt : List ℕ → Span → ℤ

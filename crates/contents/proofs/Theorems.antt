@@ -20,6 +20,7 @@ use Rattle.guideline.specs.Kinds.{kindOf}
 use Rattle.guideline.specs.Rows.{rowsOf}
 use Rattle.states.specs.Moves.{begun}
 use Rattle.states.specs.declared.Room.{Room}
+use Rattle.notes.specs.declared.Shape.{Shape}
 use Rattle.reader.specs.Items.{Placed, itemsFrom}
 use Rattle.reader.specs.Reading.{Tables, Out, blank, roomOf, roomIn, refusedAt, acceptedAt, readItems, itemsRead, readAfter, readInto, orBlank, readSheet}
 use Rattle.reader.specs.Answer.{Outcome, answerOf, told, noted, readOf}
@@ -68,7 +69,7 @@ room-cells ns np na n m a b =
     (rows-fit n ns c, omega (arith, d, y .0), d))
     (leb-cases np na)
 
-module _ (doc : List ℕ) (ns np na nb : ℕ) (wide : 16 ≤ nb) (small : length doc ≤ 1048576) where
+module _ (doc : List ℕ) (ns np na : ℕ) (shape : Shape) (nb : ℕ) (wide : 16 ≤ nb) (small : length doc ≤ 1048576) where
   abbrev room : Room
   room = roomOf ns np na
 
@@ -79,19 +80,19 @@ module _ (doc : List ℕ) (ns np na nb : ℕ) (wide : 16 ≤ nb) (small : length
   unfolding itemsRead
   into n e = sym (into-items doc (blank ns np na) n e) ∙ ap (λ r. readItems doc r (itemsFrom doc n) begun (blank ns np na)) (blank-room ns np na)
 
-  outcome-is : (n : ℕ) → begin doc ≡ From n → read n .found .refusal ≡ 0 → readOf doc ns np na nb ≡ noted nb (read n)
+  outcome-is : (n : ℕ) → begin doc ≡ From n → read n .found .refusal ≡ 0 → readOf doc ns np na shape nb ≡ noted shape nb (read n)
   outcome-is n e z =
       let i = into n e in
-      sym (read-noted doc ns np na nb wide)
-      ∙ ap (noted nb) (sym (sheet-taken doc ns np na refl small refl (ap (λ (o : Out). o .found .refusal) i ∙ z)) ∙ i)
+      sym (read-noted doc ns np na shape nb wide)
+      ∙ ap (noted shape nb) (sym (sheet-taken doc ns np na refl small refl (ap (λ (o : Out). o .found .refusal) i ∙ z)) ∙ i)
 
   sheet-found : readSheet doc ns np na .found ≡ readInto doc (blank ns np na) .found
   unfolding readSheet orBlank
   sheet-found = rw (le-ltb 1048576 (length doc) small) refl
 
-  outcome-refusal : readOf doc ns np na nb .answer .refusal ≡ readInto doc (blank ns np na) .found .refusal
+  outcome-refusal : readOf doc ns np na shape nb .answer .refusal ≡ readInto doc (blank ns np na) .found .refusal
   unfolding noted told answerOf
-  outcome-refusal = ap (λ (o : Outcome). o .answer .refusal) (sym (read-noted doc ns np na nb wide)) ∙ ap (λ f. f .refusal) sheet-found
+  outcome-refusal = ap (λ (o : Outcome). o .answer .refusal) (sym (read-noted doc ns np na shape nb wide)) ∙ ap (λ f. f .refusal) sheet-found
 
   accepted-from : (b : Begin) → begin doc ≡ b → readInto doc (blank ns np na) .found .refusal ≡ 0 → (n : ℕ) × (begin doc ≡ From n) × (read n .found .refusal ≡ 0)
   unfolding readInto readAfter refusedAt
@@ -100,7 +101,7 @@ module _ (doc : List ℕ) (ns np na nb : ℕ) (wide : 16 ≤ nb) (small : length
 
   -- ---- accepted documents spell legal contents
 
-  pub accepted-legal : readOf doc ns np na nb .answer .refusal ≡ 0 → (kind : ℕ) × (c : Trees TagSaid) × Spells doc kind c × Legal kind c × HasRoom room kind c
+  pub accepted-legal : readOf doc ns np na shape nb .answer .refusal ≡ 0 → (kind : ℕ) × (c : Trees TagSaid) × Spells doc kind c × Legal kind c × HasRoom room kind c
   accepted-legal z =
       let g = accepted-from (begin doc) refl (sym outcome-refusal ∙ z) in
       let n = g .0 in
@@ -146,14 +147,14 @@ module _ (doc : List ℕ) (ns np na nb : ℕ) (wide : 16 ≤ nb) (small : length
     }
     read-is = back doc room n (blank ns np na) small kind kids r
 
-    outcome : readOf doc ns np na nb ≡ noted nb (record {
+    outcome : readOf doc ns np na shape nb ≡ noted shape nb (record {
       found = acceptedAt (length doc) (stateOf kind (rowAfter 0 kids) (openAfter true kids) (walked rows (saying kids) nothing));
       tables = filled kind rows kids nothing (blank ns np na);
     })
     unfolding acceptedAt
-    outcome = outcome-is n begins (ap (λ (o : Out). o .found .refusal) read-is) ∙ ap (noted nb) read-is
+    outcome = outcome-is n begins (ap (λ (o : Out). o .found .refusal) read-is) ∙ ap (noted shape nb) read-is
 
-    tells : Tells doc (readOf doc ns np na nb) kind (saying kids)
+    tells : Tells doc (readOf doc ns np na shape nb) kind (saying kids)
     unfolding noted told answerOf acceptedAt stateOf quartersOf nothing periodOf
     tells =
         let l = laid kind (r .known) in
@@ -170,7 +171,7 @@ module _ (doc : List ℕ) (ns np na nb : ℕ) (wide : 16 ≤ nb) (small : length
               (shows kind rows (l .period) (l .layout) (l .valued) doc ns np na kids (r .conforms) (r .stands) (each-given kind _ rows kids (rules .elements)) (m .0) (m .1) (m .2));
         }
 
-  pub legal-accepted : (kind : ℕ) (c : Trees TagSaid) → Spells doc kind c → Legal kind c → HasRoom room kind c → Tells doc (readOf doc ns np na nb) kind c
+  pub legal-accepted : (kind : ℕ) (c : Trees TagSaid) → Spells doc kind c → Legal kind c → HasRoom room kind c → Tells doc (readOf doc ns np na shape nb) kind c
   legal-accepted kind c s g h =
       let rows = rowsOf kind in
       let n = s .from in
@@ -195,7 +196,7 @@ module _ (doc : List ℕ) (ns np na nb : ℕ) (wide : 16 ≤ nb) (small : length
             apart-unused kind rows (l .period) (l .layout) (l .valued) doc ns np na kids (k .3) (k .4) (each-given kind _ rows kids (own .elements)) (m .0)
             (subst (λ d. Legal kind d) (sym e) g .apart);
       } in
-      subst (Tells doc (readOf doc ns np na nb) kind) e (tells kind kids n (s .begins) r own)
+      subst (Tells doc (readOf doc ns np na shape nb) kind) e (tells kind kids n (s .begins) r own)
 
 -- ---- there is one content
 
@@ -284,12 +285,12 @@ module _ (x y : List ℕ) (o u : Outcome) (kind : ℕ) (c : Trees TagSaid) (t : 
       }
 
 -- "white text, comments, quotes, attribute order and the choice between an empty tag and a start with an end change nothing but places"
-pub nothing-but-places : (x y : List ℕ) (ns np na nb : ℕ) → 16 ≤ nb → length x ≤ 1048576 → length y ≤ 1048576 → SpellAlike x y
-    → readOf x ns np na nb .answer .refusal ≡ 0 → SameButPlaces x (readOf x ns np na nb) y (readOf y ns np na nb)
-nothing-but-places x y ns np na nb w a b l z =
-    let g = accepted-legal x ns np na nb w a z in
+pub nothing-but-places : (x y : List ℕ) (ns np na : ℕ) (shape : Shape) (nb : ℕ) → 16 ≤ nb → length x ≤ 1048576 → length y ≤ 1048576 → SpellAlike x y
+    → readOf x ns np na shape nb .answer .refusal ≡ 0 → SameButPlaces x (readOf x ns np na shape nb) y (readOf y ns np na shape nb)
+nothing-but-places x y ns np na shape nb w a b l z =
+    let g = accepted-legal x ns np na shape nb w a z in
     let kind = g .0 in
     let c = g .1 in
-    same-told x y (readOf x ns np na nb) (readOf y ns np na nb) kind c
-    (legal-accepted x ns np na nb w a kind c (g .2) (g .3) (g .4))
-    (legal-accepted y ns np na nb w b kind c (alike-spells x y l kind c (g .2)) (g .3) (g .4))
+    same-told x y (readOf x ns np na shape nb) (readOf y ns np na shape nb) kind c
+    (legal-accepted x ns np na shape nb w a kind c (g .2) (g .3) (g .4))
+    (legal-accepted y ns np na shape nb w b kind c (alike-spells x y l kind c (g .2)) (g .3) (g .4))

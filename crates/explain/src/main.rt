@@ -1,8 +1,8 @@
 // Explains each line of standard input as a note, with an empty line after each explanation. It sees no document.
 
-// Writes what the note on a line means; 330 bytes have room for any explanation (`explanation-fits` of explanations).
+// Writes what the note on a line means; 370 bytes have room for any explanation (`explanation-fits` of explanations).
 fn explain_line(line: &[u8]) {
-    let mut text = [0u8; 330];
+    let mut text = [0u8; 370];
     let n = explanations::put_explanation(line, &mut text);
     lines::print_text(&text[..n]);
     lines::print_text(b"\n");

@@ -1,10 +1,11 @@
 -- What is promised of the explanation, over the definitions of its contract (`explanation`, `noteOn`).
---     note-explained      the explanation of a printed note is that of its five numbers
+--     note-explained      the explanation of a printed note, of either shape, is that of the numbers that it tells
 --     names-refusal       it begins with the words for its refusal
 --     in-words            some of these, computed
---     numbers-decide      it depends on nothing but the five numbers
+--     in-depth            and some of those for the depth
+--     numbers-decide      it depends on nothing but the six numbers
 --     only-notes          a line is taken as a note only where it is one, as it is printed
---     explanation-fits    a buffer of 330 bytes has room for every explanation
+--     explanation-fits    a buffer of 370 bytes has room for every explanation
 -- Assumes nothing.
 use mathlib.Core.Path.{_≡_, refl, sym, ap, _∙_}
 use mathlib.Core.List.{List, [], _∷_, _++_, map, append-assoc}
@@ -25,23 +26,26 @@ use Rattle.lines.proofs.Hex.{hex-size}
 use Rattle.notes.specs.declared.Note.{Note}
 use Rattle.notes.specs.declared.NoteRead.{NoteRead}
 use Rattle.notes.specs.declared.NoteRead.the-variants.{Taken, NotOneNote}
-use Rattle.notes.specs.Note.{numbers, noteOf, AllBelow, IsNote}
-use Rattle.notes.specs.Reader.{noteIn}
-use Rattle.notes.proofs.Promises.{fits-fifteen, round-trip, accepts-exactly}
+use Rattle.notes.specs.declared.Shape.{Shape}
+use Rattle.notes.specs.declared.Shape.the-variants.{Old, New}
+use Rattle.notes.specs.Note.{newMark, numbersFor, noteOf, tellsIn, AllBelow, IsNote}
+use Rattle.notes.specs.Reader.{noteIn, sixOf}
+use Rattle.notes.proofs.Promises.{fits-most, round-trip, accepts-exactly}
 use Rattle.explanations.specs.Decimal.{decimalIn, decimal, around}
-use Rattle.explanations.specs.Explanation.{refusalWords, headPart, wordsPart, refusalLine, placeLine, kindLines, kindLine, seriesPart, intervalsPart, explained, noteOn, meaning, explanation}
+use Rattle.explanations.specs.Explanation.{refusalWords, headPart, wordsPart, refusalLine, placeLine, kindLines, kindLine, seriesPart, intervalsPart, depthLines, depthLine, explained, noteOn, meaning, explanation}
 use Rattle.explanations.proofs.Printed.{note-bytes, read-bytes, printed-back}
 
-on-printed : (n : Note) → AllBelow (2 ^ 21) (numbers n) → noteOn (hexText (noteOf n)) ≡ Taken n
-unfolding noteOn
-on-printed n h =
-    let s = noteOf n in
-    let b = printed-back s (note-bytes (numbers n) h) in
-    rw (le-ltb 44 (length (hexText s)) (omega (arith, hex-size s, fits-fifteen n h)), b, same-self (hexText s)) (round-trip n h)
+module _ (shape : Shape) (n : Note) (h : AllBelow (2 ^ 21) (numbersFor shape n)) (f : n .refusal ≡ newMark → ⊥) where
+  on-printed : noteOn (hexText (noteOf shape n)) ≡ Taken (tellsIn shape n)
+  unfolding noteOn
+  on-printed =
+      let s = noteOf shape n in
+      let b = printed-back s (note-bytes (numbersFor shape n) h) in
+      rw (le-ltb 62 (length (hexText s)) (omega (arith, hex-size s, fits-most shape n h)), b, same-self (hexText s)) (round-trip shape n h f)
 
-pub note-explained : (n : Note) → AllBelow (2 ^ 21) (numbers n) → explanation (hexText (noteOf n)) ≡ explained n
-unfolding explanation
-note-explained n h = ap meaning (on-printed n h)
+  pub note-explained : explanation (hexText (noteOf shape n)) ≡ explained (tellsIn shape n)
+  unfolding explanation
+  note-explained = ap meaning on-printed
 
 -- ---- the refusal in words
 begins-front : (t s : List ℕ) → begins t (t ++ s) ≡ true
@@ -52,18 +56,22 @@ words-row : (k : ℕ) → k ≤ 10 → wordsPart k ≡ getD refusalWords k []
 unfolding wordsPart
 words-row k h = rw (le-ltb 10 k h)
 
-pub names-refusal : (n : Note) → AllBelow (2 ^ 21) (numbers n) → n .refusal ≤ 10
-    → begins (headPart (n .refusal) ++ getD refusalWords (n .refusal) []) (explanation (hexText (noteOf n))) ≡ true
+words-first : (n : Note) → n .refusal ≤ 10 → begins (headPart (n .refusal) ++ getD refusalWords (n .refusal) []) (explained n) ≡ true
 unfolding explained refusalLine
-names-refusal n h r =
+words-first n r =
     let head = headPart (n .refusal) in
     let words = wordsPart (n .refusal) in
-    let after = placeLine (n .refusal) (n .place) ++ (kindLine (n .kind) ++ (seriesPart (n .refusal) (n .series) ++ intervalsPart (n .intervals))) in
+    let after = placeLine (n .refusal) (n .place) ++ (kindLine (n .kind) ++ (seriesPart (n .refusal) (n .series) ++ (intervalsPart (n .intervals) ++ depthLine (n .depth)))) in
     let e : explained n ≡ (head ++ words) ++ (text ".\n" ++ after) =
     append-assoc head (words ++ text ".\n") after
     ∙ ap (λ (l : List ℕ). head ++ l) (append-assoc words (text ".\n") after)
     ∙ sym (append-assoc head words (text ".\n" ++ after)) in
-    rw (note-explained n h ∙ e, ← words-row (n .refusal) r) (begins-front (head ++ words) (text ".\n" ++ after))
+    rw (e, ← words-row (n .refusal) r) (begins-front (head ++ words) (text ".\n" ++ after))
+
+pub names-refusal : (shape : Shape) (n : Note) → AllBelow (2 ^ 21) (numbersFor shape n) → n .refusal ≤ 10
+    → begins (headPart (n .refusal) ++ getD refusalWords (n .refusal) []) (explanation (hexText (noteOf shape n))) ≡ true
+names-refusal Old n h r = rw (note-explained Old n h (λ e. omega arith)) (words-first (tellsIn Old n) r)
+names-refusal New n h r = rw (note-explained New n h (λ e. omega arith)) (words-first n r)
 
 -- some of them, computed
 pub in-words : map (λ (k : ℕ). headPart k ++ wordsPart k) (0 ∷ 6 ∷ 10 ∷ 11 ∷ [])
@@ -74,14 +82,23 @@ pub in-words : map (λ (k : ℕ). headPart k ++ wordsPart k) (0 ∷ 6 ∷ 10 ∷
 unfolding headPart wordsPart around decimalIn
 in-words = refl
 
--- ---- the five numbers decide
-same-numbers : (n m : Note) → numbers n ≡ numbers m → explained n ≡ explained m
+-- "three elements deep"; of a depth of 0 nothing is said
+pub in-depth : map depthLine (0 ∷ 1 ∷ 3 ∷ 13 ∷ []) ≡ [] ∷ text "Depth: one element deep.\n" ∷ text "Depth: three elements deep.\n" ∷ text "Depth: 13 elements deep.\n" ∷ []
+unfolding depthLine around decimalIn
+in-depth = refl
+
+-- ---- the six numbers decide
+abbrev six : Note → List ℕ
+six n = sixOf (Taken n)
+
+same-numbers : (n m : Note) → six n ≡ six m → explained n ≡ explained m
 same-numbers n m e =
     ap
-    (λ (l : List ℕ). explained (record { refusal = getD l 0 0; place = getD l 1 0; kind = getD l 2 0; series = getD l 3 0; intervals = getD l 4 0 }))
+    (λ (l : List ℕ).
+    explained (record { refusal = getD l 0 0; place = getD l 1 0; kind = getD l 2 0; series = getD l 3 0; intervals = getD l 4 0; depth = getD l 5 0 }))
     e
 
-pub numbers-decide : (x y : List ℕ) (n m : Note) → noteOn x ≡ Taken n → noteOn y ≡ Taken m → numbers n ≡ numbers m → explanation x ≡ explanation y
+pub numbers-decide : (x y : List ℕ) (n m : Note) → noteOn x ≡ Taken n → noteOn y ≡ Taken m → six n ≡ six m → explanation x ≡ explanation y
 unfolding explanation
 numbers-decide x y n m ex ey e = ap meaning ex ∙ same-numbers n m e ∙ sym (ap meaning ey)
 
@@ -89,7 +106,7 @@ numbers-decide x y n m ex ey e = ap meaning ex ∙ same-numbers n m e ∙ sym (a
 not-taken : {n : Note} → NotOneNote ≡ Taken n → ⊥
 not-taken e = zero-not-one (cc)
 
-pub only-notes : (line : List ℕ) (n : Note) → noteOn line ≡ Taken n → (line ≡ hexText (noteOf n)) × AllBelow (2 ^ 21) (numbers n)
+pub only-notes : (line : List ℕ) (n : Note) → noteOn line ≡ Taken n → (shape : Shape) × (line ≡ hexText (noteOf shape n)) × AllBelow (2 ^ 21) (numbersFor shape n)
 unfolding noteOn
 only-notes line n e =
     let b = hexBytes 16 line in
@@ -99,11 +116,11 @@ only-notes line n e =
     ⊎-elim
     (λ z.
     let q : noteIn b ≡ Taken n = rw (y .1, z) at e in
-    let i : IsNote b (numbers n) = accepts-exactly b (numbers n) (read-bytes 16 line) .0 (rw q (refl, refl)) in
-    (sym (same-equal (hexText b) line z) ∙ ap hexText (i .bytes), i .small))
+    let i = accepts-exactly b n (read-bytes 16 line) .0 q in
+    (i .0, sym (same-equal (hexText b) line z) ∙ ap hexText (i .1 .bytes), i .1 .small))
     (λ z. absurd (not-taken (rw (y .1, z) at e)))
     (bool-cases (same (hexText b) line)))
-    (ltb-cases 44 (length line))
+    (ltb-cases 62 (length line))
 
 -- ---- the room that an explanation takes
 -- the length of the longest row
@@ -170,7 +187,11 @@ intervals-size : (n : ℕ) → Short 30 (intervalsPart n)
 unfolding intervalsPart
 intervals-size n = by-cond (Short 30) (eqb n 1) (omega arith) (omega (arith, around-size [] n (text " intervals.\n")))
 
-meaning-size : (r : NoteRead) → Short 330 (meaning r)
+depth-size : (n : ℕ) → Short 40 (depthLine n)
+unfolding depthLine most
+depth-size n = by-cond (Short 40) (ltb 12 n) (omega (arith, around-size (text "Depth: ") n (text " elements deep.\n"))) (omega (arith, row-size depthLines n))
+
+meaning-size : (r : NoteRead) → Short 370 (meaning r)
 unfolding explained
 meaning-size (Taken n) =
     let l1 = refusalLine (n .refusal) in
@@ -178,20 +199,23 @@ meaning-size (Taken n) =
     let l3 = kindLine (n .kind) in
     let l4 = seriesPart (n .refusal) (n .series) in
     let l5 = intervalsPart (n .intervals) in
+    let l6 = depthLine (n .depth) in
     omega (
       arith,
-      length-append l1 (l2 ++ (l3 ++ (l4 ++ l5))),
-      length-append l2 (l3 ++ (l4 ++ l5)),
-      length-append l3 (l4 ++ l5),
-      length-append l4 l5,
+      length-append l1 (l2 ++ (l3 ++ (l4 ++ (l5 ++ l6)))),
+      length-append l2 (l3 ++ (l4 ++ (l5 ++ l6))),
+      length-append l3 (l4 ++ (l5 ++ l6)),
+      length-append l4 (l5 ++ l6),
+      length-append l5 l6,
       refusal-size (n .refusal),
       place-size (n .refusal) (n .place),
       kind-size (n .kind),
       series-size (n .refusal) (n .series),
       intervals-size (n .intervals),
+      depth-size (n .depth),
     )
 meaning-size NotOneNote = omega arith
 
-pub explanation-fits : (line : List ℕ) → length (explanation line) ≤ 330
+pub explanation-fits : (line : List ℕ) → length (explanation line) ≤ 370
 unfolding explanation
 explanation-fits line = meaning-size (noteOn line)

@@ -1,4 +1,4 @@
--- What a note says, in words. Every note is explained by its five numbers, also one that no document reader gives, as acceptance with kind 0.
+-- What a note says, in words. Every note is explained by its numbers, also one that no document reader gives, as acceptance with kind 0.
 use Prim.Native.Nat.{ℕ}
 use mathlib.Core.List.{List, [], _∷_, _++_}
 use mathlib.Core.Bool.{cond}
@@ -64,17 +64,37 @@ seriesPart refusal series =
 unfoldable pub intervalsPart : ℕ → List ℕ
 intervalsPart intervals = cond (eqb intervals 1) (text "1 interval.\n") (around [] intervals (text " intervals.\n"))
 
--- "The note is five numbers: refusal, place, kind, series, intervals."
+-- "the count of elements open before the faulty item"; nothing is said of a depth of 0, which is that of an old note too, and it tells none
+abbrev pub depthLines : List (List ℕ)
+depthLines =
+    [] ∷
+    text "Depth: one element deep.\n" ∷
+    text "Depth: two elements deep.\n" ∷
+    text "Depth: three elements deep.\n" ∷
+    text "Depth: four elements deep.\n" ∷
+    text "Depth: five elements deep.\n" ∷
+    text "Depth: six elements deep.\n" ∷
+    text "Depth: seven elements deep.\n" ∷
+    text "Depth: eight elements deep.\n" ∷
+    text "Depth: nine elements deep.\n" ∷
+    text "Depth: ten elements deep.\n" ∷
+    text "Depth: eleven elements deep.\n" ∷
+    text "Depth: twelve elements deep.\n" ∷ []
+
+unfoldable pub depthLine : ℕ → List ℕ
+depthLine depth = cond (ltb 12 depth) (around (text "Depth: ") depth (text " elements deep.\n")) (getD depthLines depth [])
+
+-- "The note is five numbers: refusal, place, kind, series, intervals."; the depth last
 unfoldable pub explained : Note → List ℕ
 explained n =
     refusalLine (n .refusal) ++
-    (placeLine (n .refusal) (n .place) ++ (kindLine (n .kind) ++ (seriesPart (n .refusal) (n .series) ++ intervalsPart (n .intervals))))
+    (placeLine (n .refusal) (n .place) ++ (kindLine (n .kind) ++ (seriesPart (n .refusal) (n .series) ++ (intervalsPart (n .intervals) ++ depthLine (n .depth)))))
 
--- The note on a line, where the line is as the program prints it: "two-digit upper-case hex, single spaces". No note has more than 15 bytes
--- (`fits-fifteen` of notes), so no line of a note has more than 44 characters.
+-- The note on a line, of either shape, where the line is as the program prints one: "two-digit upper-case hex, single spaces". No note has more than 21 bytes
+-- (`fits-most` of notes), so no line of a note has more than 62 characters.
 unfoldable pub noteOn : List ℕ → NoteRead
 noteOn line =
-    cond (ltb 44 (length line)) NotOneNote
+    cond (ltb 62 (length line)) NotOneNote
     (cond (same (hexText (hexBytes 16 line)) line) (noteIn (hexBytes 16 line)) NotOneNote)
 
 abbrev pub meaning : NoteRead → List ℕ

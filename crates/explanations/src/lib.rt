@@ -7,7 +7,7 @@ ghost use lib.ListN.{length};
 ghost use lib.Seq.{sets};
 ghost use Rattle.io.specs.Counts.{Counts};
 ghost use Rattle.explanations.specs.Decimal.{decimal, around};
-ghost use Rattle.explanations.specs.Explanation.{headPart, wordsPart, refusalLine, placeLine, kindLine, seriesPart, intervalsPart, explained, noteOn, explanation};
+ghost use Rattle.explanations.specs.Explanation.{headPart, wordsPart, refusalLine, placeLine, kindLine, seriesPart, intervalsPart, depthLine, explained, noteOn, explanation};
 use lines::put_bytes;
 use lines::put_hex;
 use lines::put_text;
@@ -156,6 +156,28 @@ fn add_intervals(out: &mut [u8], at: usize, intervals: u32) -> usize
     add_around(out, at, b"", intervals, b" intervals.\n")
 }
 
+fn add_depth(out: &mut [u8], at: usize, depth: u32) -> usize
+    ensures next { λ r. ⌜ r ≡ min (at + length (depthLine depth)) (length (now (out .entry))) ⌝ }
+    ensures text { λ _. ⌜ now (out .exit) ≡ sets (now (out .entry)) at (depthLine depth) ⌝ }
+{
+    match depth {
+        0 => add_text(out, at, b""),
+        1 => add_text(out, at, b"Depth: one element deep.\n"),
+        2 => add_text(out, at, b"Depth: two elements deep.\n"),
+        3 => add_text(out, at, b"Depth: three elements deep.\n"),
+        4 => add_text(out, at, b"Depth: four elements deep.\n"),
+        5 => add_text(out, at, b"Depth: five elements deep.\n"),
+        6 => add_text(out, at, b"Depth: six elements deep.\n"),
+        7 => add_text(out, at, b"Depth: seven elements deep.\n"),
+        8 => add_text(out, at, b"Depth: eight elements deep.\n"),
+        9 => add_text(out, at, b"Depth: nine elements deep.\n"),
+        10 => add_text(out, at, b"Depth: ten elements deep.\n"),
+        11 => add_text(out, at, b"Depth: eleven elements deep.\n"),
+        12 => add_text(out, at, b"Depth: twelve elements deep.\n"),
+        _ => add_around(out, at, b"Depth: ", depth, b" elements deep.\n"),
+    }
+}
+
 fn add_note(out: &mut [u8], at: usize, n: Note) -> usize
     ensures next { λ r. ⌜ r ≡ min (at + length (explained n)) (length (now (out .entry))) ⌝ }
     ensures text { λ _. ⌜ now (out .exit) ≡ sets (now (out .entry)) at (explained n) ⌝ }
@@ -164,19 +186,20 @@ fn add_note(out: &mut [u8], at: usize, n: Note) -> usize
     let kind_at = add_place(out, place_at, n.refusal, n.place);
     let series_at = add_kind(out, kind_at, n.kind);
     let intervals_at = add_series(out, series_at, n.refusal, n.series);
-    add_intervals(out, intervals_at, n.intervals)
+    let depth_at = add_intervals(out, intervals_at, n.intervals);
+    add_depth(out, depth_at, n.depth)
 }
 
-// The note on a line as the program prints it. The bytes are printed again and compared, so that a line with anything else on it is none.
+// The note on a line, of either shape, as the program prints one. The bytes are printed again and compared, so that a line with anything else on it is none.
 fn read_line(line: &[u8]) -> NoteRead
     ensures { λ r. ⌜ r ≡ noteOn (now (line .entry)) ⌝ }
 {
-    if 44 < line.len() {
+    if 62 < line.len() {
         return NoteRead::NotOneNote;
     }
-    let mut bytes = [0u8; 44];
+    let mut bytes = [0u8; 62];
     let n = put_bytes(line, &mut bytes);
-    let mut text = [0u8; 132];
+    let mut text = [0u8; 186];
     let m = put_hex(front(&bytes, n), &mut text);
     if is_same(front(&text, m), line) {
         return read_note(front(&bytes, n));

@@ -1,10 +1,13 @@
 -- What is computed of the rows of every kind holds of the rows of any number. Assumes nothing.
-use Prim.Native.Nat.{ℕ, suc}
-use mathlib.Core.Path.{_≡_, refl, ap}
+use Prim.Native.Nat.{ℕ, zero, suc, _+_, _<_}
+use mathlib.Core.Path.{_≡_, refl, sym, ap, _∙_}
 use mathlib.Core.List.{List, [], _∷_}
 use mathlib.Core.Bool.{Bool, true, false, cond}
 use mathlib.Core.Logic.{_⊎_, inl, inr, ⊎-elim}
+use native.Mathlib.Nat.{add-zero, zero-add}
+use native.Mathlib.Omega.{arith}
 use lib.Dec.{eqb}
+use lib.ListN.{length, getD}
 use borrow.Author.Tests.{eqb-true}
 use Rattle.lists.proofs.Cases.{bool-cases, both-true, eqb-cases, never}
 use Rattle.slices.specs.Same.{same}
@@ -81,3 +84,18 @@ rows-in k =
 abbrev pub rowWith : ℕ → List ℕ → ℕ
 rowWith role [] = 0
 rowWith role (w ∷ ws) = cond (eqb (roleOf w) role) 0 (suc (rowWith role ws))
+
+-- each row, with its number, passes the test; the first of them has the number i
+abbrev pub eachRow : (ℕ → ℕ → Bool) → ℕ → List ℕ → Bool
+eachRow test i [] = true
+eachRow test i (w ∷ ws) = cond (test i w) (eachRow test (suc i) ws) false
+
+row-at : (test : ℕ → ℕ → Bool) (i : ℕ) (ws : List ℕ) → eachRow test i ws ≡ true → (j : ℕ) → j < length ws → test (i + j) (getD ws j 0) ≡ true
+row-at test i [] e j h = absurd (omega arith)
+row-at test i (w ∷ ws) e zero h = rw add-zero (both-true (test i w) e .0)
+row-at test i (w ∷ ws) e (suc j) h =
+    let q : suc i + j ≡ i + suc j = omega arith in
+    rw q at (row-at test (suc i) ws (both-true (test i w) e .1) j (omega arith))
+
+pub row-of : (test : ℕ → ℕ → Bool) (ws : List ℕ) → eachRow test 0 ws ≡ true → (j : ℕ) → j < length ws → test j (getD ws j 0) ≡ true
+row-of test ws e j h = ap (λ (k : ℕ). test k (getD ws j 0)) (sym (zero-add j)) ∙ row-at test 0 ws e j h

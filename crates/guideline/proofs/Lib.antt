@@ -1,4 +1,5 @@
 pub mod Each
+pub mod Depths
 pub mod Named
 pub mod Roots
 pub mod Unique

@@ -1,4 +1,4 @@
--- The note's length is small, whatever was read: five numbers of at most five groups.
+-- The note's length is small, whatever was read or converted: seven numbers of at most five groups.
 -- Assumes nothing.
 use mathlib.Core.List.{List, [], _∷_}
 use Prim.Native.Nat.{ℕ, _*_, _≤_}
@@ -6,8 +6,15 @@ use native.Mathlib.Omega.{arith}
 use lib.Dec.{ltb, leb}
 use lib.ListN.{length, length-append}
 use Rattle.lists.proofs.Cases.{by-cond}
-use Rattle.notes.specs.Note.{groups, flat, numbers, noteOf, wrote, noteLength}
+use Rattle.notes.specs.Note.{groups, flat, numbersFor, noteOf, wrote, noteLength}
+use Rattle.notes.specs.Reader.{noteIn}
+use Rattle.notes.specs.Converter.{turnedInto, converted, convertLength}
 use Rattle.notes.specs.declared.Note.{Note}
+use Rattle.notes.specs.declared.NoteRead.{NoteRead}
+use Rattle.notes.specs.declared.NoteRead.the-variants.{Taken, NotOneNote}
+use Rattle.notes.specs.declared.Converted.{Converted}
+use Rattle.notes.specs.declared.Shape.{Shape}
+use Rattle.notes.specs.declared.Shape.the-variants.{Old, New}
 use Rattle.notes.specs.declared.Put.{Put}
 use Rattle.notes.proofs.Groups.{groups-le}
 use Rattle.reader.specs.Answer.{Outcome, answerOf, noteFor, told, noted, unnoted, readOf}
@@ -18,16 +25,26 @@ unfolding flat
 flat-le [] = omega arith
 flat-le (n ∷ ns) = omega (arith, length-append (groups n) (flat ns), groups-le 4 n, flat-le ns)
 
-wrote-le : (room : ℕ) (n : Note) → noteLength (wrote room (noteOf n)) ≤ 25
-unfolding wrote
-wrote-le room n = by-cond (λ (p : Put). noteLength p ≤ 25) (leb (length (noteOf n)) room) (flat-le (numbers n)) none
-  where
-    none : 0 ≤ 25
-    none = omega arith
+note-le : (shape : Shape) (n : Note) → length (noteOf shape n) ≤ 35
+note-le Old n = let h = flat-le (numbersFor Old n) in omega arith
+note-le New n = flat-le (numbersFor New n)
 
-pub note-short : (doc : List ℕ) (ns np na nb : ℕ) → readOf doc ns np na nb .answer .note ≤ 25
+none-le : 0 ≤ 35
+none-le = omega arith
+
+wrote-le : (room : ℕ) (shape : Shape) (n : Note) → noteLength (wrote room (noteOf shape n)) ≤ 35
+unfolding wrote
+wrote-le room shape n = by-cond (λ (p : Put). noteLength p ≤ 35) (leb (length (noteOf shape n)) room) (note-le shape n) none-le
+
+pub note-short : (doc : List ℕ) (ns np na : ℕ) (shape : Shape) (nb : ℕ) → readOf doc ns np na shape nb .answer .note ≤ 35
 unfolding readOf noted unnoted told answerOf
-note-short doc ns np na nb = by-cond (λ (o : Outcome). o .answer .note ≤ 25) (ltb nb 16) none (wrote-le nb (noteFor (readSheet doc ns np na .found)))
-  where
-    none : 0 ≤ 25
-    none = omega arith
+note-short doc ns np na shape nb =
+    by-cond (λ (o : Outcome). o .answer .note ≤ 35) (ltb nb 16) none-le (wrote-le nb shape (noteFor (readSheet doc ns np na .found)))
+
+turned-le : (room : ℕ) (shape : Shape) (r : NoteRead) → convertLength (turnedInto room shape r) ≤ 35
+turned-le room shape (Taken n) = wrote-le room shape n
+turned-le room shape NotOneNote = none-le
+
+pub converted-short : (s : List ℕ) (shape : Shape) (room : ℕ) → convertLength (converted s shape room) ≤ 35
+unfolding converted
+converted-short s shape room = by-cond (λ (c : Converted). convertLength c ≤ 35) (ltb room 24) none-le (turned-le room shape (noteIn s))

@@ -1,5 +1,6 @@
 -- What the reader's definitions make of a note, and what bytes they take.
 --     number-back, numbers-back    a number, and numbers one after the other, are read back
+--     numbers-other                and not as fewer or more of them
 --     number-is, numbers-are       bytes that are read as numbers are those numbers' groups, and nothing else
 -- Assumes nothing.
 use mathlib.Core.Path.{_≡_, refl, sym, ap, ap₂, _∙_}
@@ -18,7 +19,7 @@ use Rattle.notes.specs.Note.{groupsIn, groups, flat, AllBelow}
 use Rattle.notes.specs.Reader.{moreOf, firstNumber, pastNumber, withNumber, numbersIn}
 use Rattle.notes.specs.declared.Got.{Got}
 use Rattle.notes.specs.declared.Got.the-variants.{Number, Bad}
-use Rattle.notes.proofs.Groups.{on, last, less, groups-three}
+use Rattle.notes.proofs.Groups.{on, last, pos, less, groups-three}
 use Rattle.notes.proofs.Reading.{not-bad, more-inv}
 
 -- ---- reading back
@@ -41,6 +42,23 @@ unfolding numbersIn flat AllBelow
 numbers-back [] h = refl
 numbers-back (n ∷ ns) h =
     rw (got-back n (flat ns) (h .0), drop-at (groups n) (flat ns) (length (groups n)) refl, numbers-back ns (h .1))
+
+none-first : firstNumber 3 [] ≡ Bad
+unfolding firstNumber
+none-first = refl
+
+none-left : (w v : List ℕ) → 0 < length w → numbersIn 0 (w ++ v) ≡ none
+unfolding numbersIn
+none-left [] v h = absurd (omega arith)
+none-left (b ∷ w) v h = refl
+
+pub numbers-other : (k : ℕ) (ns : List ℕ) → AllBelow (2 ^ 21) ns → (k ≡ length ns → ⊥) → numbersIn k (flat ns) ≡ none
+unfolding numbersIn flat AllBelow
+numbers-other zero [] h f = absurd (f refl)
+numbers-other zero (n ∷ ns) h f = none-left (groups n) (flat ns) (pos 4 n)
+numbers-other (suc k) [] h f = rw none-first
+numbers-other (suc k) (n ∷ ns) h f =
+    rw (got-back n (flat ns) (h .0), drop-at (groups n) (flat ns) (length (groups n)) refl, numbers-other k ns (h .1) (λ e. f (ap suc e)))
 
 -- ---- bytes that are read
 -- v and its groups are what the bytes s begin with, in u bytes

@@ -1,6 +1,6 @@
 -- The invariants of the two reading loops.
 --     Sum     the number reader: what the groups so far make of those to come is the number
---     Rd      the note reader: what is read and what is still to be read is the note
+--     Rd      the reader of numbers: what is read and what is still to be read is all of them
 -- Assumes nothing.
 use mathlib.Core.Path.{_≡_, refl, sym, ap, ap₂, _∙_}
 use mathlib.Core.List.{List, [], _∷_, _++_, append-assoc, append-nil}
@@ -8,16 +8,16 @@ use Prim.Native.Nat.{ℕ, zero, suc, _+_, _-_, _*_, _^_, _≤_, _<_}
 use native.Mathlib.Nat.{zero-add, one-mul, mul-add, mul-assoc, pow-succ', mul-le-mul-left, pow-le-pow-right, le-of-eq}
 use native.Mathlib.Numerals.{add-one}
 use native.Mathlib.Omega.{arith}
-use mathlib.Core.Bool.{cond}
+use mathlib.Core.Bool.{Bool, true, false, cond}
 use mathlib.Core.Option.{Option, some, none}
 use mathlib.Core.Logic.{⊎-elim}
-use lib.Dec.{ltb}
+use lib.Dec.{ltb, eqb}
 use lib.ListN.{length, take, drop, set, getD, length-set, length-drop, drop-of-length-le}
 use lib.Seq.{drop-cons, drop-drop, take-suc-set, take-all}
 use borrow.Author.Tests.{lt-ltb, le-ltb}
-use Rattle.lists.specs.Zeros.{zeros}
 use Rattle.lists.proofs.Cases.{ltb-cases, eqb-cases, zero-not-one}
-use Rattle.notes.specs.Reader.{moreOf, firstNumber, withNumber, numbersIn}
+use Rattle.notes.specs.Reader.{moreOf, firstNumber, withNumber, numbersIn, readAs, oldNote, newNote, noteIn}
+use Rattle.notes.specs.declared.NoteRead.the-variants.{NotOneNote}
 use Rattle.notes.specs.declared.Got.{Got}
 use Rattle.notes.specs.declared.Got.the-variants.{Number, Bad}
 
@@ -127,7 +127,7 @@ module _ (s : List ℕ) (i value unit least : ℕ) (r : Sum s i value unit least
       go zero c a = a
       go (suc k) c a = absurd (omega arith)
 
--- ---- the note reader's loop
+-- ---- the loop of the reader of numbers
 pub not-bad : {v u : ℕ} → Bad ≡ Number v u → ⊥
 not-bad e = zero-not-one (cc)
 
@@ -164,40 +164,40 @@ unfoldable pub join : List ℕ → Option (List ℕ) → Option (List ℕ)
 join p (some l) = some (p ++ l)
 join p none = none
 
--- i numbers were read up to at; j are to come
-pub record Rd (s ns : List ℕ) (at i : ℕ) : Type 0 where
+-- of n numbers i were read up to at; j are to come
+pub record Rd (n : ℕ) (s ns : List ℕ) (at i : ℕ) : Type 0 where
   pub j : ℕ
-  pub sum : i + j ≡ 5
+  pub sum : i + j ≡ n
   pub most : at ≤ length s
-  pub long : length ns ≡ 5
-  pub rest : join (take i ns) (numbersIn j (drop at s)) ≡ numbersIn 5 s
+  pub long : length ns ≡ n
+  pub rest : join (take i ns) (numbersIn j (drop at s)) ≡ numbersIn n s
 
 join-none : (x : Option (List ℕ)) → join [] x ≡ x
 unfolding join
 join-none (some l) = refl
 join-none none = refl
 
-pub rd-start : (s : List ℕ) → Rd s (zeros 5) 0 0
-rd-start s = record { j = 5; sum = zero-add 5; most = omega arith; long = refl; rest = join-none (numbersIn 5 s) }
+pub rd-start : (s ns : List ℕ) → Rd (length ns) s ns 0 0
+rd-start s ns = record { j = length ns; sum = zero-add (length ns); most = omega arith; long = refl; rest = join-none (numbersIn (length ns) s) }
 
 join-front : (p : List ℕ) (v u : ℕ) (x : Option (List ℕ)) → join p (withNumber (Number v u) x) ≡ join (p ++ v ∷ []) x
 unfolding join
 join-front p v u (some l) = ap some (sym (append-assoc p (v ∷ []) l))
 join-front p v u none = refl
 
-module _ (s ns : List ℕ) (at i : ℕ) (r : Rd s ns at i) where
-  rd-rest : (v u k : ℕ) → i < 5 → firstNumber 3 (drop at s) ≡ Number v u → join (take i ns) (numbersIn (suc k) (drop at s)) ≡ numbersIn 5 s
-      → join (take (i + 1) (set ns i v)) (numbersIn k (drop (at + u) s)) ≡ numbersIn 5 s
+module _ (n : ℕ) (s ns : List ℕ) (at i : ℕ) (r : Rd n s ns at i) where
+  rd-rest : (v u k : ℕ) → i < n → firstNumber 3 (drop at s) ≡ Number v u → join (take i ns) (numbersIn (suc k) (drop at s)) ≡ numbersIn n s
+      → join (take (i + 1) (set ns i v)) (numbersIn k (drop (at + u) s)) ≡ numbersIn n s
   unfolding numbersIn
   rd-rest v u k h e q =
       let l : i < length ns = omega (arith, r .long) in
       let t : take (i + 1) (set ns i v) ≡ take i ns ++ v ∷ [] = rw add-one (take-suc-set ns i v l) in
       rw (t, ← drop-drop u at s) (sym (join-front (take i ns) v u (numbersIn k (drop u (drop at s)))) ∙ rw e at q)
 
-  pub rd-next : (v u : ℕ) → i < 5 → firstNumber 3 (drop at s) ≡ Number v u → Rd s (set ns i v) (at + u) (i + 1)
+  pub rd-next : (v u : ℕ) → i < n → firstNumber 3 (drop at s) ≡ Number v u → Rd n s (set ns i v) (at + u) (i + 1)
   rd-next v u h e = go (r .j) (r .sum) (r .rest)
     where
-      go : (j : ℕ) → i + j ≡ 5 → join (take i ns) (numbersIn j (drop at s)) ≡ numbersIn 5 s → Rd s (set ns i v) (at + u) (i + 1)
+      go : (j : ℕ) → i + j ≡ n → join (take i ns) (numbersIn j (drop at s)) ≡ numbersIn n s → Rd n s (set ns i v) (at + u) (i + 1)
       go zero sm re = absurd (omega arith)
       go (suc j) sm re =
           record {
@@ -212,30 +212,54 @@ module _ (s ns : List ℕ) (at i : ℕ) (r : Rd s ns at i) where
   unfolding numbersIn join
   stopped j e = rw e
 
-  pub rd-bad : i < 5 → firstNumber 3 (drop at s) ≡ Bad → none ≡ numbersIn 5 s
+  pub rd-bad : i < n → firstNumber 3 (drop at s) ≡ Bad → none ≡ numbersIn n s
   rd-bad h e = go (r .j) (r .sum) (r .rest)
     where
-      go : (j : ℕ) → i + j ≡ 5 → join (take i ns) (numbersIn j (drop at s)) ≡ numbersIn 5 s → none ≡ numbersIn 5 s
+      go : (j : ℕ) → i + j ≡ n → join (take i ns) (numbersIn j (drop at s)) ≡ numbersIn n s → none ≡ numbersIn n s
       go zero sm re = absurd (omega arith)
       go (suc j) sm re = sym (stopped j e) ∙ re
 
-  -- five numbers are read
-  ended-at : 5 ≤ i → join ns (numbersIn 0 (drop at s)) ≡ numbersIn 5 s
+  -- all numbers are read
+  ended-at : n ≤ i → join ns (numbersIn 0 (drop at s)) ≡ numbersIn n s
   ended-at h = go (r .j) (omega (arith, r .sum)) (r .rest)
     where
-      go : (j : ℕ) → j ≡ 0 → join (take i ns) (numbersIn j (drop at s)) ≡ numbersIn 5 s → join ns (numbersIn 0 (drop at s)) ≡ numbersIn 5 s
+      go : (j : ℕ) → j ≡ 0 → join (take i ns) (numbersIn j (drop at s)) ≡ numbersIn n s → join ns (numbersIn 0 (drop at s)) ≡ numbersIn n s
       go zero z q = sym (ap (λ (l : List ℕ). join l (numbersIn 0 (drop at s))) (take-all i ns (omega (arith, r .long)))) ∙ q
       go (suc j) z q = absurd (omega arith)
 
-  pub rd-end : 5 ≤ i → at ≡ length s → some ns ≡ numbersIn 5 s
+  whole-end : n ≤ i → at ≡ length s → some ns ≡ numbersIn n s
   unfolding numbersIn join
-  rd-end h e =
+  whole-end h e =
       sym (ap some (append-nil ns))
       ∙ sym (ap (λ (l : List ℕ). join ns (numbersIn 0 l)) (drop-of-length-le s (le-of-eq (sym e))))
       ∙ ended-at h
 
-  pub rd-more : 5 ≤ i → (at ≡ length s → ⊥) → none ≡ numbersIn 5 s
+  more-end : n ≤ i → (at ≡ length s → ⊥) → none ≡ numbersIn n s
   unfolding numbersIn join
-  rd-more h f =
+  more-end h f =
       let l : at < length s = omega (arith, r .most, f) in
       sym (ap (λ (d : List ℕ). join ns (numbersIn 0 d)) (drop-cons s at 0 l)) ∙ ended-at h
+
+  pub rd-whole : n ≤ i → readAs (eqb at (length s)) ns ≡ numbersIn n s
+  rd-whole h = ⊎-elim (λ y. rw (y .1) (whole-end h (y .0))) (λ y. rw (y .1) (more-end h (y .0))) (eqb-cases at (length s))
+
+-- ---- the note reader: what it was told of five numbers, and of seven
+module _ (s five : List ℕ) (b : Bool) where
+  pub read-five : b ≡ true → readAs b five ≡ numbersIn 5 s → oldNote five ≡ noteIn s
+  unfolding noteIn
+  read-five y e = let q : some five ≡ numbersIn 5 s = rw y at e in rw (← q) refl
+
+  module _ (seven : List ℕ) (d : Bool) (y : b ≡ false) (e : readAs b five ≡ numbersIn 5 s) where
+    pub read-seven : d ≡ true → readAs d seven ≡ numbersIn 7 s → newNote seven ≡ noteIn s
+    unfolding noteIn
+    read-seven z f =
+        let q : none ≡ numbersIn 5 s = rw y at e in
+        let p : some seven ≡ numbersIn 7 s = rw z at f in
+        rw (← q, ← p) refl
+
+    pub read-neither : d ≡ false → readAs d seven ≡ numbersIn 7 s → NotOneNote ≡ noteIn s
+    unfolding noteIn
+    read-neither z f =
+        let q : none ≡ numbersIn 5 s = rw y at e in
+        let p : none ≡ numbersIn 7 s = rw z at f in
+        rw (← q, ← p) refl

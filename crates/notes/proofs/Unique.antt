@@ -7,14 +7,22 @@ use lib.ListN.{length}
 use Rattle.lists.proofs.Unique.{one, both}
 use Rattle.notes.specs.Note.{noteOf, wrote, left}
 use Rattle.notes.specs.Reader.{noteIn}
+use Rattle.notes.specs.Converter.{converted, convertedOut}
+use Rattle.notes.specs.declared.Converted.{Converted}
 use Rattle.notes.specs.declared.Note.{Note}
+use Rattle.notes.specs.declared.Shape.{Shape}
 use Rattle.notes.specs.declared.NoteRead.{NoteRead}
 use Rattle.notes.specs.declared.Put.{Put}
 
-pub write-note-one : (note : List ℕ) (n : Note) {r r′ : Put} {b b′ : List ℕ}
-    → (r ≡ wrote (length note) (noteOf n)) × (b ≡ left (noteOf n) (length note))
-    → (r′ ≡ wrote (length note) (noteOf n)) × (b′ ≡ left (noteOf n) (length note)) → (r ≡ r′) × (b ≡ b′)
-write-note-one note n = both
+pub write-note-one : (note : List ℕ) (shape : Shape) (n : Note) {r r′ : Put} {b b′ : List ℕ}
+    → (r ≡ wrote (length note) (noteOf shape n)) × (b ≡ left (noteOf shape n) (length note))
+    → (r′ ≡ wrote (length note) (noteOf shape n)) × (b′ ≡ left (noteOf shape n) (length note)) → (r ≡ r′) × (b ≡ b′)
+write-note-one note shape n = both
 
 pub read-note-one : (s : List ℕ) {r r′ : NoteRead} → r ≡ noteIn s → r′ ≡ noteIn s → r ≡ r′
 read-note-one s = one
+
+pub convert-note-one : (s : List ℕ) (shape : Shape) (out : List ℕ) {r r′ : Converted} {b b′ : List ℕ}
+    → (r ≡ converted s shape (length out)) × (b ≡ convertedOut s shape (length out))
+    → (r′ ≡ converted s shape (length out)) × (b′ ≡ convertedOut s shape (length out)) → (r ≡ r′) × (b ≡ b′)
+convert-note-one s shape out = both

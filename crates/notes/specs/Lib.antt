@@ -1,2 +1,3 @@
 pub mod Note
 pub mod Reader
+pub mod Converter

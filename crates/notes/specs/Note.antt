@@ -7,6 +7,8 @@ use lib.ListN.{length, drop}
 use lib.Dec.{ltb, leb}
 use Rattle.lists.specs.Zeros.{zeros, padded}
 use Rattle.notes.specs.declared.Note.{Note}
+use Rattle.notes.specs.declared.Shape.{Shape}
+use Rattle.notes.specs.declared.Shape.the-variants.{Old, New}
 use Rattle.notes.specs.declared.Put.{Put}
 use Rattle.notes.specs.declared.Put.the-variants.{Written, NoRoom}
 
@@ -25,12 +27,23 @@ unfoldable pub flat : List ℕ → List ℕ
 flat [] = []
 flat (n ∷ ns) = groups n ++ flat ns
 
--- "The note is five numbers: refusal, place, kind, series, intervals."
-abbrev pub numbers : Note → List ℕ
-numbers n = n .refusal ∷ n .place ∷ n .kind ∷ n .series ∷ n .intervals ∷ []
+-- "A new note begins with the number 100"
+abbrev pub newMark : ℕ
+newMark = 100
 
-abbrev pub noteOf : Note → List ℕ
-noteOf n = flat (numbers n)
+-- "The note is five numbers: refusal, place, kind, series, intervals."; "A new note begins with the number 100, then the old five, then the count of elements open before
+-- the faulty item"
+abbrev pub numbersFor : Shape → Note → List ℕ
+numbersFor Old n = n .refusal ∷ n .place ∷ n .kind ∷ n .series ∷ n .intervals ∷ []
+numbersFor New n = newMark ∷ n .refusal ∷ n .place ∷ n .kind ∷ n .series ∷ n .intervals ∷ n .depth ∷ []
+
+abbrev pub noteOf : Shape → Note → List ℕ
+noteOf shape n = flat (numbersFor shape n)
+
+-- "The note reader reads both, an old one with depth 0": what a note of this shape tells
+abbrev pub tellsIn : Shape → Note → Note
+tellsIn Old n = record { refusal = n .refusal; place = n .place; kind = n .kind; series = n .series; intervals = n .intervals; depth = 0 }
+tellsIn New n = n
 
 -- the answer where w is to be written and there is room for so many bytes
 unfoldable pub wrote : ℕ → List ℕ → Put
@@ -58,8 +71,10 @@ unfoldable pub AllBelow : ℕ → List ℕ → Type 0
 AllBelow m [] = Unit {0}
 AllBelow m (n ∷ ns) = (n < m) × AllBelow m ns
 
--- "A note has exactly five numbers, each shortest and below 2^21, and nothing after": s is the note of ns
-pub record IsNote (s ns : List ℕ) : Type 0 where
-  pub five : length ns ≡ 5
-  pub small : AllBelow (2 ^ 21) ns
-  pub bytes : s ≡ flat ns
+-- "A note has exactly five numbers, each shortest and below 2^21, and nothing after", or seven in the new shape; "From now on five numbers beginning with 100 are no note,
+-- nor are seven whose second is 100": s is the note of this shape that tells n
+pub record IsNote (s : List ℕ) (shape : Shape) (n : Note) : Type 0 where
+  pub small : AllBelow (2 ^ 21) (numbersFor shape n)
+  pub other : n .refusal ≡ newMark → ⊥
+  pub tells : tellsIn shape n ≡ n
+  pub bytes : s ≡ noteOf shape n

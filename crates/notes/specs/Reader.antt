@@ -1,12 +1,12 @@
 -- What the note reader answers. That it takes exactly the notes is `accepts-exactly` of proofs/Promises.antt.
 use Prim.Native.Nat.{ℕ, zero, suc, _+_, _-_, _*_}
 use mathlib.Core.List.{List, [], _∷_}
-use mathlib.Core.Bool.{cond}
+use mathlib.Core.Bool.{Bool, true, false, cond}
 use mathlib.Core.Option.{Option, some, none}
 use lib.ListN.{getD, drop}
 use lib.Dec.{ltb, eqb}
 use Rattle.lists.specs.Zeros.{zeros}
-use Rattle.notes.specs.Note.{numbers}
+use Rattle.notes.specs.Note.{newMark}
 use Rattle.notes.specs.declared.Got.{Got}
 use Rattle.notes.specs.declared.Got.the-variants.{Number, Bad}
 use Rattle.notes.specs.declared.NoteRead.{NoteRead}
@@ -39,20 +39,39 @@ numbersIn zero [] = some []
 numbersIn zero (b ∷ s) = none
 numbersIn (suc k) s = withNumber (firstNumber 3 s) (numbersIn k (pastNumber s (firstNumber 3 s)))
 
--- the five numbers, in the note's order, or none
-abbrev pub noteAnswer : Option (List ℕ) → NoteRead
-noteAnswer (some l) =
-    Taken (record { refusal = getD l 0 0; place = getD l 1 0; kind = getD l 2 0; series = getD l 3 0; intervals = getD l 4 0 })
-noteAnswer none = NotOneNote
+-- the numbers, or none
+abbrev pub readAs : Bool → List ℕ → Option (List ℕ)
+readAs true l = some l
+readAs false l = none
+
+-- five numbers, in the note's order, of which the first is not 100
+abbrev pub oldNote : List ℕ → NoteRead
+oldNote l =
+    cond (eqb (getD l 0 0) newMark) NotOneNote
+    (Taken (record { refusal = getD l 0 0; place = getD l 1 0; kind = getD l 2 0; series = getD l 3 0; intervals = getD l 4 0; depth = 0 }))
+
+-- seven, of which the first is 100 and the second not
+abbrev pub newNote : List ℕ → NoteRead
+newNote l =
+    cond (eqb (getD l 0 0) newMark)
+    (cond (eqb (getD l 1 0) newMark) NotOneNote
+    (Taken (record { refusal = getD l 1 0; place = getD l 2 0; kind = getD l 3 0; series = getD l 4 0; intervals = getD l 5 0; depth = getD l 6 0 })))
+    NotOneNote
+
+-- exactly five numbers; else exactly seven
+abbrev pub noteAnswer : Option (List ℕ) → Option (List ℕ) → NoteRead
+noteAnswer (some l) seven = oldNote l
+noteAnswer none (some l) = newNote l
+noteAnswer none none = NotOneNote
 
 unfoldable pub noteIn : List ℕ → NoteRead
-noteIn s = noteAnswer (numbersIn 5 s)
+noteIn s = noteAnswer (numbersIn 5 s) (numbersIn 7 s)
 
--- The paper's number and values for each answer of the note reader: "11: the bytes aren't one note", "on 11 its five numbers are 0"
+-- The paper's number and values for each answer of the note reader: "11: the bytes aren't one note", "on 11 its five numbers are 0", and so is the depth
 abbrev pub readRefusal : NoteRead → ℕ
 readRefusal (Taken n) = 0
 readRefusal NotOneNote = 11
 
-abbrev pub fiveOf : NoteRead → List ℕ
-fiveOf (Taken n) = numbers n
-fiveOf NotOneNote = zeros 5
+abbrev pub sixOf : NoteRead → List ℕ
+sixOf (Taken n) = n .refusal ∷ n .place ∷ n .kind ∷ n .series ∷ n .intervals ∷ n .depth ∷ []
+sixOf NotOneNote = zeros 6

@@ -1,12 +1,17 @@
 // Runs the vectors of the note. A line of standard input is a case:
-//   r HEX         the note reader is handed the bytes; printed: the refusal's number and the five numbers
-//   w HEX         the first byte is how many bytes the note buffer has (at most 32), and the next twenty are the five numbers, four bytes
-//                 each, highest first; printed: the refusal's number, the note's length, and all bytes of the buffer
+//   r HEX         the note reader is handed the bytes; printed: the refusal's number and the six numbers, the depth last
+//   w HEX, x HEX  the first byte is how many bytes the note buffer has (at most 48), and the next twenty-four are the six numbers, four bytes
+//                 each, highest first; the note is written in the old shape (w) or in the new one (x); printed: the refusal's number, the note's length,
+//                 and all bytes of the buffer
+//   o HEX, n HEX  the first byte is how many bytes the output has (at most 48), and those after it are converted into the old shape (o) or the new one (n);
+//                 printed as for the writer
 // Any other line is printed as it is.
 ghost use Prim.Native.Nat.{_<_};
+use notes::Converted;
 use notes::Note;
 use notes::NoteRead;
 use notes::Put;
+use notes::Shape;
 
 fn print_numbers(refusal: u64, n: Note) {
     lines::print_number(refusal);
@@ -20,6 +25,8 @@ fn print_numbers(refusal: u64, n: Note) {
     lines::print_number(n.series as u64);
     lines::print_text(b" ");
     lines::print_number(n.intervals as u64);
+    lines::print_text(b" ");
+    lines::print_number(n.depth as u64);
 }
 
 fn show_read(s: &[u8]) {
@@ -33,6 +40,7 @@ fn show_read(s: &[u8]) {
                 kind: 0,
                 series: 0,
                 intervals: 0,
+                depth: 0,
             },
         ),
     }
@@ -59,30 +67,50 @@ fn number_at(s: &[u8], at: u8) -> u32 {
     high * 65536 + low
 }
 
-fn show_write(note: &mut [u8], n: Note) {
-    match notes::write_note(note, n) {
-        Put::Written(k) => {
-            lines::print_text(b"0 ");
-            lines::print_number(k as u64);
-        }
-        Put::NoRoom => lines::print_text(b"10 0"),
-    }
+fn show_bytes(refusal: u64, len: usize, out: &[u8]) {
+    lines::print_number(refusal);
+    lines::print_text(b" ");
+    lines::print_number(len as u64);
     lines::print_text(b": ");
-    lines::print_bytes(note);
+    lines::print_bytes(out);
 }
 
-fn run_write(s: &[u8]) {
+fn show_write(note: &mut [u8], shape: Shape, n: Note) {
+    match notes::write_note(note, shape, n) {
+        Put::Written(k) => show_bytes(0, k, note),
+        Put::NoRoom => show_bytes(10, 0, note),
+    }
+}
+
+fn run_write(s: &[u8], shape: Shape) {
     let n = Note {
         refusal: number_at(s, 1),
         place: number_at(s, 5),
         kind: number_at(s, 9),
         series: number_at(s, 13),
         intervals: number_at(s, 17),
+        depth: number_at(s, 21),
     };
-    let mut buf = [255u8; 32];
+    let mut buf = [255u8; 48];
     let room = byte_at(s, 0) as usize;
-    if room <= 32 {
-        show_write(&mut buf[..room], n);
+    if room <= 48 {
+        show_write(&mut buf[..room], shape, n);
+    }
+}
+
+fn show_convert(s: &[u8], shape: Shape, out: &mut [u8]) {
+    match notes::convert_note(s, shape, out) {
+        Converted::Turned(k) => show_bytes(0, k, out),
+        Converted::OutShort => show_bytes(10, 0, out),
+        Converted::NeitherShape => show_bytes(11, 0, out),
+    }
+}
+
+fn run_convert(s: &[u8], shape: Shape) {
+    let mut buf = [255u8; 48];
+    let room = byte_at(s, 0) as usize;
+    if room <= 48 && 1 <= s.len() {
+        show_convert(&s[1..], shape, &mut buf[..room]);
     }
 }
 
@@ -92,7 +120,13 @@ fn run_case(line: &[u8]) {
     if byte_at(line, 0) == 114 {
         show_read(&bytes[..n]);
     } else if byte_at(line, 0) == 119 {
-        run_write(&bytes[..n]);
+        run_write(&bytes[..n], Shape::Old);
+    } else if byte_at(line, 0) == 120 {
+        run_write(&bytes[..n], Shape::New);
+    } else if byte_at(line, 0) == 111 {
+        run_convert(&bytes[..n], Shape::Old);
+    } else if byte_at(line, 0) == 110 {
+        run_convert(&bytes[..n], Shape::New);
     } else {
         lines::print_text(line);
     }

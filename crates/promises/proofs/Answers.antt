@@ -1,6 +1,6 @@
 -- What holds of the document reader's answer, tables and note, from what holds of what was found. Assumes nothing.
 use Prim.Native.Nat.{ℕ, _^_, _≤_, _<_}
-use mathlib.Core.Path.{_≡_, refl}
+use mathlib.Core.Path.{_≡_, refl, sym, _∙_}
 use mathlib.Core.List.{List}
 use mathlib.Core.Logic.{⊎-elim}
 use native.Mathlib.Omega.{arith}
@@ -10,62 +10,58 @@ use Rattle.lists.specs.Zeros.{zeros, padded}
 use Rattle.lists.proofs.Cases.{ltb-cases}
 use Rattle.lists.proofs.Zeros.{take-padded}
 use Rattle.notes.specs.declared.Note.{Note}
-use Rattle.notes.specs.Note.{groupsIn, flat, numbers, noteOf, wrote, left, noteLength, AllBelow}
+use Rattle.notes.specs.Note.{groupsIn, flat, newMark, numbersFor, noteOf, tellsIn, wrote, left, noteLength, AllBelow}
 use Rattle.notes.specs.Reader.{noteIn}
 use Rattle.notes.specs.declared.NoteRead.the-variants.{Taken}
-use Rattle.notes.proofs.Promises.{fits-fifteen, room-enough, round-trip}
+use Rattle.notes.specs.declared.Shape.the-variants.{Old, New}
+use Rattle.notes.proofs.Promises.{fits-reader, room-enough, round-trip}
+use Rattle.structure.specs.Depth.{heightIn, depthOf}
+use Rattle.guideline.specs.Rows.{rowsOf}
 use Rattle.states.specs.Moves.{begun}
+use Rattle.notes.specs.declared.Shape.{Shape}
 use Rattle.reader.specs.Reading.{Out, blank, refusedAt, readSheet}
 use Rattle.reader.specs.Answer.{Outcome, noteFor, answerOf, told, noted, unnoted, readOf}
 use Rattle.reader.proofs.Sheets.{read-unnoted, read-noted}
 use Rattle.promises.specs.Rows.{ZeroPast, InRoom, Sized}
-use Rattle.promises.specs.Answers.{fiveTold, atOnce}
+use Rattle.promises.specs.Answers.{noteTold, countIn, atOnce}
 use Rattle.guideline.specs.Kinds.{seriesElement}
-use Rattle.promises.specs.Items.{before, starts, kindIn, intervalElement, itemsIn, PlaceOf}
+use Rattle.promises.specs.Items.{before, starts, kindIn, intervalElement, itemsIn, PlaceOf, startTags, endTags, openBefore}
 use Rattle.promises.proofs.Places.{sheet-here}
 use Rattle.promises.proofs.Cells.{blank-past, blank-sized}
 use Rattle.promises.proofs.Counted.{first-told, sheet-told}
 use Rattle.promises.proofs.Readings.{sheet-room, sheet-fine, sheet-cleared, sheet-long}
 
--- the note of five small numbers, in a buffer of at least 16 bytes
-module _ (n : Note) (nb : ℕ) (h : AllBelow (2 ^ 21) (numbers n)) (r : 16 ≤ nb) where
-  abbrev len : ℕ
-  len = noteLength (wrote nb (noteOf n))
+-- a note that has room, in a buffer of nb bytes
+module _ (shape : Shape) (n : Note) (nb : ℕ) (h : AllBelow (2 ^ 21) (numbersFor shape n)) (f : n .refusal ≡ newMark → ⊥) (r : length (noteOf shape n) ≤ nb) where
+  pub note-back : noteIn (take (noteLength (wrote nb (noteOf shape n))) (left (noteOf shape n) nb)) ≡ Taken (tellsIn shape n)
+  note-back =
+      let e = room-enough shape n nb r in
+      rw (e .1, e .2, take-padded nb (noteOf shape n)) (round-trip shape n h f)
 
-  abbrev buffer : List ℕ
-  buffer = left (noteOf n) nb
+-- refusal 1, before any item
+first-note : (shape : Shape) (nb : ℕ) → 16 ≤ nb → told shape nb (refusedAt 1 0 begun) ≡ atOnce 1 (countIn shape)
+unfolding told answerOf noteFor refusedAt begun wrote flat groupsIn depthOf heightIn rowsOf
+first-note Old nb h = rw (le-leb 5 nb (omega arith)) refl
+first-note New nb h = rw (le-leb 7 nb (omega arith)) refl
 
-  fits : length (noteOf n) ≤ nb
-  fits = omega (arith, fits-fifteen n h)
-
-  pub note-short : len ≤ 15
-  note-short = rw (room-enough n nb h r .1) (fits-fifteen n h)
-
-  pub buffer-is : buffer ≡ padded nb (noteOf n)
-  unfolding left
-  buffer-is = rw (le-leb (length (noteOf n)) nb fits) refl
-
-  pub note-back : noteIn (take len buffer) ≡ Taken n
-  note-back = rw (room-enough n nb h r .1, buffer-is, take-padded nb (noteOf n)) (round-trip n h)
-
-module _ (doc : List ℕ) (ns np na nb : ℕ) where
+module _ (doc : List ℕ) (ns np na : ℕ) (shape : Shape) (nb : ℕ) where
   abbrev sheet : Out
   sheet = readSheet doc ns np na
 
   abbrev outcome : Outcome
-  outcome = readOf doc ns np na nb
+  outcome = readOf doc ns np na shape nb
 
   -- what holds of either outcome holds
-  by-buffer : (P : Outcome → Type 0) → (nb < 16 → P (unnoted ns np na nb)) → (16 ≤ nb → P (noted nb sheet)) → P outcome
+  by-buffer : (P : Outcome → Type 0) → (nb < 16 → P (unnoted ns np na nb)) → (16 ≤ nb → P (noted shape nb sheet)) → P outcome
   by-buffer P f g =
       ⊎-elim
-      (λ y. rw (← read-unnoted doc ns np na nb (y .0)) (f (y .0)))
-      (λ y. rw (← read-noted doc ns np na nb (y .0)) (g (y .0)))
+      (λ y. rw (← read-unnoted doc ns np na shape nb (y .0)) (f (y .0)))
+      (λ y. rw (← read-noted doc ns np na shape nb (y .0)) (g (y .0)))
       (ltb-cases nb 16)
 
   pub ten-is : nb < 16 → (outcome .answer ≡ atOnce 10 0) × (outcome .tables ≡ blank ns np na) × (outcome .note ≡ zeros nb)
   unfolding unnoted answerOf refusedAt begun
-  ten-is h = rw (← read-unnoted doc ns np na nb h) (refl, refl, refl)
+  ten-is h = rw (← read-unnoted doc ns np na shape nb h) (refl, refl, refl)
 
   pub ten-only : outcome .answer .refusal ≡ 10 → nb < 16
   unfolding noted told answerOf
@@ -73,9 +69,9 @@ module _ (doc : List ℕ) (ns np na nb : ℕ) where
       by-buffer (λ (o : Outcome). o .answer .refusal ≡ 10 → nb < 16) (λ h e. h)
       (λ h e. absurd (omega (arith, e, sheet-fine doc ns np na .refusals)))
 
-  pub long-is : 16 ≤ nb → 1048576 < length doc → outcome .answer ≡ atOnce 1 5
-  unfolding noted told answerOf noteFor refusedAt begun wrote flat groupsIn
-  long-is h l = rw (← read-noted doc ns np na nb h, sheet-long doc ns np na l) (rw (le-leb 5 nb (omega arith)) refl)
+  pub long-is : 16 ≤ nb → 1048576 < length doc → outcome .answer ≡ atOnce 1 (countIn shape)
+  unfolding noted
+  long-is h l = rw (← read-noted doc ns np na shape nb h, sheet-long doc ns np na l) (first-note shape nb h)
 
   pub long-only : outcome .answer .refusal ≡ 1 → 1048576 < length doc
   unfolding noted unnoted told answerOf refusedAt
@@ -127,7 +123,7 @@ module _ (doc : List ℕ) (ns np na nb : ℕ) where
 
   pub place-told : 16 ≤ nb → length doc ≤ 1048576 → PlaceOf doc (outcome .answer .place)
   unfolding noted told answerOf
-  place-told h l = rw (← read-noted doc ns np na nb h) (sheet-here doc ns np na l)
+  place-told h l = rw (← read-noted doc ns np na shape nb h) (sheet-here doc ns np na l)
 
   pub counts-told : (outcome .answer .kind ≡ kindIn (before (outcome .answer .place) (itemsIn doc)))
       × (outcome .answer .series ≡ starts (seriesElement (outcome .answer .kind)) (before (outcome .answer .place) (itemsIn doc)))
@@ -142,28 +138,86 @@ module _ (doc : List ℕ) (ns np na nb : ℕ) where
       (λ h. let f = first-told doc 10 (blank ns np na) in (f .kind, f .series, f .intervals))
       (λ h. let f = sheet-told doc ns np na in (f .kind, f .series, f .intervals))
 
-  five-small : AllBelow (2 ^ 21) (numbers (noteFor (sheet .found)))
-  unfolding AllBelow noteFor refusedAt begun
-  five-small =
+  never-ten : refusedAt 10 0 begun .refusal ≡ 0 → ⊥
+  unfolding refusedAt
+  never-ten e = omega (arith, e)
+
+  -- the numbers of the note
+  abbrev found : Note
+  found = noteFor (sheet .found)
+
+  record Small : Type 0 where
+    refusals : found .refusal ≤ 9
+    places : found .place < 2 ^ 21
+    kinds : found .kind ≤ 2
+    series : found .series < 2 ^ 21
+    intervals : found .intervals < 2 ^ 21
+    depths : found .depth ≤ 16
+
+  small : Small
+  unfolding noteFor refusedAt begun
+  small =
       let f = sheet-fine doc ns np na in
       ⊎-elim
-      (λ y. rw (sheet-long doc ns np na (y .0)) (omega arith, (omega arith, (omega arith, (omega arith, (omega arith, tt))))))
-      (λ y. (
-        omega (arith, f .refusals),
-        (
-          omega (arith, f .places, y .0),
-          (omega (arith, f .kinds), (omega (arith, f .series, y .0), (omega (arith, f .intervals, y .0), tt))),
-        ),
-      ))
+      (λ y.
+      record {
+        refusals = f .refusals;
+        places = rw (sheet-long doc ns np na (y .0)) (omega arith);
+        kinds = f .kinds;
+        series = rw (sheet-long doc ns np na (y .0)) (omega arith);
+        intervals = rw (sheet-long doc ns np na (y .0)) (omega arith);
+        depths = f .depths;
+      })
+      (λ y.
+      record {
+        refusals = f .refusals;
+        places = omega (arith, f .places, y .0);
+        kinds = f .kinds;
+        series = omega (arith, f .series, y .0);
+        intervals = omega (arith, f .intervals, y .0);
+        depths = f .depths;
+      })
       (ltb-cases 1048576 (length doc))
 
+  all-below : (s : Shape) → AllBelow (2 ^ 21) (numbersFor s found)
+  unfolding AllBelow
+  all-below Old = let z = small in (omega arith, (omega arith, (omega arith, (omega arith, (omega arith, tt)))))
+  all-below New = let z = small in (omega arith, (omega arith, (omega arith, (omega arith, (omega arith, (omega arith, (omega arith, tt)))))))
+
+  short : (s : Shape) → length (noteOf s found) ≤ 16
+  short s =
+      let z = small in
+      let f = fits-reader found (omega arith) (z .places) (omega arith) (z .series) (z .intervals) (omega arith) in
+      in-shape s (f .0) (f .1)
+    where
+      in-shape : (s : Shape) → length (noteOf Old found) ≤ 11 → length (noteOf New found) ≤ 13 → length (noteOf s found) ≤ 16
+      in-shape Old a b = omega arith
+      in-shape New a b = omega arith
+
+  -- start tags less end tags
+  open-is : sheet .found .depth ≡ openBefore doc (sheet .found .place)
+  unfolding openBefore
+  open-is = let f = sheet-told doc ns np na in omega (arith, f .depth)
+
   pub note-told : 16 ≤ nb
-      → (outcome .answer .note ≡ length (noteOf (fiveTold (outcome .answer))))
-      × (outcome .answer .note ≤ 15)
-      × (outcome .note ≡ padded nb (noteOf (fiveTold (outcome .answer))))
-      × (noteIn (take (outcome .answer .note) (outcome .note)) ≡ Taken (fiveTold (outcome .answer)))
+      → (outcome .answer .note ≡ length (noteOf shape (noteTold (outcome .answer) (openBefore doc (outcome .answer .place)))))
+      × (outcome .answer .note ≤ 16)
+      × (outcome .note ≡ padded nb (noteOf shape (noteTold (outcome .answer) (openBefore doc (outcome .answer .place)))))
+      × (noteIn (take (outcome .answer .note) (outcome .note)) ≡ Taken (tellsIn shape (noteTold (outcome .answer) (openBefore doc (outcome .answer .place)))))
   unfolding noted told answerOf noteFor
   note-told h =
-      let n = noteFor (sheet .found) in
-      rw (← read-noted doc ns np na nb h)
-      (room-enough n nb five-small h .1, note-short n nb five-small h, buffer-is n nb five-small h, note-back n nb five-small h)
+      let l = short shape in
+      let e = room-enough shape found nb (omega arith) in
+      let b = note-back shape found nb (all-below shape) (λ q. omega (arith, q, small .refusals)) (omega arith) in
+      rw (← read-noted doc ns np na shape nb h, ← open-is) (e .1, rw (e .1) l, e .2, b)
+
+  pub open-told : (endTags (before (outcome .answer .place) (itemsIn doc)) ≤ startTags (before (outcome .answer .place) (itemsIn doc)))
+      × (outcome .answer .refusal ≡ 0 → openBefore doc (outcome .answer .place) ≡ 0)
+  unfolding noted unnoted told answerOf
+  open-told =
+      by-buffer
+      (λ (o : Outcome).
+      (endTags (before (o .answer .place) (itemsIn doc)) ≤ startTags (before (o .answer .place) (itemsIn doc)))
+      × (o .answer .refusal ≡ 0 → openBefore doc (o .answer .place) ≡ 0))
+      (λ h. let f = first-told doc 10 (blank ns np na) in (omega (arith, f .depth), λ e. absurd (never-ten e)))
+      (λ h. let f = sheet-told doc ns np na in (omega (arith, f .depth), λ e. sym open-is ∙ sheet-fine doc ns np na .shut e))

@@ -34,12 +34,14 @@ use Rattle.times.specs.Periods.{costPeriod, quarterHours, deliveryDay, dayPerio
 use Rattle.rules.specs.Rules.{versionBy, isVersion, amountBy, amount, judgeIntervalBy, judgeInterval, positionFits, judgePositionBy, judgePosition, judge, unless, formRefusal, periodFits, judgePeriodBy, judgePeriod}
 use Rattle.elements.specs.Names.{names, numberIn, elementNo}
 use Rattle.structure.specs.Rows.{nameOf, parentOf, required, repeated, nextIn, endsIn, startOf, endAt, endOf, endsAtOnce, closesDocument, overOf}
+use Rattle.structure.specs.Depth.{heightIn, depthOf}
 use Rattle.columns.specs.Columns.{collapsed, formOf, schemeOf, roleOf}
 use Rattle.guideline.specs.Kinds.{noDemands, messageAlone, noKind, kindOne, kindTwo, kindAt, fixedOne, fixedTwo, fixedFor, withinMost, takesAnother, kindOf, hasEnough}
 use Rattle.guideline.specs.Rows.{beschaffungsanforderung, kostenblatt, rowsOf}
 use Rattle.states.specs.Attributes.{valueOf, schemeRefusal, least, alsoScheme, there, agree, asksV, asksScheme, demandsAt, meets, dtdFits, noOthers, attributesFit, valueFixed, dtdFixed, judgeTag}
 use Rattle.states.specs.Moves.{oneMore, oneSeries, oneInterval, oneOriginal, lastPos, covering, closedAt, endRefusal, afterEndAt as tagEnded, afterEnd, begun, heldOf, cutShort, tooMany, noRoom, halfOriginals, valuesJudged, judgedAt, startJudged, atRow, kept, entered, entryOf, startedBy, startedAt, started, countRefusal, moved, rootKind, kindTold, step}
 use Rattle.notes.specs.Note.{groupsIn, flat, wrote, left}
+use Rattle.notes.specs.declared.Shape.the-variants.{Old}
 use Rattle.reader.specs.Items.{itemsAfter, itemsFrom}
 use Rattle.series.specs.Row.{withView, view}
 use Rattle.reader.specs.Rows.{quoted, thousandthsOf, used, usedIn, usedWith, broughtBy, fieldAfter, seriesWith, positionsWith, amountsWith, seriesAfter, positionsAfter, amountsAfter, usedBefore}
@@ -66,8 +68,8 @@ firstId = record { start = 460; len = 2 }
 abbrev pub secondId : Span
 secondId = record { start = 955; len = 2 }
 
-computed : (allPass examples ≡ true) × (readOf sheet 25 4 4 16 ≡ sheetOutcome)
-    × (readOf twiceSheet 25 4 4 16 .answer ≡ twiceAnswer) × (identificationsIn sheet ≡ firstId ∷ secondId ∷ [])
+computed : (allPass examples ≡ true) × (readOf sheet 25 4 4 Old 16 ≡ sheetOutcome)
+    × (readOf twiceSheet 25 4 4 Old 16 .answer ≡ twiceAnswer) × (identificationsIn sheet ≡ firstId ∷ secondId ∷ [])
 unfolding byte run same begins walk seqLen control single charAt saidBy saidAt saysAfter says nameStart nameByte white quote fit valueNext valueOver
     value openingFrom opening attributeEnd attributeQuote attributeName attribute pieceAfter piece partOf absent dtdName noDtd withDtd noneKnown anotherKnown
     notedKnown onto endsAfter ends keptOf named twice endClose endName endTag tagOf tagItem startTag item markLen beginAfter begin capital
@@ -84,7 +86,7 @@ unfolding byte run same begins walk seqLen control single charAt saidBy saidAt s
     startedBy startedAt started countRefusal moved rootKind kindTold step groupsIn flat wrote left itemsAfter itemsFrom quoted
     withView view thousandthsOf used usedIn usedWith spanOf broughtBy fieldAfter seriesWith positionsWith
     amountsWith seriesAfter positionsAfter amountsAfter usedBefore acceptedAt blank roomOf refusedAt
-    endedAt withoutUsed stepOf tablesAfter readItems roomIn itemsRead readAfter readInto orBlank readSheet noteFor answerOf told noted readOf
+    depthOf heightIn endedAt withoutUsed stepOf tablesAfter readItems roomIn itemsRead readAfter readInto orBlank readSheet noteFor answerOf told noted readOf
     identificationsIn valuesNamedAfter valuesNamed tagNamed valueAt
 computed = (refl, refl, refl, refl)
 
@@ -92,20 +94,20 @@ computed = (refl, refl, refl, refl)
 pub examples-pass : allPass examples ≡ true
 examples-pass = computed .0
 
-pub sheet-read : readOf sheet 25 4 4 16 ≡ sheetOutcome
+pub sheet-read : readOf sheet 25 4 4 Old 16 ≡ sheetOutcome
 sheet-read = computed .1
 
-sheet-accepted : readOf sheet 25 4 4 16 .answer .refusal ≡ 0
+sheet-accepted : readOf sheet 25 4 4 Old 16 .answer .refusal ≡ 0
 sheet-accepted = ap (λ (o : Outcome). o .answer .refusal) sheet-read
 
 sheet-short : length sheet ≤ 1048576
 sheet-short =
-    let p : readOf sheet 25 4 4 16 .answer .place ≡ 1387 = ap (λ (o : Outcome). o .answer .place) sheet-read in
-    let l = accepted-whole sheet 25 4 4 16 sheet-accepted in
+    let p : readOf sheet 25 4 4 Old 16 .answer .place ≡ 1387 = ap (λ (o : Outcome). o .answer .place) sheet-read in
+    let l = accepted-whole sheet 25 4 4 Old 16 sheet-accepted in
     omega (arith, p, l)
 
 -- by a rule that is not one-to-one the answer is another
-pub twice-read : readOf twiceSheet 25 4 4 16 .answer ≡ twiceAnswer
+pub twice-read : readOf twiceSheet 25 4 4 Old 16 .answer ≡ twiceAnswer
 twice-read = computed .2
 
 pub sheet-ids : identificationsIn sheet ≡ firstId ∷ secondId ∷ []
@@ -113,4 +115,4 @@ sheet-ids = computed .3
 
 -- it spells a legal content
 pub sheet-content : (kind : ℕ) × (c : Trees TagSaid) × Spells sheet kind c × Legal kind c × HasRoom (roomOf 25 4 4) kind c
-sheet-content = accepted-legal sheet 25 4 4 16 (omega arith) sheet-short sheet-accepted
+sheet-content = accepted-legal sheet 25 4 4 Old 16 (omega arith) sheet-short sheet-accepted

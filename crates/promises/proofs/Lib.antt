@@ -6,6 +6,7 @@ pub mod Steps
 pub mod Cells
 pub mod Readings
 pub mod Starts
+pub mod Opens
 pub mod Counted
 pub mod Places
 pub mod Answers

@@ -6,7 +6,6 @@ use mathlib.Core.List.{List, [], _∷_}
 use mathlib.Core.Bool.{Bool, true, false, cond, not}
 use mathlib.Core.Logic.{⊎-elim}
 use native.Mathlib.Omega.{arith}
-use native.Mathlib.Nat.{add-zero, zero-add}
 use lib.Dec.{leb, ltb, eqb}
 use lib.ListN.{length, getD}
 use borrow.Author.Tests.{lt-leb, ne-eqb, eqb-true, leb-true, ltb-true, not-true}
@@ -20,24 +19,9 @@ use Rattle.structure.proofs.Means.{start-means, end-means}
 use Rattle.columns.specs.Columns.{roleOf, seriesRole, intervalRole, objectRole, businessRole, seriesIdRole, posRole, qtyRole, directionRole, areaRole}
 use Rattle.guideline.specs.Kinds.{isKind, seriesElement}
 use Rattle.guideline.specs.Rows.{beschaffungsanforderung, kostenblatt, rowsOf}
-use Rattle.guideline.proofs.Each.{of-kind, rowWith}
+use Rattle.guideline.proofs.Each.{eachRow, row-of, of-kind, rowWith}
 use Rattle.guideline.proofs.Roots.{no-start, no-end}
 use Rattle.promises.specs.Items.{intervalElement}
-
--- each row, with its number, passes the test; the first of them has the number i
-abbrev eachRow : (ℕ → ℕ → Bool) → ℕ → List ℕ → Bool
-eachRow test i [] = true
-eachRow test i (w ∷ ws) = cond (test i w) (eachRow test (suc i) ws) false
-
-row-at : (test : ℕ → ℕ → Bool) (i : ℕ) (ws : List ℕ) → eachRow test i ws ≡ true → (j : ℕ) → j < length ws → test (i + j) (getD ws j 0) ≡ true
-row-at test i [] e j h = absurd (omega arith)
-row-at test i (w ∷ ws) e zero h = rw add-zero (both-true (test i w) e .0)
-row-at test i (w ∷ ws) e (suc j) h =
-    let q : suc i + j ≡ i + suc j = omega arith in
-    rw q at (row-at test (suc i) ws (both-true (test i w) e .1) j (omega arith))
-
-row-of : (test : ℕ → ℕ → Bool) (ws : List ℕ) → eachRow test 0 ws ≡ true → (j : ℕ) → j < length ws → test j (getD ws j 0) ≡ true
-row-of test ws e j h = ap (λ (k : ℕ). test k (getD ws j 0)) (sym (zero-add j)) ∙ row-at test 0 ws e j h
 
 -- row 0 stands in none, and each other row in one before it
 pub record Rooted (t : List ℕ) : Type 0 where

@@ -9,15 +9,17 @@ use mathlib.Core.Bool.{true}
 use lib.IntN.{ℤ, pos}
 use lib.ListN.{length, take, getD}
 use Rattle.lists.specs.Zeros.{zeros, padded}
-use Rattle.notes.specs.Note.{noteOf}
+use Rattle.notes.specs.Note.{noteOf, tellsIn}
 use Rattle.notes.specs.Reader.{noteIn}
+use Rattle.notes.specs.declared.Shape.the-variants.{Old}
 use Rattle.notes.specs.declared.NoteRead.the-variants.{Taken}
+use Rattle.notes.specs.declared.Shape.{Shape}
 use Rattle.reader.specs.Reading.{blank, roomOf}
 use Rattle.reader.specs.Answer.{Outcome, readOf, Permitted}
 use Rattle.reader.specs.declared.Answer.{Answer}
 use Rattle.reader.proofs.Unique.{read-one}
-use Rattle.library.specs.Cells.{PermittedCall, PermittedNote}
-use Rattle.library.proofs.Unique.{lumintayag-read-one, lumintayag-read-note-one}
+use Rattle.library.specs.Cells.{PermittedCall, PermittedNote, PermittedConversion}
+use Rattle.library.proofs.Unique.{lumintayag-read-v3-one, lumintayag-read-note-v2-one, lumintayag-convert-note-one}
 use Rattle.replies.specs.Reply.{replyTo, PermittedReply}
 use Rattle.replies.proofs.Unique.{put-reply-one}
 use Rattle.blindness.specs.Readable.{DifferInQty}
@@ -30,13 +32,13 @@ use Rattle.contents.specs.Spelled.{Spells, SpellAlike}
 use Rattle.contents.specs.Legal.{Legal, HasRoom}
 use Rattle.contents.specs.Shown.{Tells, SameButPlaces}
 use Rattle.contents.proofs.Theorems.{accepted-legal, legal-accepted, one-content, nothing-but-places}
-use Rattle.promises.specs.Answers.{fiveTold, atOnce}
+use Rattle.promises.specs.Answers.{noteTold, countIn, atOnce}
 use Rattle.promises.specs.Rows.{ZeroPast, InRoom, Sized}
 use Rattle.guideline.specs.Kinds.{seriesElement}
-use Rattle.promises.specs.Items.{before, starts, kindIn, intervalElement, itemsIn, PlaceOf}
+use Rattle.promises.specs.Items.{before, starts, kindIn, intervalElement, itemsIn, PlaceOf, startTags, endTags, openBefore}
 use Rattle.promises.specs.Examples.{examples, allPass}
 use Rattle.promises.specs.Sheet.{sheet, sheetOutcome, renamedSheet, twiceSheet, twiceAnswer}
-use Rattle.promises.proofs.Answers.{ten-is, ten-only, long-is, long-only, refusal-clears, refusal-known, place-within, place-told, accepted-whole, counts-within, cells-past, rows-kept, counts-told, note-told}
+use Rattle.promises.proofs.Answers.{ten-is, ten-only, long-is, long-only, refusal-clears, refusal-known, place-within, place-told, accepted-whole, counts-within, cells-past, rows-kept, counts-told, note-told, open-told}
 use Rattle.promises.proofs.Faces.{two-calls, two-replies, renamed-runs, renamed-calls, renamed-replies}
 use Rattle.promises.proofs.Examples.{examples-pass, sheet-read, sheet-content, twice-read}
 use Rattle.promises.proofs.Renamings.{sheet-renamed, renamed-read, sheet-twice}
@@ -47,83 +49,88 @@ the-examples = examples-pass
 
 -- "These fakes have to be rejected: a reader that refuses everything or gives one answer for all .., one that does nothing .., one that fills only the
 -- first series and pretends after it .., one that invents counts": a document that is accepted, with two series
-pub a-sheet : readOf sheet 25 4 4 16 ≡ sheetOutcome
+pub a-sheet : readOf sheet 25 4 4 Old 16 ≡ sheetOutcome
 a-sheet = sheet-read
 
-module _ (doc : List ℕ) (ns np na nb : ℕ) where
-  -- a document, and the lengths of the series, position and amount tables and of the note buffer
+module _ (doc : List ℕ) (ns np na : ℕ) (shape : Shape) (nb : ℕ) where
+  -- a document, the lengths of the series, position and amount tables, the shape that the caller picks, and the length of the note buffer
   abbrev pub outcome : Outcome
-  outcome = readOf doc ns np na nb
+  outcome = readOf doc ns np na shape nb
 
   -- "the contract leaves one possible answer and one possible content of every lent buffer, for all inputs and refusals"
   pub one-outcome : {a a′ : Answer} {s s′ p p′ : List ℕ} {m m′ : List ℤ} {n n′ : List ℕ} → Permitted outcome a s p m n → Permitted outcome a′ s′ p′ m′ n′
       → (a ≡ a′) × (s ≡ s′) × (p ≡ p′) × (m ≡ m′) × (n ≡ n′)
-  one-outcome = read-one doc ns np na nb
+  one-outcome = read-one doc ns np na shape nb
 
-  -- the same of `lumintayag_read_v2`, with k cells for the answer's numbers
+  -- the same of `lumintayag_read_v3`, with k cells for the answer's numbers
   pub one-call : (k : ℕ) {r r′ : ℕ} {s s′ p p′ : List ℕ} {m m′ : List ℤ} {n n′ a a′ : List ℕ} → PermittedCall outcome k r s p m n a → PermittedCall outcome k r′ s′ p′ m′ n′ a′
       → (r ≡ r′) × (s ≡ s′) × (p ≡ p′) × (m ≡ m′) × (n ≡ n′) × (a ≡ a′)
-  one-call k = lumintayag-read-one doc ns np na nb k
+  one-call k = lumintayag-read-v3-one doc ns np na shape nb k
 
   -- "On every refusal by the document reader, all cells of the three tables are 0."; "N (0 on every refusal)"
   pub refusal-leaves-nothing : (outcome .answer .refusal ≡ 0 → ⊥) → (outcome .tables ≡ blank ns np na) × (outcome .answer .quarters ≡ 0)
-  refusal-leaves-nothing = refusal-clears doc ns np na nb
+  refusal-leaves-nothing = refusal-clears doc ns np na shape nb
 
   -- "10: the note buffer has fewer than 16 bytes"; "10 is looked at first"; "On 10 the note buffer is all 0."; "the note's length (0 on refusal 10)"
   pub ten-exactly : (outcome .answer .refusal ≡ 10 → nb < 16)
       × (nb < 16 → (outcome .answer ≡ atOnce 10 0) × (outcome .tables ≡ blank ns np na) × (outcome .note ≡ zeros nb))
-  ten-exactly = (ten-only doc ns np na nb, ten-is doc ns np na nb)
+  ten-exactly = (ten-only doc ns np na shape nb, ten-is doc ns np na shape nb)
 
   -- "1: the document is longer than 1,048,576 bytes"; "10 is looked at first, then 1"
-  pub one-exactly : (outcome .answer .refusal ≡ 1 → 1048576 < length doc) × (16 ≤ nb → 1048576 < length doc → outcome .answer ≡ atOnce 1 5)
-  one-exactly = (long-only doc ns np na nb, long-is doc ns np na nb)
+  pub one-exactly : (outcome .answer .refusal ≡ 1 → 1048576 < length doc) × (16 ≤ nb → 1048576 < length doc → outcome .answer ≡ atOnce 1 (countIn shape))
+  one-exactly = (long-only doc ns np na shape nb, long-is doc ns np na shape nb)
 
   -- "No number is given otherwise.": 11 is the note reader's alone
   pub known-number : outcome .answer .refusal ≤ 10
-  known-number = refusal-known doc ns np na nb
+  known-number = refusal-known doc ns np na shape nb
 
   -- "Acceptance is number 0 with place equal to the length."
   pub accepted-at-length : outcome .answer .refusal ≡ 0 → outcome .answer .place ≡ length doc
-  accepted-at-length = accepted-whole doc ns np na nb
+  accepted-at-length = accepted-whole doc ns np na shape nb
 
   -- "item or length"; "The place of an item is the index of its first byte .. at the end of the document it is the length."
   pub place-of-item : (outcome .answer .place ≤ length doc) × (16 ≤ nb → length doc ≤ 1048576 → PlaceOf doc (outcome .answer .place))
-  place-of-item = (place-within doc ns np na nb, place-told doc ns np na nb)
+  place-of-item = (place-within doc ns np na shape nb, place-told doc ns np na shape nb)
 
   -- "Kind is that of a root start standing in an item before the faulty one, else 0. Series and intervals count their start tags in items before the
   -- faulty one. On acceptance they are those of the whole document."
   pub counts-of-start-tags : (outcome .answer .kind ≡ kindIn (before (outcome .answer .place) (itemsIn doc)))
       × (outcome .answer .series ≡ starts (seriesElement (outcome .answer .kind)) (before (outcome .answer .place) (itemsIn doc)))
       × (outcome .answer .intervals ≡ starts intervalElement (before (outcome .answer .place) (itemsIn doc)))
-  counts-of-start-tags = counts-told doc ns np na nb
+  counts-of-start-tags = counts-told doc ns np na shape nb
 
   -- "Two document kinds"; and no count is longer than the document
   pub counts-in-document : (outcome .answer .kind ≤ 2) × (outcome .answer .series ≤ length doc) × (outcome .answer .intervals ≤ length doc)
-  counts-in-document = counts-within doc ns np na nb
+  counts-in-document = counts-within doc ns np na shape nb
 
-  -- "The note is five numbers: refusal, place, kind, series, intervals."; it is in the buffer, "and the bytes after it are 0"; read back, it gives the
-  -- five numbers
+  -- "The note is five numbers: refusal, place, kind, series, intervals."; "A new note begins with the number 100, then the old five, then the count of elements open
+  -- before the faulty item": start tags less end tags among the items before the place; it is in the buffer, "and the bytes after it are 0"; read back, it gives its numbers
   pub note-of-answer : 16 ≤ nb
-      → (outcome .answer .note ≡ length (noteOf (fiveTold (outcome .answer))))
-      × (outcome .answer .note ≤ 15)
-      × (outcome .note ≡ padded nb (noteOf (fiveTold (outcome .answer))))
-      × (noteIn (take (outcome .answer .note) (outcome .note)) ≡ Taken (fiveTold (outcome .answer)))
-  note-of-answer = note-told doc ns np na nb
+      → (outcome .answer .note ≡ length (noteOf shape (noteTold (outcome .answer) (openBefore doc (outcome .answer .place)))))
+      × (outcome .answer .note ≤ 16)
+      × (outcome .note ≡ padded nb (noteOf shape (noteTold (outcome .answer) (openBefore doc (outcome .answer .place)))))
+      × (noteIn (take (outcome .answer .note) (outcome .note)) ≡ Taken (tellsIn shape (noteTold (outcome .answer) (openBefore doc (outcome .answer .place)))))
+  note-of-answer = note-told doc ns np na shape nb
+
+  -- no more end tags than start tags stand before the place, so that the one less the other is a count; "on acceptance 0"
+  pub depth-of-open-elements : (endTags (before (outcome .answer .place) (itemsIn doc)) ≤ startTags (before (outcome .answer .place) (itemsIn doc)))
+      × (outcome .answer .refusal ≡ 0 → openBefore doc (outcome .answer .place) ≡ 0)
+  depth-of-open-elements = open-told doc ns np na shape nb
 
   -- "Room for series is the table length divided by 8, rounded down. .. room is the shorter length.": every row that is counted has its cells
   pub rows-have-room : InRoom ns np na (outcome .answer .series) (outcome .answer .intervals) × Sized ns np na (outcome .tables)
-  rows-have-room = rows-kept doc ns np na nb
+  rows-have-room = rows-kept doc ns np na shape nb
 
   -- "Cells past the last row are 0."
   pub zero-past-rows : ZeroPast (outcome .answer .series) (outcome .answer .intervals) (outcome .tables)
-  zero-past-rows = cells-past doc ns np na nb
+  zero-past-rows = cells-past doc ns np na shape nb
 
   -- "A document is accepted exactly when it meets every rule of the format descriptions": where the note buffer and the document's length keep to 01's limits, it is
   -- accepted exactly when it spells a legal content for which the tables have room; and then answer and tables are those of the content
   pub accepted-exactly : 16 ≤ nb → length doc ≤ 1048576
       → (outcome .answer .refusal ≡ 0 → (kind : ℕ) × (c : Trees TagSaid) × Spells doc kind c × Legal kind c × HasRoom (roomOf ns np na) kind c)
       × ((kind : ℕ) (c : Trees TagSaid) → Spells doc kind c → Legal kind c → HasRoom (roomOf ns np na) kind c → Tells doc outcome kind c)
-  accepted-exactly wide small = (accepted-legal doc ns np na nb wide small, legal-accepted doc ns np na nb wide small)
+  accepted-exactly wide small = (accepted-legal doc ns np na shape nb wide small, legal-accepted doc ns np na shape nb wide small)
 
 -- and there is one: the content of the sheet above
 pub a-content : (kind : ℕ) × (c : Trees TagSaid) × Spells sheet kind c × Legal kind c × HasRoom (roomOf 25 4 4) kind c
@@ -135,26 +142,30 @@ pub content-alone : (doc : List ℕ) (kind other : ℕ) (c d : Trees TagSaid) �
 content-alone = one-content
 
 -- white text, comments, quotes, the order of attributes and the choice between an empty tag and a start with an end change nothing but places
-pub places-alone : (x y : List ℕ) (ns np na nb : ℕ) → 16 ≤ nb → length x ≤ 1048576 → length y ≤ 1048576 → SpellAlike x y
-    → readOf x ns np na nb .answer .refusal ≡ 0 → SameButPlaces x (readOf x ns np na nb) y (readOf y ns np na nb)
+pub places-alone : (x y : List ℕ) (ns np na : ℕ) (shape : Shape) (nb : ℕ) → 16 ≤ nb → length x ≤ 1048576 → length y ≤ 1048576 → SpellAlike x y
+    → readOf x ns np na shape nb .answer .refusal ≡ 0 → SameButPlaces x (readOf x ns np na shape nb) y (readOf y ns np na shape nb)
 places-alone = nothing-but-places
 
 -- "Two documents of equal length that differ only in digits of readable Qty values get the same answer, place, counts and note, and the same cells but for
--- the amounts of accepted intervals whose own digits differ." Of two runs of the code
-pub amounts-alone : (x y : List ℕ) (ns np na nb : ℕ) → DifferInQty x y → {a a′ : Answer} {s s′ p p′ : List ℕ} {m m′ : List ℤ} {n n′ : List ℕ}
-    → Permitted (readOf x ns np na nb) a s p m n → Permitted (readOf y ns np na nb) a′ s′ p′ m′ n′
-    → (a ≡ a′) × (n ≡ n′) × (s ≡ s′) × (p ≡ p′) × ((k : ℕ) → (getD m k (pos 0) ≡ getD m′ k (pos 0)) ⊎ OwnDigitsDiffer ns np na nb x y k)
+-- the amounts of accepted intervals whose own digits differ."; "Demand 3 covers the new note, with the same shape picked for both documents." Of two runs of the code
+pub amounts-alone : (x y : List ℕ) (ns np na : ℕ) (shape : Shape) (nb : ℕ) → DifferInQty x y → {a a′ : Answer} {s s′ p p′ : List ℕ} {m m′ : List ℤ} {n n′ : List ℕ}
+    → Permitted (readOf x ns np na shape nb) a s p m n → Permitted (readOf y ns np na shape nb) a′ s′ p′ m′ n′
+    → (a ≡ a′) × (n ≡ n′) × (s ≡ s′) × (p ≡ p′) × ((k : ℕ) → (getD m k (pos 0) ≡ getD m′ k (pos 0)) ⊎ OwnDigitsDiffer ns np na shape nb x y k)
 amounts-alone = two-runs
 
--- the same of `lumintayag_read_v2`
-pub amounts-alone-called : (x y : List ℕ) → DifferInQty x y → (ns np na nb k : ℕ) {r r′ : ℕ} {s s′ p p′ : List ℕ} {m m′ : List ℤ} {n n′ a a′ : List ℕ}
-    → PermittedCall (readOf x ns np na nb) k r s p m n a → PermittedCall (readOf y ns np na nb) k r′ s′ p′ m′ n′ a′
-    → (r ≡ r′) × (a ≡ a′) × (n ≡ n′) × (s ≡ s′) × (p ≡ p′) × ((j : ℕ) → (getD m j (pos 0) ≡ getD m′ j (pos 0)) ⊎ OwnDigitsDiffer ns np na nb x y j)
+-- the same of `lumintayag_read_v3`
+pub amounts-alone-called : (x y : List ℕ) → DifferInQty x y → (ns np na : ℕ) (shape : Shape) (nb k : ℕ) {r r′ : ℕ} {s s′ p p′ : List ℕ} {m m′ : List ℤ} {n n′ a a′ : List ℕ}
+    → PermittedCall (readOf x ns np na shape nb) k r s p m n a → PermittedCall (readOf y ns np na shape nb) k r′ s′ p′ m′ n′ a′
+    → (r ≡ r′) × (a ≡ a′) × (n ≡ n′) × (s ≡ s′) × (p ≡ p′) × ((j : ℕ) → (getD m j (pos 0) ≡ getD m′ j (pos 0)) ⊎ OwnDigitsDiffer ns np na shape nb x y j)
 amounts-alone-called = two-calls
 
--- the note reader and the program have one outcome too
+-- the note reader, the converter and the program have one outcome too
 pub one-note-call : (note : List ℕ) (k : ℕ) {r r′ : ℕ} {f f′ : List ℕ} → PermittedNote (noteIn note) k r f → PermittedNote (noteIn note) k r′ f′ → (r ≡ r′) × (f ≡ f′)
-one-note-call = lumintayag-read-note-one
+one-note-call = lumintayag-read-note-v2-one
+
+pub one-conversion : (note : List ℕ) (shape : Shape) (room k : ℕ) {r r′ : ℕ} {o o′ a a′ : List ℕ}
+    → PermittedConversion note shape room k r o a → PermittedConversion note shape room k r′ o′ a′ → (r ≡ r′) × (o ≡ o′) × (a ≡ a′)
+one-conversion = lumintayag-convert-note-one
 
 pub one-reply : (input out : List ℕ) {r r′ : ℕ} {b b′ : List ℕ} → PermittedReply (replyTo input) out r b → PermittedReply (replyTo input) out r′ b′ → (r ≡ r′) × (b ≡ b′)
 one-reply = put-reply-one
@@ -167,14 +178,14 @@ replies-alone = two-replies
 -- 02: "Replace only the TimeSeriesIdentification values in tags before the first unreadable item, by a one-to-one rule over those in the document, each with the
 -- same number of bytes and characters, with values that before and after are legal XML characters in UTF-8 and hold no `&`, `<`, quote or control byte. Then
 -- number, place, note and all tables are the same." Of two runs of the code
-pub identifications-alone : (x y : List ℕ) → Renamed x y → (ns np na nb : ℕ) {a a′ : Answer} {s s′ p p′ : List ℕ} {m m′ : List ℤ} {n n′ : List ℕ}
-    → Permitted (readOf x ns np na nb) a s p m n → Permitted (readOf y ns np na nb) a′ s′ p′ m′ n′
+pub identifications-alone : (x y : List ℕ) → Renamed x y → (ns np na : ℕ) (shape : Shape) (nb : ℕ) {a a′ : Answer} {s s′ p p′ : List ℕ} {m m′ : List ℤ} {n n′ : List ℕ}
+    → Permitted (readOf x ns np na shape nb) a s p m n → Permitted (readOf y ns np na shape nb) a′ s′ p′ m′ n′
     → (a ≡ a′) × (s ≡ s′) × (p ≡ p′) × (m ≡ m′) × (n ≡ n′)
 identifications-alone = renamed-runs
 
--- the same of `lumintayag_read_v2`
-pub identifications-alone-called : (x y : List ℕ) → Renamed x y → (ns np na nb k : ℕ) {r r′ : ℕ} {s s′ p p′ : List ℕ} {m m′ : List ℤ} {n n′ a a′ : List ℕ}
-    → PermittedCall (readOf x ns np na nb) k r s p m n a → PermittedCall (readOf y ns np na nb) k r′ s′ p′ m′ n′ a′
+-- the same of `lumintayag_read_v3`
+pub identifications-alone-called : (x y : List ℕ) → Renamed x y → (ns np na : ℕ) (shape : Shape) (nb k : ℕ) {r r′ : ℕ} {s s′ p p′ : List ℕ} {m m′ : List ℤ} {n n′ a a′ : List ℕ}
+    → PermittedCall (readOf x ns np na shape nb) k r s p m n a → PermittedCall (readOf y ns np na shape nb) k r′ s′ p′ m′ n′ a′
     → (r ≡ r′) × (s ≡ s′) × (p ≡ p′) × (m ≡ m′) × (n ≡ n′) × (a ≡ a′)
 identifications-alone-called = renamed-calls
 
@@ -184,9 +195,9 @@ pub identifications-alone-printed : (x y : List ℕ) → Renamed x y → (out : 
 identifications-alone-printed = renamed-replies
 
 -- a pair of which that is promised: two series, both sheets accepted
-pub a-renamed-sheet : Renamed sheet renamedSheet × (readOf renamedSheet 25 4 4 16 ≡ sheetOutcome)
+pub a-renamed-sheet : Renamed sheet renamedSheet × (readOf renamedSheet 25 4 4 Old 16 ≡ sheetOutcome)
 a-renamed-sheet = (sheet-renamed, renamed-read)
 
 -- "by a one-to-one rule": of a pair that meets all but that the second sheet is refused with 9
-pub one-to-one-needed : IdsReplaced sheet twiceSheet × (readOf twiceSheet 25 4 4 16 .answer ≡ twiceAnswer)
+pub one-to-one-needed : IdsReplaced sheet twiceSheet × (readOf twiceSheet 25 4 4 Old 16 .answer ≡ twiceAnswer)
 one-to-one-needed = (sheet-twice, twice-read)

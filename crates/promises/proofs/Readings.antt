@@ -19,6 +19,7 @@ use Rattle.prolog.specs.declared.Begin.{Begin}
 use Rattle.prolog.specs.declared.Begin.the-variants.{From, Misdeclared}
 use Rattle.prolog.proofs.Promises.{refused-at}
 use Rattle.structure.specs.Rows.{overOf}
+use Rattle.structure.proofs.Depths.{depth-le}
 use Rattle.guideline.specs.Rows.{rowsOf}
 use Rattle.states.specs.Moves.{begun, step}
 use Rattle.states.specs.declared.State.{State}
@@ -55,6 +56,8 @@ module _ (doc : List ℕ) (room : Room) (ns np na : ℕ) where
     pub places : o .found .place ≤ length doc
     pub accepted : o .found .refusal ≡ 0 → o .found .place ≡ length doc
     pub quarters : (o .found .refusal ≡ 0 → ⊥) → o .found .quarters ≡ 0
+    pub depths : o .found .depth ≤ 16
+    pub shut : o .found .refusal ≡ 0 → o .found .depth ≡ 0
     pub kinds : o .found .kind ≤ 2
     pub series : o .found .series ≤ length doc
     pub intervals : o .found .intervals ≤ length doc
@@ -82,6 +85,8 @@ module _ (doc : List ℕ) (room : Room) (ns np na : ℕ) where
           places = l;
           accepted = λ e. absurd (f e);
           quarters = λ _. refl;
+          depths = depth-le (rowsOf (st .kind)) (st .row) (st .inside);
+          shut = λ e. absurd (f e);
           kinds = h .sound .kinds;
           series = omega (arith, h .series);
           intervals = omega (arith, h .intervals);
@@ -100,6 +105,8 @@ module _ (doc : List ℕ) (room : Room) (ns np na : ℕ) where
           places = le-refl (length doc);
           accepted = λ _. refl;
           quarters = λ f. absurd (f refl);
+          depths = omega arith;
+          shut = λ _. refl;
           kinds = h .sound .kinds;
           series = omega (arith, h .series);
           intervals = omega (arith, h .intervals);
@@ -224,6 +231,8 @@ module _ (doc : List ℕ) (ns np na : ℕ) where
         places = omega arith;
         accepted = λ e. absurd (omega arith);
         quarters = λ _. refl;
+        depths = depth-le (rowsOf 0) 0 true;
+        shut = λ e. absurd (omega arith);
         kinds = omega arith;
         series = omega arith;
         intervals = omega arith;
@@ -243,6 +252,8 @@ module _ (doc : List ℕ) (ns np na : ℕ) where
         places = f .places;
         accepted = f .accepted;
         quarters = f .quarters;
+        depths = f .depths;
+        shut = f .shut;
         kinds = f .kinds;
         series = f .series;
         intervals = f .intervals;

@@ -19,6 +19,7 @@ use Rattle.characters.specs.Utf8.{seqLen, control, single, charAt}
 use Rattle.characters.specs.Says.{charNext, charsOver, allChars, saidBy, saidAt, saysAfter, says}
 use Rattle.attributes.specs.Attribute.{quote}
 use Rattle.reader.specs.Rows.{quoted}
+use Rattle.notes.specs.declared.Shape.the-variants.{Old}
 use Rattle.reader.specs.Answer.{readOf}
 use Rattle.digits.specs.Items.{InSpan}
 use Rattle.digits.specs.Identifications.{idByte, PutFor}
@@ -129,8 +130,8 @@ sheet-renamed =
     (λ e. let z = other-last 0x58 0x58 0x59 e in omega (arith, z))
 
 -- so it is accepted as the sheet is
-pub renamed-read : readOf renamedSheet 25 4 4 16 ≡ sheetOutcome
-renamed-read = sym (renamed-same sheet renamedSheet sheet-renamed 25 4 4 16) ∙ sheet-read
+pub renamed-read : readOf renamedSheet 25 4 4 Old 16 ≡ sheetOutcome
+renamed-read = sym (renamed-same sheet renamedSheet sheet-renamed 25 4 4 Old 16) ∙ sheet-read
 
 pub sheet-twice : IdsReplaced sheet twiceSheet
 unfolding alongside inOne quoted partOf

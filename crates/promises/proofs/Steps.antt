@@ -101,10 +101,11 @@ more-some : (n : ℕ) → 1 ≤ oneMore n
 unfolding oneMore
 more-some n = ⊎-elim (λ y. rw (y .1) (omega arith)) (λ y. rw (y .1) (omega (arith, y .0))) (ltb-cases n 4294967295)
 
--- what is kept of an item leaves kind and row alone
+-- what is kept of an item leaves kind and row alone, and whether that is open
 pub record Keeps (x y : State) : Type 0 where
   pub kind : y .kind ≡ x .kind
   pub row : y .row ≡ x .row
+  pub inside : y .inside ≡ x .inside
   pub counts : Counts x y
 
 pub kept-keeps : (x : State) (w : ℕ) (j : Judged) → Keeps x (kept x w j)
@@ -114,21 +115,23 @@ kept-keeps x w j =
     (record {
       kind = refl;
       row = refl;
+      inside = refl;
       counts = record { series-up = more-up (x .series); series-one = more-one (x .series); intervals-up = omega arith; intervals-one = omega arith };
     })
-    (by-cond (Keeps x) (eqb (roleOf w) 3) (record { kind = refl; row = refl; counts = same-counts x (lastPos x 0) refl refl })
+    (by-cond (Keeps x) (eqb (roleOf w) 3) (record { kind = refl; row = refl; inside = refl; counts = same-counts x (lastPos x 0) refl refl })
     (by-cond (Keeps x) (eqb (roleOf w) 4)
     (record {
       kind = refl;
       row = refl;
+      inside = refl;
       counts =
           record { series-up = omega arith; series-one = omega arith; intervals-up = more-up (x .intervals); intervals-one = more-one (x .intervals) };
     })
-    (by-cond (Keeps x) (eqb (roleOf w) 5) (record { kind = refl; row = refl; counts = same-counts x (oneOriginal x) refl refl })
-    (by-cond (Keeps x) (eqb (roleOf w) 9) (record { kind = refl; row = refl; counts = same-counts x (lastPos x (j .first)) refl refl })
+    (by-cond (Keeps x) (eqb (roleOf w) 5) (record { kind = refl; row = refl; inside = refl; counts = same-counts x (oneOriginal x) refl refl })
+    (by-cond (Keeps x) (eqb (roleOf w) 9) (record { kind = refl; row = refl; inside = refl; counts = same-counts x (lastPos x (j .first)) refl refl })
     (by-cond (Keeps x) (eqb (formOf w) 6)
-    (record { kind = refl; row = refl; counts = same-counts x (covering x (j .first) (j .second)) refl refl })
-    (record { kind = refl; row = refl; counts = same-counts x x refl refl }))))))
+    (record { kind = refl; row = refl; inside = refl; counts = same-counts x (covering x (j .first) (j .second)) refl refl })
+    (record { kind = refl; row = refl; inside = refl; counts = same-counts x x refl refl }))))))
 
 pub by-eqb : {A : Type 0} (P : A → Type 0) (a b : ℕ) {u v : A} → (a ≡ b → P u) → P v → P (cond (eqb a b) u v)
 by-eqb P a b f g = ⊎-elim (λ y. rw (y .1) (f (y .0))) (λ y. rw (y .1) g) (eqb-cases a b)

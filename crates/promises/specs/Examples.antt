@@ -1,4 +1,4 @@
--- "P1 to P12 form a single table with a single proved statement": the table, with the case that K1 of the requests tells. `examples-pass` of proofs/Examples.antt is the statement.
+-- "P1 to P12 form a single table with a single proved statement": the table, with the cases that K1 and K9 of the requests tell. `examples-pass` of proofs/Examples.antt is the statement.
 use Prim.Native.Nat.{ℕ}
 use mathlib.Core.List.{List, [], _∷_}
 use mathlib.Core.Bool.{Bool, true, false, cond, _&&_}
@@ -17,11 +17,14 @@ use Rattle.rules.specs.Rules.{formRefusal, judgePeriod}
 use Rattle.rules.specs.declared.Judged.{Judged}
 use Rattle.states.specs.Moves.{countRefusal}
 use Rattle.series.specs.Row.{cellsOf}
+use Rattle.notes.specs.declared.Shape.the-variants.{Old, New}
 use Rattle.reader.specs.Answer.{Outcome, readOf}
 
 pub data Example : Type 0 where
   -- a document: the refusal, its place, and the note
   document : List ℕ → ℕ → ℕ → List ℕ → Example
+  -- a document, and the note of it in the new shape
+  newNoteOf : List ℕ → List ℕ → Example
   -- an amount in thousandths; a text that is none
   amount : List ℕ → ℤ → Example
   noAmount : List ℕ → Example
@@ -40,6 +43,9 @@ examples =
     document (text "<Kostenblatt/>") 3 0 (0x03 ∷ 0x00 ∷ 0x00 ∷ 0x00 ∷ 0x00 ∷ []) ∷
     document (text "<Kostenblatt DtdBDEWNachrichtenVersion=\"1.0\">") 3 45 (0x03 ∷ 0x2D ∷ 0x02 ∷ 0x00 ∷ 0x00 ∷ []) ∷
     document (text "<Kostenblatt DtdBDEWNachrichtenVersion=\"1.1\">") 6 0 (0x06 ∷ 0x00 ∷ 0x00 ∷ 0x00 ∷ 0x00 ∷ []) ∷
+    -- P1 and P4 in the new shape of K9: nothing is open in the one, the root in the other
+    newNoteOf [] (0x64 ∷ 0x03 ∷ 0x00 ∷ 0x00 ∷ 0x00 ∷ 0x00 ∷ 0x00 ∷ []) ∷
+    newNoteOf (text "<Kostenblatt DtdBDEWNachrichtenVersion=\"1.0\">") (0x64 ∷ 0x03 ∷ 0x2D ∷ 0x02 ∷ 0x00 ∷ 0x00 ∷ 0x01 ∷ []) ∷
     -- P6, P7, P8
     amount (text "-0") (pos 0) ∷
     amount (text "-0.001") (negsuc 0) ∷
@@ -81,17 +87,19 @@ abbrev pub isNone : Amount → Bool
 isNone (Thousandths a) = false
 isNone NotAmount = true
 
+abbrev pub hasNote : Outcome → List ℕ → Bool
+hasNote o note = eqb (o .answer .note) (length note) && same (o .note) (padded 16 note)
+
 abbrev pub hasOutcome : Outcome → ℕ → ℕ → List ℕ → Bool
-hasOutcome o refusal place note =
-    eqb (o .answer .refusal) refusal && (eqb (o .answer .place) place
-    && (eqb (o .answer .note) (length note) && same (o .note) (padded 16 note)))
+hasOutcome o refusal place note = eqb (o .answer .refusal) refusal && (eqb (o .answer .place) place && hasNote o note)
 
 abbrev pub hasPeriod : Judged → ℕ → ℕ → Bool
 hasPeriod j refusal n = eqb (j .number) refusal && eqb (quarterHours (j .first) (j .second)) n
 
 -- Documents are read with room for 64 series and 2,048 intervals, and a note buffer of 16 bytes.
 abbrev pub passes : Example → Bool
-passes (document doc refusal place note) = hasOutcome (readOf doc (cellsOf 64) 2048 2048 16) refusal place note
+passes (document doc refusal place note) = hasOutcome (readOf doc (cellsOf 64) 2048 2048 Old 16) refusal place note
+passes (newNoteOf doc note) = hasNote (readOf doc (cellsOf 64) 2048 2048 New 16) note
 passes (amount cs z) = isAmount (amountOf cs) z
 passes (noAmount cs) = isNone (amountOf cs)
 passes (moment cs refusal) = eqb (formRefusal dateTimeForm cs) refusal

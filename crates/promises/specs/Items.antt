@@ -1,5 +1,5 @@
 -- What the items of a document say of an answer's place and counts.
-use Prim.Native.Nat.{ℕ, suc}
+use Prim.Native.Nat.{ℕ, suc, _+_, _-_}
 use mathlib.Core.Path.{_≡_}
 use mathlib.Core.List.{List, [], _∷_}
 use mathlib.Core.Logic.{_⊎_}
@@ -60,3 +60,32 @@ kindIn (x ∷ xs) = let rest = kindIn xs in cond (eqb (kindOf (startedIn (x .ite
 
 unfoldable pub intervalElement : ℕ
 intervalElement = elementNo (text "Interval")
+
+-- how many elements an item starts, and how many it ends: "An empty tag is a start and an end in one item."
+unfoldable pub opensIn : Item → ℕ
+opensIn (Start t) = 1
+opensIn (Empty t) = 1
+opensIn (End n e) = 0
+opensIn (Text white e) = 0
+opensIn (Comment e) = 0
+opensIn (Unreadable p) = 0
+
+unfoldable pub shutsIn : Item → ℕ
+shutsIn (Start t) = 0
+shutsIn (Empty t) = 1
+shutsIn (End n e) = 1
+shutsIn (Text white e) = 0
+shutsIn (Comment e) = 0
+shutsIn (Unreadable p) = 0
+
+unfoldable pub startTags : List Placed → ℕ
+startTags [] = 0
+startTags (x ∷ xs) = opensIn (x .item) + startTags xs
+
+unfoldable pub endTags : List Placed → ℕ
+endTags [] = 0
+endTags (x ∷ xs) = shutsIn (x .item) + endTags xs
+
+-- "the count of elements open before the faulty item": start tags less end tags, among the items before its place
+unfoldable pub openBefore : List ℕ → ℕ → ℕ
+openBefore doc place = startTags (before place (itemsIn doc)) - endTags (before place (itemsIn doc))

@@ -14,7 +14,7 @@ use Rattle.items.specs.Item.{item, itemEnd}
 use Rattle.items.specs.declared.Item.{Item}
 use Rattle.items.specs.declared.Item.the-variants.{Start, Empty, End, Text, Comment, Unreadable}
 use Rattle.items.proofs.Promises.{Placed as At, item-placed}
-use Rattle.guideline.specs.Rows.{everyRow, rowsIn}
+use Rattle.guideline.specs.Rows.{everyRow, rowsIn, rowsOf}
 use Rattle.guideline.proofs.Each.{rows-in}
 use Rattle.states.specs.Moves.{begun, stepBy, step, moved}
 use Rattle.states.proofs.Acts.{step-rows}
@@ -98,6 +98,9 @@ still st (Unreadable p) w s room = never w
 
 module _ {doc : List ℕ} {from : ℕ} {t : Tables} {rows : List ℕ} {room : Room} {ser pos : List ℕ} {ams : List ℤ} {st : State} {at : ℕ}
     (r : Ran doc from t rows room ser pos ams st at) where
+  pub ran-rows : {l : List ℕ} → l ≡ rowsIn rows (st .kind) → l ≡ rowsOf (st .kind)
+  ran-rows e = e ∙ rw (r .all) (rows-in (st .kind))
+
   pub ran-end : length doc ≤ at → {f : Found} → f ≡ endedAt (rowsIn rows (st .kind)) (length doc) st → out f ser pos ams ≡ itemsRead doc from t
   unfolding readItems
   ran-end h e = rw (e, r .all, rows-in (st .kind)) (sym (ap (λ (xs : List Placed). readItems doc (roomIn t) xs st (tab ser pos ams)) (items-over doc at h)) ∙ r .left)

@@ -8,6 +8,7 @@ use borrow.Author.Needs.{needs}
 use borrow.Author.Tests.{lt-ltb, le-ltb, eq-eqb, ne-eqb}
 use Rattle.lists.specs.Zeros.{zeros}
 use Rattle.notes.specs.Note.{noteOf, left}
+use Rattle.notes.specs.declared.Shape.{Shape}
 use Rattle.prolog.specs.Prolog.{begin}
 use Rattle.prolog.specs.declared.Begin.the-variants.{From, Misdeclared}
 use Rattle.states.specs.Moves.{begun}
@@ -47,25 +48,25 @@ module _ (doc : List ℕ) (ns np na : ℕ) {u : Tables} (q : u ≡ blank ns np n
 pub blank-same : {ns np na ns′ np′ na′ : ℕ} → ns ≡ ns′ → np ≡ np′ → na ≡ na′ → blank ns np na ≡ blank ns′ np′ na′
 blank-same a b c = rw (a, b, c) refl
 
--- and the note of it into a buffer of nb bytes
-module _ (doc : List ℕ) (ns np na nb : ℕ) where
-  pub read-unnoted : nb < 16 → unnoted ns np na nb ≡ readOf doc ns np na nb
+-- and the note of it, in this shape, into a buffer of nb bytes
+module _ (doc : List ℕ) (ns np na : ℕ) (shape : Shape) (nb : ℕ) where
+  pub read-unnoted : nb < 16 → unnoted ns np na nb ≡ readOf doc ns np na shape nb
   unfolding readOf
   read-unnoted h = rw (lt-ltb _ _ h) refl
 
-  pub read-noted : 16 ≤ nb → noted nb (readSheet doc ns np na) ≡ readOf doc ns np na nb
+  pub read-noted : 16 ≤ nb → noted shape nb (readSheet doc ns np na) ≡ readOf doc ns np na shape nb
   unfolding readOf
   read-noted h = rw (le-ltb _ _ h) refl
 
   -- what is answered, and left in the four buffers
   module _ {a : Answer} {n : List ℕ} where
     pub read-ten : nb < 16 → a ≡ answerOf (refusedAt 10 0 begun) 0 → {u : Tables} → u ≡ blank ns np na → n ≡ zeros nb
-        → record { answer = a; tables = u; note = n } ≡ readOf doc ns np na nb
+        → record { answer = a; tables = u; note = n } ≡ readOf doc ns np na shape nb
     unfolding unnoted
     read-ten h ea eu en = rw (ea, eu, en) (read-unnoted h)
 
-    pub read-told : 16 ≤ nb → {o : Out} → o ≡ readSheet doc ns np na → a ≡ told nb (o .found) → n ≡ left (noteOf (noteFor (o .found))) nb
-        → record { answer = a; tables = o .tables; note = n } ≡ readOf doc ns np na nb
+    pub read-told : 16 ≤ nb → {o : Out} → o ≡ readSheet doc ns np na → a ≡ told shape nb (o .found) → n ≡ left (noteOf shape (noteFor (o .found))) nb
+        → record { answer = a; tables = o .tables; note = n } ≡ readOf doc ns np na shape nb
     unfolding noted
     read-told h e ea en = rw (ea, en, e) (read-noted h)
 

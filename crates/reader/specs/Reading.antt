@@ -14,6 +14,7 @@ use Rattle.prolog.specs.declared.Begin.the-variants.{From, Misdeclared}
 use Rattle.tables.specs.Cells.{noAmounts}
 use Rattle.series.specs.Row.{roomFor}
 use Rattle.structure.specs.Rows.{overOf}
+use Rattle.structure.specs.Depth.{depthOf}
 use Rattle.guideline.specs.Rows.{rowsOf}
 use Rattle.states.specs.Moves.{begun, step}
 use Rattle.states.specs.declared.State.{State}
@@ -46,15 +47,23 @@ unfoldable pub roomOf : ℕ → ℕ → ℕ → Room
 roomOf ns np na = cond (leb np na) (record { series = roomFor ns; intervals = np }) (record { series = roomFor ns; intervals = na })
 
 -- "Kind is that of a root start standing in an item before the faulty one, else 0. Series and intervals count their start tags in items before
--- the faulty one."; "N (0 on every refusal)"
+-- the faulty one."; "the count of elements open before the faulty item"; "N (0 on every refusal)"
 unfoldable pub refusedAt : ℕ → ℕ → State → Found
 refusedAt n place st =
-    record { refusal = n; place = place; kind = st .kind; series = st .series; intervals = st .intervals; quarters = 0 }
+    record {
+      refusal = n;
+      place = place;
+      kind = st .kind;
+      series = st .series;
+      intervals = st .intervals;
+      depth = depthOf (rowsOf (st .kind)) (st .row) (st .inside);
+      quarters = 0;
+    }
 
--- "Acceptance is number 0 with place equal to the length."; "On acceptance they are those of the whole document."
+-- "Acceptance is number 0 with place equal to the length."; "On acceptance they are those of the whole document."; the depth, "on acceptance 0"
 unfoldable pub acceptedAt : ℕ → State → Found
 acceptedAt place st =
-    record { refusal = 0; place = place; kind = st .kind; series = st .series; intervals = st .intervals; quarters = st .quarters }
+    record { refusal = 0; place = place; kind = st .kind; series = st .series; intervals = st .intervals; depth = 0; quarters = st .quarters }
 
 -- "Missing elements show .. at the end of the document.": 3 at the length, by the rows of the kind
 unfoldable pub endedAt : List ℕ → ℕ → State → Found

@@ -11,6 +11,7 @@ use items::span_of;
 use lists::clear_bytes;
 use notes::Note;
 use notes::Put;
+use notes::Shape;
 use notes::write_note;
 use prolog::Begin;
 use prolog::first_item;
@@ -22,6 +23,7 @@ use slices::rest;
 use states::Room;
 use states::State;
 use states::Step;
+use structure::depth_after;
 use structure::is_over;
 use tables::clear_amounts;
 use tables::clear_numbers;
@@ -30,18 +32,20 @@ ghost use Prim.Native.Nat.{_≤_};
 ghost use lib.ListN.{length};
 ghost use Rattle.items.specs.Item.{itemEnd};
 ghost use Rattle.notes.specs.Note.{noteOf, left};
-ghost use Rattle.states.specs.Moves.{stepBy};
+ghost use Rattle.guideline.specs.Rows.{rowsOf};
+ghost use Rattle.states.specs.Moves.{begun, stepBy};
 ghost use Rattle.items.specs.Parts.{passed};
 ghost use Rattle.reader.specs.Reading.{tab, blankAs, roomOf, refusedAt, acceptedAt, endedAt, withoutUsed, out, itemsRead, readInto, sheetInto};
 ghost use Rattle.reader.specs.Answer.{noteFor, told, outcomeOf, Permitted};
 
-// What the items of a document come to. `quarters` is N.
+// What the items of a document come to. `quarters` is N, `depth` "the count of elements open before the faulty item".
 struct Found {
     refusal: u32,
     place: u32,
     kind: u32,
     series: u32,
     intervals: u32,
+    depth: u32,
     quarters: u32,
 }
 
@@ -72,15 +76,34 @@ fn room_of(ns: usize, np: usize, na: usize) -> Room
     }
 }
 
-fn refused_at(n: u32, place: u32, st: State) -> Found
+// `rows` are the rows of the kind. The depth is asked for here alone, so that no item costs more for it.
+fn refused_at(n: u32, place: u32, st: State, rows: &[usize]) -> Found
+    requires { ⌜ now rows ≡ rowsOf (st .kind) ⌝ }
     ensures { λ r. ⌜ r ≡ refusedAt n place st ⌝ }
 {
+    let depth = depth_after(rows, st.row, st.inside);
     Found {
         refusal: n,
         place,
         kind: st.kind,
         series: st.series,
         intervals: st.intervals,
+        depth,
+        quarters: 0,
+    }
+}
+
+// Before the first item nothing is counted and nothing is open.
+fn refused_first(refusal: u32, place: u32) -> Found
+    ensures { λ r. ⌜ r ≡ refusedAt refusal place begun ⌝ }
+{
+    Found {
+        refusal,
+        place,
+        kind: 0,
+        series: 0,
+        intervals: 0,
+        depth: 0,
         quarters: 0,
     }
 }
@@ -94,18 +117,20 @@ fn accepted_at(place: u32, st: State) -> Found
         kind: st.kind,
         series: st.series,
         intervals: st.intervals,
+        depth: 0,
         quarters: st.quarters,
     }
 }
 
 // At the end of the document. `rows` are the rows of the kind.
 fn ended_at(place: u32, st: State, rows: &[usize]) -> Found
+    requires { ⌜ now rows ≡ rowsOf (st .kind) ⌝ }
     ensures { λ r. ⌜ r ≡ endedAt (now (rows .entry)) place st ⌝ }
 {
     if is_over(rows, st.row, st.inside) {
         return accepted_at(place, st);
     }
-    refused_at(3, place, st)
+    refused_at(3, place, st, rows)
 }
 
 fn clear_tables(series: &mut [u32], positions: &mut [u32], amounts: &mut [i64])
@@ -160,7 +185,7 @@ fn read_items(
         let s = rest(doc, at);
         let item = item_at(at, s);
         if let Item::Unreadable(p) = item {
-            return refused_at(2, p as u32, st);
+            return refused_at(2, p as u32, st, rows_of(&rows, st.kind));
         }
         if is_passed(item) {
             at += item_len(item);
@@ -171,7 +196,7 @@ fn read_items(
                 enter(series, positions, amounts, at, item, s, next, entry);
                 st = next;
             }
-            Step::Refused(n) => return refused_at(n, at as u32, st),
+            Step::Refused(n) => return refused_at(n, at as u32, st, rows_of(&rows, st.kind)),
         }
         at += item_len(item);
     }
@@ -186,7 +211,7 @@ fn read_all(doc: &[u8], series: &mut [u32], positions: &mut [u32], amounts: &mut
 {
     match first_item(doc) {
         Begin::From(n) => read_items(doc, n, series, positions, amounts),
-        Begin::Misdeclared(p) => refused_at(2, p as u32, State::begin()),
+        Begin::Misdeclared(p) => refused_first(2, p as u32),
     }
 }
 
@@ -197,7 +222,7 @@ fn read_sheet(doc: &[u8], series: &mut [u32], positions: &mut [u32], amounts: &m
 {
     clear_tables(series, positions, amounts);
     if 1048576 < doc.len() {
-        return refused_at(1, 0, State::begin());
+        return refused_first(1, 0);
     }
     let found = read_all(doc, series, positions, amounts);
     if found.refusal == 0 {
@@ -208,9 +233,9 @@ fn read_sheet(doc: &[u8], series: &mut [u32], positions: &mut [u32], amounts: &m
 }
 
 // Writes the note of what was found.
-fn tell(note: &mut [u8], f: Found) -> Answer
-    ensures answer { λ r. ⌜ r ≡ told (length (now (note .entry))) f ⌝ }
-    ensures note { λ _. ⌜ now (note .exit) ≡ left (noteOf (noteFor f)) (length (now (note .entry))) ⌝ }
+fn tell(shape: Shape, note: &mut [u8], f: Found) -> Answer
+    ensures answer { λ r. ⌜ r ≡ told shape (length (now (note .entry))) f ⌝ }
+    ensures note { λ _. ⌜ now (note .exit) ≡ left (noteOf shape (noteFor f)) (length (now (note .entry))) ⌝ }
 {
     let n = Note {
         refusal: f.refusal,
@@ -218,8 +243,9 @@ fn tell(note: &mut [u8], f: Found) -> Answer
         kind: f.kind,
         series: f.series,
         intervals: f.intervals,
+        depth: f.depth,
     };
-    let len = match write_note(note, n) {
+    let len = match write_note(note, shape, n) {
         Put::Written(k) => k,
         Put::NoRoom => 0,
     };
@@ -234,18 +260,20 @@ fn tell(note: &mut [u8], f: Found) -> Answer
     }
 }
 
-// Reads a document into the lent tables, and writes the note of it.
+// Reads a document into the lent tables, and writes the note of it in the shape that the caller picks.
 // Ruled out: rows left behind where a later item is refused; a place inside the item; an answer that is the same for all; counts of
-// start tags that stand after the faulty item; a note that holds anything else than the five numbers.
+// start tags that stand after the faulty item; a depth that counts what the faulty item opens, or leaves out what it would close; a note that holds anything
+// else than the numbers of its shape.
 pub fn read(
     doc: &[u8],
     series: &mut [u32],
     positions: &mut [u32],
     amounts: &mut [i64],
+    shape: Shape,
     note: &mut [u8],
 ) -> Answer
     ensures { λ r. ⌜ Permitted
-        (outcomeOf (now (doc .entry)) (now (series .entry)) (now (positions .entry)) (now (amounts .entry)) (now (note .entry)))
+        (outcomeOf (now (doc .entry)) (now (series .entry)) (now (positions .entry)) (now (amounts .entry)) shape (now (note .entry)))
         r (now (series .exit)) (now (positions .exit)) (now (amounts .exit)) (now (note .exit)) ⌝ }
 {
     if note.len() < 16 {
@@ -262,5 +290,5 @@ pub fn read(
         };
     }
     let found = read_sheet(doc, series, positions, amounts);
-    tell(note, found)
+    tell(shape, note, found)
 }

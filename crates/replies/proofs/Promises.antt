@@ -17,10 +17,12 @@ use Rattle.slices.specs.Same.{same, begins}
 use Rattle.slices.specs.Text.{text}
 use Rattle.elements.specs.Names.{elementNo, numberIn, names}
 use Rattle.structure.specs.Rows.{nameOf, parentOf, required, endsIn, endAt, endOf, closesDocument, overOf}
+use Rattle.structure.specs.Depth.{heightIn, depthOf}
 use Rattle.guideline.specs.Rows.{kostenblatt, rowsOf}
 use Rattle.prolog.specs.Prolog.{markLen, beginAfter, begin}
 use Rattle.states.specs.Moves.{begun}
 use Rattle.notes.specs.Note.{groupsIn, flat, noteOf, wrote, left}
+use Rattle.notes.specs.declared.Shape.the-variants.{Old}
 use Rattle.series.specs.Row.{cellsOf}
 use Rattle.reader.specs.Items.{itemsAfter, itemsFrom}
 use Rattle.reader.specs.Reading.{blank, refusedAt, acceptedAt, endedAt, readItems, itemsRead, readAfter, readInto, orBlank, readSheet}
@@ -32,7 +34,7 @@ use Rattle.replies.proofs.Replies.{reply-long, reply-note}
 
 -- "Empty input prints exactly `03 00 00 00 00`."
 pub empty-reply : replyTo [] ≡ lineFor (text "03 00 00 00 00")
-unfolding replyTo lineFor noteWritten hexText glyphOf readOf noted told answerOf noteFor groupsIn flat wrote left readSheet orBlank blank readInto readAfter itemsRead readItems endedAt acceptedAt refusedAt itemsFrom itemsAfter begin beginAfter markLen begins same begun overOf closesDocument endOf endAt endsIn nameOf parentOf required rowsOf kostenblatt elementNo numberIn names
+unfolding replyTo lineFor noteWritten hexText glyphOf readOf noted told answerOf noteFor groupsIn flat wrote left readSheet orBlank blank readInto readAfter itemsRead readItems endedAt acceptedAt refusedAt depthOf heightIn itemsFrom itemsAfter begin beginAfter markLen begins same begun overOf closesDocument endOf endAt endsIn nameOf parentOf required rowsOf kostenblatt elementNo numberIn names
 empty-reply = refl
 
 -- "for longer input it prints `too long` and one newline"
@@ -44,12 +46,12 @@ unfolding left
 left-size w =
     ⊎-elim (λ y. simp (y .1) (length-padded 16 w (y .0))) (λ y. simp (y .1) (length-replicate {A = ℕ} 16 0)) (leb-cases (length w) 16)
 
-note-size : (input : List ℕ) (ns np na : ℕ) → length (noteWritten (readOf input ns np na 16)) ≤ 16
+note-size : (input : List ℕ) (ns np na : ℕ) → length (noteWritten (readOf input ns np na Old 16)) ≤ 16
 unfolding noteWritten readOf noted
 note-size input ns np na =
     let f = readSheet input ns np na .found in
-    let w = noteOf (noteFor f) in
-    omega (arith, length-take (told 16 f .note) (left w 16), left-size w)
+    let w = noteOf Old (noteFor f) in
+    omega (arith, length-take (told Old 16 f .note) (left w 16), left-size w)
 
 line-size : (w : List ℕ) → length w ≤ 47 → length (lineFor w) ≤ 48
 unfolding lineFor
@@ -60,7 +62,7 @@ reply-fits input =
     ⊎-elim
     (λ y. rw (reply-long input (y .0)) (line-size _ (omega arith)))
     (λ y.
-    let w = noteWritten (readOf input (cellsOf 64) 2048 2048 16) in
+    let w = noteWritten (readOf input (cellsOf 64) 2048 2048 Old 16) in
     rw (reply-note input (y .0)) (line-size (hexText w) (omega (arith, hex-size w, note-size input (cellsOf 64) 2048 2048))))
     (ltb-cases 65536 (length input))
 

@@ -13,6 +13,7 @@ use Rattle.lists.proofs.Cases.{leb-cases}
 use Rattle.slices.specs.Text.{text}
 use Rattle.lines.specs.Text.{hexText}
 use Rattle.series.specs.Row.{cellsOf}
+use Rattle.notes.specs.declared.Shape.the-variants.{Old}
 use Rattle.reader.specs.Answer.{Outcome, readOf}
 use Rattle.replies.specs.Reply.{lineFor, noteWritten, replyTo, PermittedReply}
 
@@ -50,6 +51,6 @@ pub reply-long : (input : List ℕ) → 65536 < length input → replyTo input �
 unfolding replyTo
 reply-long input h = simp (lt-ltb _ _ h)
 
-pub reply-note : (input : List ℕ) → length input ≤ 65536 → replyTo input ≡ lineFor (hexText (noteWritten (readOf input (cellsOf 64) 2048 2048 16)))
+pub reply-note : (input : List ℕ) → length input ≤ 65536 → replyTo input ≡ lineFor (hexText (noteWritten (readOf input (cellsOf 64) 2048 2048 Old 16)))
 unfolding replyTo
 reply-note input h = simp (le-ltb _ _ h)

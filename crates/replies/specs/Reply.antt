@@ -10,6 +10,7 @@ use Rattle.io.specs.Counts.{Counts}
 use Rattle.slices.specs.Text.{text}
 use Rattle.lines.specs.Text.{hexText}
 use Rattle.series.specs.Row.{cellsOf}
+use Rattle.notes.specs.declared.Shape.the-variants.{Old}
 use Rattle.reader.specs.Answer.{Outcome, readOf}
 
 -- a text, and "one newline"
@@ -21,9 +22,9 @@ unfoldable pub noteWritten : Outcome → List ℕ
 noteWritten o = take (o .answer .note) (o .note)
 
 -- "A program reads standard input, at most 65,536 bytes, and prints the note as two-digit upper-case hex, single spaces, one newline; for longer input
--- it prints `too long` and one newline. It lends 64 series and 2,048 intervals."
+-- it prints `too long` and one newline. It lends 64 series and 2,048 intervals." It writes the old shape
 unfoldable pub replyTo : List ℕ → List ℕ
-replyTo input = cond (ltb 65536 (length input)) (lineFor (text "too long")) (lineFor (hexText (noteWritten (readOf input (cellsOf 64) 2048 2048 16))))
+replyTo input = cond (ltb 65536 (length input)) (lineFor (text "too long")) (lineFor (hexText (noteWritten (readOf input (cellsOf 64) 2048 2048 Old 16))))
 
 -- what `put_reply` answers and leaves of a buffer that held out: the reply at its start, as much as it has room for, and how many characters that is
 pub record PermittedReply (reply out : List ℕ) (count : ℕ) (left : List ℕ) : Type 0 where

@@ -2,23 +2,32 @@
 ghost use mathlib.Core.Path.{_≡_};
 ghost use lib.ListN.{length};
 ghost use Rattle.series.specs.Row.{cellsOf};
+ghost use Rattle.notes.specs.declared.Shape.the-variants.{Old};
 ghost use Rattle.reader.specs.Answer.{readOf};
 ghost use Rattle.replies.specs.Reply.{replyTo, PermittedReply};
 use lines::put_byte;
 use lines::put_hex;
 use lines::put_text;
+use notes::Shape;
 use series::WIDTH;
 use slices::front;
 
-// Writes the note of a document, read into tables of "64 series and 2,048 intervals", and answers the note's length.
+// Writes the note of a document, read into tables of "64 series and 2,048 intervals", in the old shape, and answers the note's length.
 fn put_note(doc: &[u8], note: &mut [u8]) -> usize
-    ensures count { λ r. ⌜ r ≡ readOf (now (doc .entry)) (cellsOf 64) 2048 2048 (length (now (note .entry))) .answer .note ⌝ }
-    ensures note { λ _. ⌜ now (note .exit) ≡ readOf (now (doc .entry)) (cellsOf 64) 2048 2048 (length (now (note .entry))) .note ⌝ }
+    ensures count { λ r. ⌜ r ≡ readOf (now (doc .entry)) (cellsOf 64) 2048 2048 Old (length (now (note .entry))) .answer .note ⌝ }
+    ensures note { λ _. ⌜ now (note .exit) ≡ readOf (now (doc .entry)) (cellsOf 64) 2048 2048 Old (length (now (note .entry))) .note ⌝ }
 {
     let mut series = [0u32; 64 * WIDTH];
     let mut positions = [0u32; 2048];
     let mut amounts = [0i64; 2048];
-    let answer = reader::read(doc, &mut series, &mut positions, &mut amounts, note);
+    let answer = reader::read(
+        doc,
+        &mut series,
+        &mut positions,
+        &mut amounts,
+        Shape::Old,
+        note,
+    );
     answer.note
 }
 

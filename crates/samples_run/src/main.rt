@@ -4,6 +4,7 @@
 // The lent buffers are full of old values, so that a cell that the reader leaves as it was shows. A file has at most 262,144 bytes.
 mod sums;
 
+use notes::Shape;
 use reader::Answer;
 use series::WIDTH;
 use slices::first_at;
@@ -42,7 +43,14 @@ fn run_document(doc: &[u8]) {
     let mut positions = [7u32; 2048];
     let mut amounts = [7i64; 2048];
     let mut note = [7u8; 16];
-    let a = reader::read(doc, &mut series, &mut positions, &mut amounts, &mut note);
+    let a = reader::read(
+        doc,
+        &mut series,
+        &mut positions,
+        &mut amounts,
+        Shape::Old,
+        &mut note,
+    );
     let n = a.note;
     print_answer(a);
     lines::print_text(b" ");

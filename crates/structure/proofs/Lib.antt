@@ -1,3 +1,4 @@
 pub mod Laws
 pub mod Means
+pub mod Depths
 pub mod Unique

@@ -6,6 +6,7 @@ use mathlib.Core.List.{List}
 use mathlib.Core.Bool.{Bool}
 use Rattle.lists.proofs.Unique.{one}
 use Rattle.structure.specs.Rows.{nameOf, parentOf, required, repeated, startOf, endOf, endsAtOnce, overOf}
+use Rattle.structure.specs.Depth.{depthOf}
 use Rattle.structure.specs.declared.Due.{Due}
 
 pub name-of-one : (w : ℕ) {r r′ : ℕ} → r ≡ nameOf w → r′ ≡ nameOf w → r ≡ r′
@@ -33,3 +34,6 @@ ends-at-once-one t row = one
 
 pub is-over-one : (t : List ℕ) (row : ℕ) (inside : Bool) {r r′ : Bool} → r ≡ overOf t row inside → r′ ≡ overOf t row inside → r ≡ r′
 is-over-one t row inside = one
+
+pub depth-after-one : (t : List ℕ) (row : ℕ) (inside : Bool) {r r′ : ℕ} → r ≡ depthOf t row inside → r′ ≡ depthOf t row inside → r ≡ r′
+depth-after-one t row inside = one

@@ -2,8 +2,9 @@
 // A row is a number of columns; the first four are read here, each by one function.
 ghost use mathlib.Core.Path.{_≡_};
 ghost use Prim.Native.Nat.{_<_, _+_};
-ghost use lib.ListN.{length, drop};
+ghost use lib.ListN.{length, drop, getD};
 ghost use Rattle.structure.specs.Rows.{nameOf, parentOf, required, repeated, nextIn, endsIn, startOf, endAt, endOf, endsAtOnce, overOf};
+ghost use Rattle.structure.specs.Depth.{heightIn, depthOf};
 
 pub enum Due {
     Row(usize),
@@ -148,4 +149,41 @@ pub fn is_over(t: &[usize], row: usize, inside: bool) -> bool
         Due::Row(p) => p == 0,
         Due::NotDue => false,
     }
+}
+
+// Row r, and 0 past the last.
+fn row_at(t: &[usize], r: usize) -> usize
+    ensures { λ w. ⌜ w ≡ getD (now (t .entry)) r 0 ⌝ }
+{
+    if r < t.len() {
+        return t[r];
+    }
+    0
+}
+
+// How many elements are open where the innermost of them is the row. What is counted ends at 16, so that it ends for any table.
+fn height(t: &[usize], row: usize) -> u32
+    ensures { λ n. ⌜ n ≡ heightIn 16 (now (t .entry)) row ⌝ }
+{
+    let mut n: u32 = 0;
+    let mut r = row;
+    while n < 16 {
+        if r == 0 {
+            return n;
+        }
+        r = parent_of(row_at(t, r));
+        n += 1;
+    }
+    n
+}
+
+// "The count of elements open" after `row`, the last that was started, which is open or closed.
+// Ruled out: an element counted that is closed already; the one that is not counted because it has no child yet; row 0, the document, counted as an element.
+pub fn depth_after(t: &[usize], row: usize, inside: bool) -> u32
+    ensures { λ n. ⌜ n ≡ depthOf (now (t .entry)) row inside ⌝ }
+{
+    if inside {
+        return height(t, row);
+    }
+    height(t, parent_of(row_at(t, row)))
 }

@@ -1,7 +1,7 @@
 //! The document reader: what is lent to it, and its two answers.
 use crate::foreign::{self, NOTE_ROOM};
 use crate::sheet::Tables;
-use crate::{Kind, Note, Refusal, Sheet};
+use crate::{Kind, Note, Refusal, Shape, Sheet};
 use core::error::Error;
 use core::fmt;
 
@@ -73,7 +73,7 @@ impl Refused {
         self.note.intervals()
     }
 
-    /// The note for the support desk: the five numbers above.
+    /// The note for the support desk: the numbers above, and in the new [`Shape`] how deep the fault lies.
     pub fn note(&self) -> Note {
         self.note
     }
@@ -108,10 +108,11 @@ pub(crate) struct Told {
 
 impl Told {
     /// Reads the document into what is lent.
-    pub(crate) fn of(doc: &[u8], lent: Lent<'_>) -> Result<Self, Refused> {
+    pub(crate) fn of(doc: &[u8], lent: Lent<'_>, shape: Shape) -> Result<Self, Refused> {
         let mut bytes = [0; NOTE_ROOM];
-        let [number, place, kind, series, intervals, quarters, len] = foreign::read(doc, lent.series, lent.positions, lent.amounts, &mut bytes);
-        let note = Note::new(bytes, len as usize, [number, place, kind, series, intervals]);
+        let [number, place, kind, series, intervals, quarters, len] =
+            foreign::read(doc, lent.series, lent.positions, lent.amounts, shape, &mut bytes);
+        let note = Note::told(bytes, len as usize, [number, place, kind, series, intervals]);
         match Refusal::from_number(number) {
             None => Ok(Told { quarters, note }),
             Some(refusal) => Err(Refused { refusal, note }),
@@ -125,13 +126,31 @@ impl Told {
     }
 }
 
-/// Reads a document into lent tables.
+/// Reads a document into lent tables. Its note has the old [`Shape`].
 ///
 /// # Errors
 ///
 /// [`Refused`] says why and where. With [`Refusal::TableFull`] the document may be read again with more room.
 pub fn read<'a>(doc: &'a [u8], lent: Lent<'a>) -> Result<Accepted<'a>, Refused> {
+    read_with_shape(doc, lent, Shape::Old)
+}
+
+/// Reads a document as [`read`] does, with a note in this [`Shape`]. Nothing else depends on it.
+///
+/// ```
+/// use lumintayag::{read_with_shape, Lent, Shape};
+///
+/// let lent = Lent { series: &mut [], positions: &mut [], amounts: &mut [] };
+/// let refused = read_with_shape(b"<Kostenblatt DtdBDEWNachrichtenVersion=\"1.0\">", lent, Shape::New).unwrap_err();
+/// assert_eq!(refused.note().to_string(), "64 03 2D 02 00 00 01");
+/// assert_eq!((refused.place(), refused.note().depth()), (45, 1));
+/// ```
+///
+/// # Errors
+///
+/// [`Refused`], as `read` does.
+pub fn read_with_shape<'a>(doc: &'a [u8], lent: Lent<'a>, shape: Shape) -> Result<Accepted<'a>, Refused> {
     let Lent { series, positions, amounts } = lent;
-    let told = Told::of(doc, Lent { series: &mut *series, positions: &mut *positions, amounts: &mut *amounts })?;
+    let told = Told::of(doc, Lent { series: &mut *series, positions: &mut *positions, amounts: &mut *amounts }, shape)?;
     Ok(Accepted { sheet: told.sheet(doc, Tables { series, positions, amounts }), note: told.note })
 }

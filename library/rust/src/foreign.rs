@@ -2,7 +2,8 @@
 //! also where the length is 0, and a slice that is written to overlaps no other. So nothing outside this file has to be unsafe to call them.
 #![allow(unsafe_code)]
 
-use lumintayag_sys::{lumintayag_read_note, lumintayag_read_v2};
+use crate::Shape;
+use lumintayag_sys::{lumintayag_convert_note, lumintayag_read_note_v2, lumintayag_read_v3};
 
 /// A longer document is refused with 1.
 pub const DOCUMENT_MOST: usize = 1_048_576;
@@ -13,17 +14,25 @@ pub const SERIES_ROOM: usize = 2_558;
 /// Intervals that are room for every document.
 pub const INTERVALS_ROOM: usize = 23_302;
 
-/// Bytes that the reader asks of a note buffer.
-pub(crate) const NOTE_ROOM: usize = 16;
+/// Bytes that the converter asks of the buffer it writes to, which are room for every note. The reader asks for 16.
+pub(crate) const NOTE_ROOM: usize = 24;
 const ANSWER_NUMBERS: usize = 7;
-pub(crate) const NOTE_NUMBERS: usize = 5;
+pub(crate) const NOTE_NUMBERS: usize = 6;
+const CONVERTED_NUMBERS: usize = 2;
 
 /// The seven numbers of the answer.
-pub(crate) fn read(doc: &[u8], series: &mut [u32], positions: &mut [u32], amounts: &mut [i64], note: &mut [u8]) -> [u32; ANSWER_NUMBERS] {
+pub(crate) fn read(
+    doc: &[u8],
+    series: &mut [u32],
+    positions: &mut [u32],
+    amounts: &mut [i64],
+    shape: Shape,
+    note: &mut [u8; NOTE_ROOM],
+) -> [u32; ANSWER_NUMBERS] {
     let mut answer = [0; ANSWER_NUMBERS];
     // SAFETY: each pointer comes with the length of the slice that it is of, and Rust lends the written ones to nobody else.
     unsafe {
-        lumintayag_read_v2(
+        lumintayag_read_v3(
             doc.as_ptr(),
             doc.len(),
             series.as_mut_ptr(),
@@ -32,6 +41,7 @@ pub(crate) fn read(doc: &[u8], series: &mut [u32], positions: &mut [u32], amount
             positions.len(),
             amounts.as_mut_ptr(),
             amounts.len(),
+            shape.number(),
             note.as_mut_ptr(),
             note.len(),
             answer.as_mut_ptr(),
@@ -41,10 +51,19 @@ pub(crate) fn read(doc: &[u8], series: &mut [u32], positions: &mut [u32], amount
     answer
 }
 
-/// The five numbers of a note; `None` where the bytes aren't one.
+/// The six numbers that a note tells; `None` where the bytes aren't one.
 pub(crate) fn read_note(note: &[u8]) -> Option<[u32; NOTE_NUMBERS]> {
-    let mut five = [0; NOTE_NUMBERS];
+    let mut six = [0; NOTE_NUMBERS];
     // SAFETY: each pointer comes with the length of the slice or array that it is of.
-    let refusal = unsafe { lumintayag_read_note(note.as_ptr(), note.len(), five.as_mut_ptr(), five.len()) };
-    (refusal == 0).then_some(five)
+    let refusal = unsafe { lumintayag_read_note_v2(note.as_ptr(), note.len(), six.as_mut_ptr(), six.len()) };
+    (refusal == 0).then_some(six)
+}
+
+/// The note in this shape, in a buffer that is 0 after it, and its length; `None` where the bytes aren't one.
+pub(crate) fn convert_note(note: &[u8], shape: Shape) -> Option<([u8; NOTE_ROOM], usize)> {
+    let (mut out, mut answer) = ([0; NOTE_ROOM], [0; CONVERTED_NUMBERS]);
+    // SAFETY: each pointer comes with the length of the slice or array that it is of, and Rust lends the written ones to nobody else.
+    let refusal =
+        unsafe { lumintayag_convert_note(note.as_ptr(), note.len(), shape.number(), out.as_mut_ptr(), out.len(), answer.as_mut_ptr(), answer.len()) };
+    (refusal == 0).then_some((out, answer[1] as usize))
 }

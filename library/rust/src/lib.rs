@@ -36,6 +36,8 @@
 //! assert_eq!(refused.note().to_string(), "03 2D 02 00 00");
 //! ```
 //!
+//! [`read_with_shape`] has the note in the new [`Shape`], which tells how deep a fault lies; [`read_note`] reads notes of both.
+//!
 //! # What an amount is
 //!
 //! An [`Amount`] is a Qty, in thousandths. In a Beschaffungsanforderung it is megawatts. In a Kostenblatt it is euros by the series' MeasurementUnit:
@@ -81,9 +83,9 @@ mod sheet;
 mod wipe;
 
 pub use amount::Amount;
-pub use answer::{read, Accepted, Lent, Refused};
+pub use answer::{read, read_with_shape, Accepted, Lent, Refused};
 pub use foreign::{DOCUMENT_MOST, INTERVALS_ROOM, SERIES_ROOM, SERIES_ROW};
-pub use note::{read_note, NotOneNote, Note};
+pub use note::{read_note, NotOneNote, Note, Shape};
 pub use numbers::{Kind, Refusal};
 #[cfg(feature = "alloc")]
 pub use owned::OwnedSheet;

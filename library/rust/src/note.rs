@@ -5,7 +5,36 @@ use core::error::Error;
 use core::fmt;
 use core::str::FromStr;
 
-/// The note for the support desk: five numbers, which hold no digit of a price.
+/// The shape of a [`Note`]. Whoever reads a document picks it ([`read_with_shape`](crate::read_with_shape)); the program `note` prints the old one.
+#[derive(Clone, Copy, Debug, Default, PartialEq, Eq, Hash)]
+#[non_exhaustive]
+pub enum Shape {
+    /// Five numbers: refusal, place, kind, series, intervals.
+    #[default]
+    Old,
+    /// Seven numbers: 100, the five of the old shape, and the [depth](Note::depth).
+    New,
+}
+
+impl Shape {
+    /// That of a note: a new one begins with the number 100, which is this byte, and no old one does.
+    fn of(note: &[u8]) -> Self {
+        match note {
+            [100, ..] => Shape::New,
+            _ => Shape::Old,
+        }
+    }
+
+    /// The number that asks the archive for it.
+    pub(crate) const fn number(self) -> u32 {
+        match self {
+            Shape::Old => 0,
+            Shape::New => 1,
+        }
+    }
+}
+
+/// The note for the support desk: numbers that hold no digit of a price.
 ///
 /// [`Display`](fmt::Display) writes it as the program `note` prints it, and [`FromStr`] reads that back.
 ///
@@ -16,6 +45,19 @@ use core::str::FromStr;
 /// assert_eq!((note.refusal(), note.place(), note.kind()), (Some(Refusal::NotDue), 45, Some(Kind::Kostenblatt)));
 /// assert_eq!(note.to_string(), "03 2D 02 00 00");
 /// assert_eq!("03 2D 02 00 00".parse::<Note>()?, note);
+/// # Ok::<(), lumintayag::NotOneNote>(())
+/// ```
+///
+/// A note in the new [`Shape`] also tells how deep a fault lies. Each is turned into the other, where the depth is lost:
+///
+/// ```
+/// use lumintayag::{Note, Shape};
+///
+/// let deep: Note = "64 06 85 08 02 01 02 04".parse()?;
+/// assert_eq!((deep.shape(), deep.place(), deep.depth()), (Shape::New, 1029, 4));
+/// let old = deep.in_shape(Shape::Old);
+/// assert_eq!((old.to_string(), old.depth()), ("06 85 08 02 01 02".to_string(), 0));
+/// assert_eq!(old.in_shape(Shape::New).to_string(), "64 06 85 08 02 01 02 00");
 /// # Ok::<(), lumintayag::NotOneNote>(())
 /// ```
 #[derive(Clone, Copy, PartialEq, Eq, Hash)]
@@ -31,7 +73,14 @@ impl Note {
         Note { bytes, len, numbers }
     }
 
-    /// Its bytes, at most 15.
+    /// The first `len` of the bytes, as the document reader wrote them, with the first numbers of its answer. The depth is in the note alone.
+    pub(crate) fn told(bytes: [u8; NOTE_ROOM], len: usize, five: [u32; 5]) -> Self {
+        let [refusal, place, kind, series, intervals] = five;
+        let depth = bytes.get(..len).and_then(foreign::read_note).map_or(0, |[.., depth]| depth);
+        Note::new(bytes, len, [refusal, place, kind, series, intervals, depth])
+    }
+
+    /// Its bytes: at most 15 in the old shape, and 19 in the new.
     pub fn as_bytes(&self) -> &[u8] {
         self.bytes.get(..self.len).unwrap_or_default()
     }
@@ -60,6 +109,24 @@ impl Note {
     pub fn intervals(&self) -> usize {
         self.numbers[4] as usize
     }
+
+    /// How many elements are open before the faulty item: one that it would open is not counted, one that it would close is. It is 0 where the
+    /// document was accepted, and in a note of the old shape, which does not tell it.
+    pub fn depth(&self) -> usize {
+        self.numbers[5] as usize
+    }
+
+    /// Its shape.
+    pub fn shape(&self) -> Shape {
+        Shape::of(self.as_bytes())
+    }
+
+    /// The note in this shape. From old to new its depth is 0, from new to old it is left out; a note that has the shape already stays as it is.
+    pub fn in_shape(&self, shape: Shape) -> Self {
+        // These bytes are one note, and there is room for it, so that this is never refused.
+        let written = foreign::convert_note(self.as_bytes(), shape);
+        written.and_then(|(bytes, len)| read_note(bytes.get(..len)?).ok()).unwrap_or(*self)
+    }
 }
 
 impl fmt::Debug for Note {
@@ -70,6 +137,7 @@ impl fmt::Debug for Note {
             .field("kind", &self.kind())
             .field("series", &self.series())
             .field("intervals", &self.intervals())
+            .field("depth", &self.depth())
             .finish()
     }
 }
@@ -84,7 +152,8 @@ impl fmt::Display for Note {
     }
 }
 
-/// Reads a note back: five numbers, each shortest and below 2^21, and nothing after.
+/// Reads a note of either [`Shape`] back: five numbers whose first is not 100, or seven whose first is 100 and whose second is not; each shortest and
+/// below 2^21, and nothing after.
 ///
 /// # Errors
 ///

@@ -76,7 +76,7 @@ pub enum Refusal {
     Against,
     /// 9: TimeSeriesIdentification used before in this document.
     UsedBefore,
-    /// 10: the note buffer has fewer than 16 bytes. This crate always lends them.
+    /// 10: the note buffer has fewer than 16 bytes, or fewer than 24 where a note is converted. This crate always lends them.
     NoteTooShort,
     /// 11: the bytes aren't one note. [`read_note`](crate::read_note) tells it by its own error.
     NotOneNote,

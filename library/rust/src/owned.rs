@@ -1,7 +1,7 @@
 //! A document with its tables, on the heap.
 use crate::answer::Told;
 use crate::sheet::Tables;
-use crate::{wipe, Accepted, Lent, Note, Refusal, Refused, Room, Series, SeriesIter, Sheet};
+use crate::{wipe, Accepted, Lent, Note, Refusal, Refused, Room, Series, SeriesIter, Shape, Sheet};
 use alloc::vec;
 use alloc::vec::Vec;
 use core::fmt;
@@ -47,11 +47,20 @@ impl OwnedSheet {
     ///
     /// [`Refused`] says why and where.
     pub fn read_with_room(document: Vec<u8>, room: Room) -> Result<Self, Refused> {
+        Self::read_with_shape(document, room, Shape::Old)
+    }
+
+    /// Reads a document as [`read_with_room`](OwnedSheet::read_with_room) does, with a note in this [`Shape`]. The other two have it in the old one.
+    ///
+    /// # Errors
+    ///
+    /// [`Refused`] says why and where.
+    pub fn read_with_shape(document: Vec<u8>, room: Room, shape: Shape) -> Result<Self, Refused> {
         let document = Wiped(document);
         let enough = Room::of_length(document.0.len());
         let room = Room { series: room.series.min(enough.series), intervals: room.intervals.min(enough.intervals) };
-        let (told, cells) = match Cells::filled(&document.0, room) {
-            Err(refused) if refused.refusal() == Refusal::TableFull => Cells::filled(&document.0, enough),
+        let (told, cells) = match Cells::filled(&document.0, room, shape) {
+            Err(refused) if refused.refusal() == Refusal::TableFull => Cells::filled(&document.0, enough, shape),
             answer => answer,
         }?;
         Ok(OwnedSheet { document: document.fitted(), cells, told })
@@ -109,10 +118,10 @@ struct Cells {
 
 impl Cells {
     /// Tables of this room, with the document read into them.
-    fn filled(doc: &[u8], room: Room) -> Result<(Told, Self), Refused> {
+    fn filled(doc: &[u8], room: Room, shape: Shape) -> Result<(Told, Self), Refused> {
         let (series, positions, amounts) = (Wiped::zeros(room.series_numbers()), Wiped::zeros(room.intervals), Wiped::zeros(room.intervals));
         let mut cells = Cells { room, series, positions, amounts };
-        let told = Told::of(doc, Lent { series: &mut cells.series.0, positions: &mut cells.positions.0, amounts: &mut cells.amounts.0 })?;
+        let told = Told::of(doc, Lent { series: &mut cells.series.0, positions: &mut cells.positions.0, amounts: &mut cells.amounts.0 }, shape)?;
         Ok((told, cells))
     }
 

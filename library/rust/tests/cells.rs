@@ -6,7 +6,7 @@ use common::two_plants;
 use lumintayag::SERIES_ROW;
 
 extern "C" {
-    fn lumintayag_read_v2(
+    fn lumintayag_read_v3(
         doc: *const u8,
         doc_len: usize,
         series: *mut u32,
@@ -15,12 +15,22 @@ extern "C" {
         positions_len: usize,
         amounts: *mut i64,
         amounts_len: usize,
+        shape: u32,
         note: *mut u8,
         note_len: usize,
         answer: *mut u32,
         answer_len: usize,
     ) -> u32;
-    fn lumintayag_read_note(note: *const u8, note_len: usize, five: *mut u32, five_len: usize) -> u32;
+    fn lumintayag_read_note_v2(note: *const u8, note_len: usize, six: *mut u32, six_len: usize) -> u32;
+    fn lumintayag_convert_note(
+        note: *const u8,
+        note_len: usize,
+        shape: u32,
+        out: *mut u8,
+        out_len: usize,
+        answer: *mut u32,
+        answer_len: usize,
+    ) -> u32;
 }
 
 /// The numbers as far as there are cells, 0 in the cells after them, and old numbers past the slice.
@@ -31,11 +41,12 @@ fn expected(numbers: &[u32], len: usize) -> Vec<u32> {
 #[test]
 fn an_answer_of_every_size() {
     let doc = b"<Kostenblatt DtdBDEWNachrichtenVersion=\"1.0\">";
-    for len in 0..=12 {
+    let told = [(0, &[3, 45, 2, 0, 0][..]), (1, &[100, 3, 45, 2, 0, 0, 1]), (2, &[100, 3, 45, 2, 0, 0, 1]), (u32::MAX, &[100, 3, 45, 2, 0, 0, 1])];
+    for (len, (shape, expected_note)) in (0..=12).flat_map(|len| told.map(|of| (len, of))) {
         let (mut series, mut positions, mut amounts, mut note, mut answer) = ([77; SERIES_ROW], [77; 1], [77; 1], [77; 16], [77; 12]);
         // SAFETY: no length is more than that of the array.
         let refusal = unsafe {
-            lumintayag_read_v2(
+            lumintayag_read_v3(
                 doc.as_ptr(),
                 doc.len(),
                 series.as_mut_ptr(),
@@ -44,27 +55,29 @@ fn an_answer_of_every_size() {
                 1,
                 amounts.as_mut_ptr(),
                 1,
+                shape,
                 note.as_mut_ptr(),
                 16,
                 answer.as_mut_ptr(),
                 len,
             )
         };
-        assert_eq!((refusal, answer.to_vec()), (3, expected(&[3, 45, 2, 0, 0, 0, 5], len)));
-        assert_eq!(note, [3, 45, 2, 0, 0, 0, 0, 0, 0, 0, 0, 0, 0, 0, 0, 0]);
+        assert_eq!((refusal, answer.to_vec()), (3, expected(&[3, 45, 2, 0, 0, 0, expected_note.len() as u32], len)));
+        assert!(note.starts_with(expected_note) && note[expected_note.len()..].iter().all(|&b| b == 0));
         assert!((series, positions, amounts) == ([0; SERIES_ROW], [0], [0]));
     }
 }
 
 #[test]
 fn a_note_buffer_of_every_size() {
-    for doc in [two_plants(), String::new(), "<a".into()] {
+    let docs = [two_plants(), String::new(), "<a".into()];
+    for (doc, shape) in docs.iter().flat_map(|doc| [0, 1, 7].map(|shape| (doc, shape))) {
         let mut notes = Vec::new();
         for room in 0..=40 {
             let (mut series, mut positions, mut amounts, mut note, mut answer) = ([77; 2 * SERIES_ROW], [77; 5], [77; 5], [77; 40], [77; 7]);
             // SAFETY: no length is more than that of the array.
             let refusal = unsafe {
-                lumintayag_read_v2(
+                lumintayag_read_v3(
                     doc.as_ptr(),
                     doc.len(),
                     series.as_mut_ptr(),
@@ -73,6 +86,7 @@ fn a_note_buffer_of_every_size() {
                     5,
                     amounts.as_mut_ptr(),
                     5,
+                    shape,
                     note.as_mut_ptr(),
                     room,
                     answer.as_mut_ptr(),
@@ -96,13 +110,33 @@ fn a_note_buffer_of_every_size() {
 }
 
 #[test]
-fn five_numbers_of_every_size() {
+fn six_numbers_of_every_size() {
+    let (old, new) = (&[9, 0xAC, 2, 2, 1, 7][..], &[100, 9, 0xAC, 2, 2, 1, 7, 3][..]);
     for len in 0..=12 {
-        for (note, refusal, five) in [(&[9, 0xAC, 2, 2, 1, 7][..], 0, [9, 300, 2, 1, 7]), (&[9, 1][..], 11, [0; 5])] {
+        for (note, refusal, six) in [(old, 0, [9, 300, 2, 1, 7, 0]), (new, 0, [9, 300, 2, 1, 7, 3]), (&[9, 1][..], 11, [0; 6])] {
             let mut cells = [77; 12];
             // SAFETY: no length is more than that of the array.
-            let said = unsafe { lumintayag_read_note(note.as_ptr(), note.len(), cells.as_mut_ptr(), len) };
-            assert_eq!((said, cells.to_vec()), (refusal, expected(&five, len)));
+            let said = unsafe { lumintayag_read_note_v2(note.as_ptr(), note.len(), cells.as_mut_ptr(), len) };
+            assert_eq!((said, cells.to_vec()), (refusal, expected(&six, len)));
+        }
+    }
+}
+
+/// A note into each length of output, in both shapes; 10 goes before 11.
+#[test]
+fn a_converted_note_of_every_size() {
+    let (old, flat, deep) = (&[9, 0xAC, 2, 2, 1, 7][..], &[100, 9, 0xAC, 2, 2, 1, 7, 0][..], &[100, 9, 0xAC, 2, 2, 1, 7, 3][..]);
+    let (none, neither) = (&[][..], &[100, 1, 0, 0, 0][..]);
+    let cases =
+        [(old, 0, old), (old, 1, flat), (deep, 0, old), (deep, 1, deep), (flat, 0, old), (flat, 9, flat), (neither, 0, none), (neither, 1, none)];
+    for (room, len) in (0..=40).flat_map(|room| (0..=4).map(move |len| (room, len))) {
+        for (note, shape, written) in cases {
+            let (mut out, mut answer) = ([77; 40], [77; 12]);
+            // SAFETY: no length is more than that of the array.
+            let said = unsafe { lumintayag_convert_note(note.as_ptr(), note.len(), shape, out.as_mut_ptr(), room, answer.as_mut_ptr(), len) };
+            let (refusal, written) = if room < 24 { (10, none) } else { (if written.is_empty() { 11 } else { 0 }, written) };
+            assert_eq!((said, answer.to_vec()), (refusal, expected(&[refusal, written.len() as u32], len)));
+            assert!(out.starts_with(written) && out[written.len()..room].iter().all(|&b| b == 0) && out[room..].iter().all(|&b| b == 77));
         }
     }
 }

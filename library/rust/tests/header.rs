@@ -2,7 +2,7 @@
 mod common;
 
 use common::{two_plants, Desk};
-use lumintayag::{Kind, Refusal, Series, DOCUMENT_MOST, INTERVALS_ROOM, SERIES_ROOM, SERIES_ROW};
+use lumintayag::{Kind, Refusal, Series, Shape, DOCUMENT_MOST, INTERVALS_ROOM, SERIES_ROOM, SERIES_ROW};
 
 /// The number that the header defines by a name, also in an enum.
 fn defined(name: &str) -> usize {
@@ -65,4 +65,13 @@ fn kinds_and_refusals() {
     for (name, refusal) in refusals {
         assert_eq!(defined(&format!("LUMINTAYAG_{name}")), refusal.number() as usize, "{name}");
     }
+}
+
+/// A new note has its depth in the cell that the header names, and begins with a number that no old one begins with.
+#[test]
+fn shapes() {
+    assert_eq!((defined("LUMINTAYAG_NOTE_OLD"), defined("LUMINTAYAG_NOTE_NEW")), (Shape::Old as usize, Shape::New as usize));
+    assert_eq!((defined("LUMINTAYAG_NOTE_NUMBERS"), defined("LUMINTAYAG_DEPTH")), (6, 5));
+    assert_eq!((defined("LUMINTAYAG_NOTE_ROOM"), defined("LUMINTAYAG_CONVERTED_ROOM"), defined("LUMINTAYAG_CONVERTED_NUMBERS")), (16, 24, 2));
+    assert_eq!((defined("LUMINTAYAG_CONVERTED_REFUSAL"), defined("LUMINTAYAG_CONVERTED_LEN")), (0, 1));
 }

@@ -2,7 +2,7 @@
 mod common;
 
 use common::*;
-use lumintayag::{OwnedSheet, Refusal, Refused, Room};
+use lumintayag::{OwnedSheet, Refusal, Refused, Room, Shape};
 use std::collections::BTreeMap;
 
 #[test]
@@ -15,6 +15,18 @@ fn it_shows_what_lent_tables_show() {
         assert_eq!((kept.note(), kept.accepted()), (lent.note, lent));
         assert_eq!((kept.sheet(), kept.room()), (lent.sheet, Room::of_length(doc.len())));
         assert!(kept.into_iter().eq(lent.sheet));
+    }
+}
+
+#[test]
+fn its_note_has_the_shape_that_is_picked() {
+    let doc = two_plants();
+    for (room, doc) in
+        [Room::EVERY, Room { series: 0, intervals: 0 }].into_iter().flat_map(|room| [&doc[..], &doc[..doc.len() - 1]].map(|doc| (room, doc)))
+    {
+        let note = |shape| OwnedSheet::read_with_shape(doc.into(), room, shape).map_or_else(|refused| refused.note(), |kept| kept.note());
+        assert_eq!((note(Shape::Old).shape(), note(Shape::New)), (Shape::Old, Desk::large().new_note(doc.as_bytes())));
+        assert_eq!(note(Shape::New).in_shape(Shape::Old), note(Shape::Old));
     }
 }
 

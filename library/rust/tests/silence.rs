@@ -2,7 +2,7 @@
 mod common;
 
 use common::*;
-use lumintayag::{read_note, Room};
+use lumintayag::{read_note, Room, Shape};
 use std::fmt::Debug;
 
 /// Both forms of `Debug`.
@@ -32,6 +32,7 @@ fn all(doc: &str, desk: &mut Desk, refused: &mut Desk) -> Vec<(&'static str, Str
     assert!(desk.read(doc.as_bytes()).is_ok());
     let lent = formatted(&desk.lent());
     let refusal = refused.read(&doc.as_bytes()[..doc.len() - 1]).expect_err("a cut");
+    let deep = refused.read_in(Shape::New, &doc.as_bytes()[..doc.len() - 1]).expect_err("a cut").note();
     let answer = desk.read(doc.as_bytes());
     let accepted = answer.expect("accepted");
     let (sheet, note) = (accepted.sheet, accepted.note);
@@ -41,7 +42,8 @@ fn all(doc: &str, desk: &mut Desk, refused: &mut Desk) -> Vec<(&'static str, Str
         ("Accepted", formatted(&accepted) + &formatted(&answer)),
         ("Refused", formatted(&refusal) + &formatted(&Err::<(), _>(refusal)) + &refusal.to_string()),
         ("Refusal", formatted(&refusal.refusal()) + &refusal.refusal().to_string()),
-        ("Note", formatted(&note) + &note.to_string()),
+        ("Note", formatted(&note) + &note.to_string() + &formatted(&deep) + &deep.to_string()),
+        ("Shape", formatted(&note.shape()) + &formatted(&deep.shape())),
         ("NotOneNote", formatted(&read_note(doc.as_bytes()))),
         ("Kind", formatted(&sheet.kind())),
         ("Room", formatted(&Room::of_length(doc.len()))),

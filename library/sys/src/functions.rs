@@ -1,14 +1,14 @@
 //! Also a part of `build.rs` and of `probe.rs`, which ask an archive whether it is the one for these declarations.
 
 /// `LUMINTAYAG_VERSION` of the header: 10000 a + 100 b + c for version a.b.c.
-pub const VERSION: u32 = 200;
+pub const VERSION: u32 = 300;
 
 extern "C" {
     /// The archive's version.
     pub fn lumintayag_version() -> u32;
 
     /// Reads a document. A pointer may be null where its length, which is in elements, is 0; no slice that is written to overlaps another one.
-    pub fn lumintayag_read_v2(
+    pub fn lumintayag_read_v3(
         doc: *const u8,
         doc_len: usize,
         series: *mut u32,
@@ -17,14 +17,26 @@ extern "C" {
         positions_len: usize,
         amounts: *mut i64,
         amounts_len: usize,
+        shape: u32,
         note: *mut u8,
         note_len: usize,
         answer: *mut u32,
         answer_len: usize,
     ) -> u32;
 
-    /// Reads a note back.
-    pub fn lumintayag_read_note(note: *const u8, note_len: usize, five: *mut u32, five_len: usize) -> u32;
+    /// Reads a note of either shape back.
+    pub fn lumintayag_read_note_v2(note: *const u8, note_len: usize, six: *mut u32, six_len: usize) -> u32;
+
+    /// Writes a note of either shape in the asked one.
+    pub fn lumintayag_convert_note(
+        note: *const u8,
+        note_len: usize,
+        shape: u32,
+        out: *mut u8,
+        out_len: usize,
+        answer: *mut u32,
+        answer_len: usize,
+    ) -> u32;
 
     /// The place of the first unreadable item, or the document's length.
     pub fn lumintayag_readable_len(doc: *const u8, doc_len: usize) -> usize;

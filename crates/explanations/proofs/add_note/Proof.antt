@@ -1,6 +1,6 @@
 -- `explanations::add_note` meets its contract: the lines, one after the other.
 -- Assumes nothing.
-use Rattle.explanations.specs.Explanation.{refusalLine, placeLine, kindLine, seriesPart, intervalsPart, explained}
+use Rattle.explanations.specs.Explanation.{refusalLine, placeLine, kindLine, seriesPart, intervalsPart, depthLine, explained}
 use Rattle.explanations.proofs.Adding.{adds-more}
 use borrow.Author.Needs.{needs}
 use Rattle.explanations.proofs.add_note.Statement.{statement}
@@ -21,18 +21,22 @@ add-series-requires c κs = search needs
 add-intervals-requires : tie.Need-add-intervals-requires
 add-intervals-requires c κs = search needs
 
+add-depth-requires : tie.Need-add-depth-requires
+add-depth-requires c κs = search needs
+
 same-length : tie.Need-same-length
 same-length c = search needs
 
 returns : tie.Need-returns
 unfolding explained
 returns c =
-    let a = c .before .before .before .before .before .before .before .before .before .before .before .before .before .before .before .before .before .before .before .before .before .args in
+    let a = c .before .before .before .before .before .before .before .before .before .before .before .before .before .before .before .before .before .before .before .before .before .before .before .before .before .args in
     let n = a .n in
-    adds-more (refusalLine (n .refusal)) _ (a .out .now) _ _ (a .at) _ _ (c .before .before .before .before .before .before .before .before .before .before .before .before .before .before .before .before .before .before .add-refusal .ensures)
-    (adds-more (placeLine (n .refusal) (n .place)) _ _ _ _ _ _ _ (c .before .before .before .before .before .before .before .before .before .before .before .before .before .before .add-place .ensures)
-    (adds-more (kindLine (n .kind)) _ _ _ _ _ _ _ (c .before .before .before .before .before .before .before .before .before .before .add-kind .ensures)
-    (adds-more (seriesPart (n .refusal) (n .series)) (intervalsPart (n .intervals)) _ _ _ _ _ _ (c .before .before .before .before .before .before .add-series .ensures) (c .before .before .add-intervals .ensures))))
+    adds-more (refusalLine (n .refusal)) _ (a .out .now) _ _ (a .at) _ _ (c .before .before .before .before .before .before .before .before .before .before .before .before .before .before .before .before .before .before .before .before .before .before .add-refusal .ensures)
+    (adds-more (placeLine (n .refusal) (n .place)) _ _ _ _ _ _ _ (c .before .before .before .before .before .before .before .before .before .before .before .before .before .before .before .before .before .before .add-place .ensures)
+    (adds-more (kindLine (n .kind)) _ _ _ _ _ _ _ (c .before .before .before .before .before .before .before .before .before .before .before .before .before .before .add-kind .ensures)
+    (adds-more (seriesPart (n .refusal) (n .series)) _ _ _ _ _ _ _ (c .before .before .before .before .before .before .before .before .before .before .add-series .ensures)
+    (adds-more (intervalsPart (n .intervals)) (depthLine (n .depth)) _ _ _ _ _ _ (c .before .before .before .before .before .before .add-intervals .ensures) (c .before .before .add-depth .ensures)))))
 
 pub add-note-spec : {M : Type 1} → statement M
 add-note-spec =
@@ -43,5 +47,6 @@ add-note-spec =
     add-kind-requires
     add-series-requires
     add-intervals-requires
+    add-depth-requires
     same-length
     returns)

@@ -21,6 +21,9 @@ number-at-requires-4 c κs = search needs
 number-at-requires-5 : tie.Need-number-at-requires-5
 number-at-requires-5 c κs = search needs
 
+number-at-requires-6 : tie.Need-number-at-requires-6
+number-at-requires-6 c κs = search needs
+
 byte-at-requires : tie.Need-byte-at-requires
 byte-at-requires c κs = search needs
 
@@ -51,6 +54,7 @@ run-write-spec =
     number-at-requires-3
     number-at-requires-4
     number-at-requires-5
+    number-at-requires-6
     byte-at-requires
     cast-room
     array-borrow-prefix-buf

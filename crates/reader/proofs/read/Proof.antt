@@ -34,7 +34,7 @@ same-length-4 c = search needs
 
 returns : tie.Need-returns
 unfolding answerOf refusedAt begun
-returns c = let a = c .before .before .before .before .before .before .before .before .before .before .before .before .before .before .before .before .before .before .args in permitted (read-ten (a .doc .now) (length (a .series .now)) (length (a .positions .now)) (length (a .amounts .now)) (length (a .note .now)) (c .before .before .before .before .before .before .before .before .before .before .before .before .before .if1 .taken) refl (c .before .before .before .before .before .before .before .before .before .clear-tables .ensures) (c .before .before .clear-bytes .ensures))
+returns c = let a = c .before .before .before .before .before .before .before .before .before .before .before .before .before .before .before .before .before .before .args in permitted (read-ten (a .doc .now) (length (a .series .now)) (length (a .positions .now)) (length (a .amounts .now)) (a .shape) (length (a .note .now)) (c .before .before .before .before .before .before .before .before .before .before .before .before .before .if1 .taken) refl (c .before .before .before .before .before .before .before .before .before .clear-tables .ensures) (c .before .before .clear-bytes .ensures))
 
 read-sheet-requires : tie.Need-read-sheet-requires
 read-sheet-requires c κs = search needs
@@ -55,7 +55,7 @@ same-length-8 : tie.Need-same-length-8
 same-length-8 c = search needs
 
 returns-2 : tie.Need-returns-2
-returns-2 c = let a = c .before .before .before .before .before .before .before .before .before .before .before .before .before .before .before .before .before .before .args in permitted (read-told (a .doc .now) (length (a .series .now)) (length (a .positions .now)) (length (a .amounts .now)) (length (a .note .now)) (c .before .before .before .before .before .before .before .before .before .before .before .before .before .if1 .left) (c .before .before .before .before .before .before .before .before .before .read-sheet .ensures) (c .before .before .tell .ensures .0) (c .before .before .tell .ensures .1))
+returns-2 c = let a = c .before .before .before .before .before .before .before .before .before .before .before .before .before .before .before .before .before .before .args in permitted (read-told (a .doc .now) (length (a .series .now)) (length (a .positions .now)) (length (a .amounts .now)) (a .shape) (length (a .note .now)) (c .before .before .before .before .before .before .before .before .before .before .before .before .before .if1 .left) (c .before .before .before .before .before .before .before .before .before .read-sheet .ensures) (c .before .before .tell .ensures .0) (c .before .before .tell .ensures .1))
 
 pub read-spec : {M : Type 1} → statement M
 read-spec =

@@ -11,8 +11,7 @@ use Rattle.reader.proofs.read_all.Reads as reads
 use Rattle.reader.proofs.read_all.Lts as lts
 use Rattle.prolog.proofs.first_item.Reads as first-item-reads
 use Rattle.reader.proofs.read_items.Reads as read-items-reads
-use Rattle.reader.proofs.refused_at.Reads as refused-at-reads
-use Rattle.states.proofs.State.begin.Reads as begin-reads
+use Rattle.reader.proofs.refused_first.Reads as refused-first-reads
 
 first-item-requires : tie.Need-first-item-requires
 first-item-requires c κs = search needs
@@ -26,14 +25,11 @@ read-items-requires c κs = search needs
 enum-known-p : tie.Need-enum-known-p
 enum-known-p c = search needs
 
-cast-refused-at : tie.Need-cast-refused-at
-cast-refused-at c = ⊎-elim (λ z. omega (arith, z)) (λ z. omega (arith, z)) (refused-place _ _ (sym (c .before .before .before .first-item .ensures .0) ∙ c .before .p .given .1))
+cast-refused-first : tie.Need-cast-refused-first
+cast-refused-first c = ⊎-elim (λ z. omega (arith, z)) (λ z. omega (arith, z)) (refused-place _ _ (sym (c .before .before .before .first-item .ensures .0) ∙ c .before .p .given .1))
 
-begin-requires : tie.Need-begin-requires
-begin-requires c κs = search needs
-
-refused-at-requires : tie.Need-refused-at-requires
-refused-at-requires c κs = search needs
+refused-first-requires : tie.Need-refused-first-requires
+refused-first-requires c κs = search needs
 
 same-length : tie.Need-same-length
 same-length c = search needs
@@ -48,7 +44,7 @@ returns : tie.Need-returns
 returns c = let e = into-items _ _ _ (sym (c .before .before .before .before .before .before .before .before .before .before .before .before .first-item .ensures .0) ∙ c .before .before .before .before .before .before .before .before .before .before .n .given .1) in c .before .before .before .before .before .read-items .ensures ∙ e
 
 returns-2 : tie.Need-returns-2
-returns-2 c = let a = c .before .before .before .before .before .before .before .before .before .args in let e = into-unread _ (tab (a .series .now) (a .positions .now) (a .amounts .now)) _ (sym (c .before .before .before .before .before .first-item .ensures .0) ∙ c .before .before .before .p .given .1) in rw (c .refused-at .ensures, c .before .begin .ensures) e
+returns-2 c = let a = c .before .before .before .before .before .before .before .before .args in let e = into-unread _ (tab (a .series .now) (a .positions .now) (a .amounts .now)) _ (sym (c .before .before .before .before .first-item .ensures .0) ∙ c .before .before .p .given .1) in rw (c .refused-first .ensures) e
 
 pub read-all-spec : {M : Type 1} → statement M
 read-all-spec =
@@ -58,9 +54,8 @@ read-all-spec =
     enum-known-n
     read-items-requires
     enum-known-p
-    cast-refused-at
-    begin-requires
-    refused-at-requires
+    cast-refused-first
+    refused-first-requires
     same-length
     same-length-2
     same-length-3

@@ -4,7 +4,7 @@ use native.Mathlib.Omega.{arith}
 use borrow.Author.Needs.{needs}
 use lib.ListN.{length, length-drop}
 use Rattle.reader.specs.Reading.{tab, roomIn}
-use Rattle.reader.proofs.Ran.{Ran, ran-start, ran-next, ran-pass, ran-stop, ran-unread, ran-end}
+use Rattle.reader.proofs.Ran.{Ran, ran-start, ran-next, ran-pass, ran-rows, ran-stop, ran-unread, ran-end}
 use Rattle.reader.proofs.read_items.Statement.{statement}
 use Rattle.reader.proofs.read_items.Tie as tie
 use Rattle.reader.proofs.read_items.Reads as reads
@@ -54,20 +54,26 @@ enum-known-item c = search needs
 cast-refused-at : tie.Need-cast-refused-at Inv-loop μ-loop
 cast-refused-at c = let k = ran-unread (c .before .before .before .before .before .before .loop .inv) (c .before .before .before .before .before .loop-test .taken) (c .before .before .before .before .rest .ensures .0) (c .before .before .before .item-at .ensures .0) (c .before .before .before .item-at .ensures .1 .0) (c .before .item .given .1) .0 in let h = c .before .before .before .before .before .loop-test .taken in let g = c .before .before .before .before .before .before .before .before .before .before .before .before .before .pre in omega (arith, k, h, g)
 
+slice-aggregate-rows-of : tie.Need-slice-aggregate-rows-of Inv-loop μ-loop
+slice-aggregate-rows-of c = search needs
+
+rows-of-requires : tie.Need-rows-of-requires Inv-loop μ-loop
+rows-of-requires c κs = search needs
+
 refused-at-requires : tie.Need-refused-at-requires Inv-loop μ-loop
-refused-at-requires c κs = search needs
+refused-at-requires c κs = ran-rows (c .before .before .before .before .before .before .before .before .loop .inv) (c .rows-of .ensures)
 
 same-length : tie.Need-same-length Inv-loop μ-loop
-same-length c = c .before .before .before .before .before .before .before .loop .inv .ser-same
+same-length c = c .before .before .before .before .before .before .before .before .before .loop .inv .ser-same
 
 same-length-2 : tie.Need-same-length-2 Inv-loop μ-loop
-same-length-2 c = c .before .before .before .before .before .before .before .loop .inv .pos-same
+same-length-2 c = c .before .before .before .before .before .before .before .before .before .loop .inv .pos-same
 
 same-length-3 : tie.Need-same-length-3 Inv-loop μ-loop
-same-length-3 c = c .before .before .before .before .before .before .before .loop .inv .ams-same
+same-length-3 c = c .before .before .before .before .before .before .before .before .before .loop .inv .ams-same
 
 returns : tie.Need-returns Inv-loop μ-loop
-returns c = rw (c .refused-at .ensures) (ran-unread (c .before .before .before .before .before .before .before .loop .inv) (c .before .before .before .before .before .before .loop-test .taken) (c .before .before .before .before .before .rest .ensures .0) (c .before .before .before .before .item-at .ensures .0) (c .before .before .before .before .item-at .ensures .1 .0) (c .before .before .item .given .1) .1)
+returns c = rw (c .refused-at .ensures) (ran-unread (c .before .before .before .before .before .before .before .before .before .loop .inv) (c .before .before .before .before .before .before .before .before .loop-test .taken) (c .before .before .before .before .before .before .before .rest .ensures .0) (c .before .before .before .before .before .before .item-at .ensures .0) (c .before .before .before .before .before .before .item-at .ensures .1 .0) (c .before .before .before .before .item .given .1) .1)
 
 is-passed-requires : tie.Need-is-passed-requires Inv-loop μ-loop
 is-passed-requires c κs = search needs
@@ -102,20 +108,26 @@ enum-known-n c = search needs
 cast-refused-at-2 : tie.Need-cast-refused-at-2 Inv-loop μ-loop
 cast-refused-at-2 c = let h = c .before .before .before .before .before .before .before .before .before .before .before .loop-test .taken in let g = c .before .before .before .before .before .before .before .before .before .before .before .before .before .before .before .before .before .before .before .pre in omega (arith, h, g)
 
+slice-aggregate-rows-of-2 : tie.Need-slice-aggregate-rows-of-2 Inv-loop μ-loop
+slice-aggregate-rows-of-2 c = search needs
+
+rows-of-requires-2 : tie.Need-rows-of-requires-2 Inv-loop μ-loop
+rows-of-requires-2 c κs = search needs
+
 refused-at-requires-2 : tie.Need-refused-at-requires-2 Inv-loop μ-loop
-refused-at-requires-2 c κs = search needs
+refused-at-requires-2 c κs = ran-rows (c .before .before .before .before .before .before .before .before .before .before .before .before .before .before .loop .inv) (c .rows-of2 .ensures)
 
 same-length-4 : tie.Need-same-length-4 Inv-loop μ-loop
-same-length-4 c = c .before .before .before .before .before .before .before .before .before .before .before .before .before .loop .inv .ser-same
+same-length-4 c = c .before .before .before .before .before .before .before .before .before .before .before .before .before .before .before .loop .inv .ser-same
 
 same-length-5 : tie.Need-same-length-5 Inv-loop μ-loop
-same-length-5 c = c .before .before .before .before .before .before .before .before .before .before .before .before .before .loop .inv .pos-same
+same-length-5 c = c .before .before .before .before .before .before .before .before .before .before .before .before .before .before .before .loop .inv .pos-same
 
 same-length-6 : tie.Need-same-length-6 Inv-loop μ-loop
-same-length-6 c = c .before .before .before .before .before .before .before .before .before .before .before .before .before .loop .inv .ams-same
+same-length-6 c = c .before .before .before .before .before .before .before .before .before .before .before .before .before .before .before .loop .inv .ams-same
 
 returns-2 : tie.Need-returns-2 Inv-loop μ-loop
-returns-2 c = rw (c .refused-at2 .ensures) (ran-stop (c .before .before .before .before .before .before .before .before .before .before .before .before .before .loop .inv) (c .before .before .before .before .before .before .before .before .before .before .before .before .loop-test .taken) (c .before .before .before .before .before .before .before .before .before .before .before .rest .ensures .0) (c .before .before .before .before .before .before .before .before .before .before .item-at .ensures .0) (c .before .before .before .before .before .before .before .before .before .before .item-at .ensures .1 .0) (c .before .before .before .before .step-in .ensures) (c .before .before .n .given .1))
+returns-2 c = rw (c .refused-at2 .ensures) (ran-stop (c .before .before .before .before .before .before .before .before .before .before .before .before .before .before .before .loop .inv) (c .before .before .before .before .before .before .before .before .before .before .before .before .before .before .loop-test .taken) (c .before .before .before .before .before .before .before .before .before .before .before .before .before .rest .ensures .0) (c .before .before .before .before .before .before .before .before .before .before .before .before .item-at .ensures .0) (c .before .before .before .before .before .before .before .before .before .before .before .before .item-at .ensures .1 .0) (c .before .before .before .before .before .before .step-in .ensures) (c .before .before .before .before .n .given .1))
 
 item-len-requires-2 : tie.Need-item-len-requires-2 Inv-loop μ-loop
 item-len-requires-2 c κs = search needs
@@ -132,14 +144,14 @@ loop-again-2 c = rw (c .item-len2 .ensures) (ran-next (c .before .before .before
 cast-ended-at : tie.Need-cast-ended-at Inv-loop μ-loop
 cast-ended-at c = let g = c .before .before .before .before .before .before .before .before .pre in omega (arith, g)
 
-slice-aggregate-rows-of : tie.Need-slice-aggregate-rows-of Inv-loop μ-loop
-slice-aggregate-rows-of c = search needs
+slice-aggregate-rows-of-3 : tie.Need-slice-aggregate-rows-of-3 Inv-loop μ-loop
+slice-aggregate-rows-of-3 c = search needs
 
-rows-of-requires : tie.Need-rows-of-requires Inv-loop μ-loop
-rows-of-requires c κs = search needs
+rows-of-requires-3 : tie.Need-rows-of-requires-3 Inv-loop μ-loop
+rows-of-requires-3 c κs = search needs
 
 ended-at-requires : tie.Need-ended-at-requires Inv-loop μ-loop
-ended-at-requires c κs = search needs
+ended-at-requires c κs = ran-rows (c .before .before .before .loop .inv) (c .rows-of3 .ensures)
 
 same-length-7 : tie.Need-same-length-7 Inv-loop μ-loop
 same-length-7 c = c .before .before .before .before .loop .inv .ser-same
@@ -151,7 +163,7 @@ same-length-9 : tie.Need-same-length-9 Inv-loop μ-loop
 same-length-9 c = c .before .before .before .before .loop .inv .ams-same
 
 returns-3 : tie.Need-returns-3 Inv-loop μ-loop
-returns-3 c = ran-end (c .before .before .before .before .loop .inv) (c .before .before .before .loop-test .left) (rw (c .before .rows-of .ensures) at (c .ended-at .ensures))
+returns-3 c = ran-end (c .before .before .before .before .loop .inv) (c .before .before .before .loop-test .left) (rw (c .before .rows-of3 .ensures) at (c .ended-at .ensures))
 
 pub read-items-spec : {M : Type 1} → statement M
 read-items-spec =
@@ -167,6 +179,8 @@ read-items-spec =
     item-at-requires
     enum-known-item
     cast-refused-at
+    slice-aggregate-rows-of
+    rows-of-requires
     refused-at-requires
     same-length
     same-length-2
@@ -183,6 +197,8 @@ read-items-spec =
     enter-requires
     enum-known-n
     cast-refused-at-2
+    slice-aggregate-rows-of-2
+    rows-of-requires-2
     refused-at-requires-2
     same-length-4
     same-length-5
@@ -193,8 +209,8 @@ read-items-spec =
     loop-less-2
     loop-again-2
     cast-ended-at
-    slice-aggregate-rows-of
-    rows-of-requires
+    slice-aggregate-rows-of-3
+    rows-of-requires-3
     ended-at-requires
     same-length-7
     same-length-8

@@ -8,17 +8,13 @@ use Rattle.reader.proofs.read_sheet.Reads as reads
 use Rattle.reader.proofs.read_sheet.Lts as lts
 use Rattle.reader.proofs.clear_tables.Reads as clear-tables-reads
 use Rattle.reader.proofs.read_all.Reads as read-all-reads
-use Rattle.reader.proofs.refused_at.Reads as refused-at-reads
-use Rattle.states.proofs.State.begin.Reads as begin-reads
+use Rattle.reader.proofs.refused_first.Reads as refused-first-reads
 
 clear-tables-requires : tie.Need-clear-tables-requires
 clear-tables-requires c κs = search needs
 
-begin-requires : tie.Need-begin-requires
-begin-requires c κs = search needs
-
-refused-at-requires : tie.Need-refused-at-requires
-refused-at-requires c κs = search needs
+refused-first-requires : tie.Need-refused-first-requires
+refused-first-requires c κs = search needs
 
 same-length : tie.Need-same-length
 same-length c = search needs
@@ -30,7 +26,7 @@ same-length-3 : tie.Need-same-length-3
 same-length-3 c = search needs
 
 returns : tie.Need-returns
-returns c = let a = c .before .before .before .before .before .before .before .before .before .before .before .before .before .before .before .args in sheet-long _ (length (a .series .now)) (length (a .positions .now)) (length (a .amounts .now)) (c .before .before .before .before .before .before .before .before .clear-tables .ensures) (c .before .before .if1 .taken) (rw (← c .before .begin .ensures) (c .refused-at .ensures))
+returns c = let a = c .before .before .before .before .before .before .before .before .before .before .before .before .before .before .args in sheet-long _ (length (a .series .now)) (length (a .positions .now)) (length (a .amounts .now)) (c .before .before .before .before .before .before .before .clear-tables .ensures) (c .before .if1 .taken) (c .refused-first .ensures)
 
 read-all-requires : tie.Need-read-all-requires
 read-all-requires c κs = search needs
@@ -67,8 +63,7 @@ read-sheet-spec =
     tie.close
     (tie.spec
     clear-tables-requires
-    begin-requires
-    refused-at-requires
+    refused-first-requires
     same-length
     same-length-2
     same-length-3

@@ -2,6 +2,7 @@
 -- Assumes nothing.
 use Rattle.lines.specs.Text.{hexText}
 use Rattle.series.specs.Row.{cellsOf}
+use Rattle.notes.specs.declared.Shape.the-variants.{Old}
 use Rattle.reader.specs.Answer.{readOf}
 use Rattle.replies.specs.Reply.{lineFor}
 use Rattle.replies.proofs.Replies.{put-line, note-part, reply-long, reply-note}
@@ -53,7 +54,7 @@ returns-2 c =
     let note = part .before .before .before in
     let at = note .before .before in
     let a = at .before .before .before .args in
-    let e = note-part (readOf (a .input .now) (cellsOf 64) 2048 2048 16) _ _ _ (note .put-note .ensures .0) (note .put-note .ensures .1) (part .front .ensures .0) in
+    let e = note-part (readOf (a .input .now) (cellsOf 64) 2048 2048 Old 16) _ _ _ (note .put-note .ensures .0) (note .put-note .ensures .1) (part .front .ensures .0) in
     let h = hex .put-hex .ensures in
     let b = c .before .before .put-byte .ensures in
     rw (reply-note (a .input .now) (at .if1 .left), ← e) (put-line (hexText (part .front .result .now)) (a .out .now) _ _ _ _ (h .0) (h .1 .0) (b .0) (b .1))

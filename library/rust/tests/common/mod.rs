@@ -1,6 +1,6 @@
 //! Invented sheets, and tables that are lent with old numbers in them. No test prints a document or an amount where it fails.
 #![allow(dead_code)]
-use lumintayag::{read, Accepted, Amount, Lent, Refused, Room};
+use lumintayag::{read, read_with_shape, Accepted, Amount, Lent, Note, Refused, Room, Shape};
 
 pub const DAY: &str = "2031-02-02T23:00Z/2031-02-03T23:00Z";
 
@@ -102,14 +102,35 @@ impl Desk {
     pub fn read<'a>(&'a mut self, doc: &'a [u8]) -> Result<Accepted<'a>, Refused> {
         read(doc, self.lent())
     }
+    pub fn read_in<'a>(&'a mut self, shape: Shape, doc: &'a [u8]) -> Result<Accepted<'a>, Refused> {
+        read_with_shape(doc, self.lent(), shape)
+    }
+    /// The note in the new shape. It says what the one in the old shape says, and the depth; and the tables are the same.
+    pub fn new_note(&mut self, doc: &[u8]) -> Note {
+        let old = note_of(self.read(doc));
+        let cells = (self.series.clone(), self.positions.clone(), self.amounts.clone());
+        let new = note_of(self.read_in(Shape::New, doc));
+        assert!(cells == (self.series.clone(), self.positions.clone(), self.amounts.clone()), "other tables");
+        assert_eq!((old.shape(), new.shape(), old.depth()), (Shape::Old, Shape::New, 0));
+        assert_eq!((new.in_shape(Shape::Old), new.in_shape(Shape::New)), (old, new));
+        assert_eq!(old.in_shape(Shape::New) == new, new.depth() == 0);
+        new
+    }
     /// All cells of the tables are 0.
     pub fn is_blank(&self) -> bool {
         self.series.iter().chain(&self.positions).all(|&n| n == 0) && self.amounts.iter().all(|&a| a == 0)
     }
 }
 
-/// Number and place of a refusal, and (0, length) for acceptance. Tables are blank on a refusal, and the note says the same as the answer.
+fn note_of(answer: Result<Accepted<'_>, Refused>) -> Note {
+    answer.map_or_else(|refused| refused.note(), |accepted| accepted.note)
+}
+
+/// Number and place of a refusal, and (0, length) for acceptance. Tables are blank on a refusal, and the note says the same as the answer, in both shapes.
 pub fn verdict(doc: &[u8], desk: &mut Desk) -> (u32, usize) {
+    let deep = desk.new_note(doc);
+    assert_eq!(lumintayag::read_note(deep.as_bytes()), Ok(deep));
+    assert!(deep.refusal().is_some() || deep.depth() == 0);
     let (said, note) = match desk.read(doc) {
         Ok(Accepted { sheet, note, .. }) => {
             let intervals = sheet.iter().map(|series| series.intervals().len()).sum();

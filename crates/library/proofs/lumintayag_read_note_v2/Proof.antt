@@ -1,9 +1,9 @@
 use mathlib.Core.Path.{refl, sym, _∙_}
 use borrow.Author.Needs.{needs}
-use Rattle.library.proofs.lumintayag_read_note.Statement.{statement}
-use Rattle.library.proofs.lumintayag_read_note.Tie as tie
-use Rattle.library.proofs.lumintayag_read_note.Reads as reads
-use Rattle.library.proofs.lumintayag_read_note.Lts as lts
+use Rattle.library.proofs.lumintayag_read_note_v2.Statement.{statement}
+use Rattle.library.proofs.lumintayag_read_note_v2.Tie as tie
+use Rattle.library.proofs.lumintayag_read_note_v2.Reads as reads
+use Rattle.library.proofs.lumintayag_read_note_v2.Lts as lts
 use Rattle.library.proofs.put_numbers.Reads as put-numbers-reads
 use Rattle.notes.proofs.read_note.Reads as read-note-reads
 
@@ -44,8 +44,8 @@ returns-2 c =
     let e = sym (c .before .before .before .before .before .before .before .read-note .ensures) ∙ c .before .before .before .before .before .enum-told .given .1 in
     rw e (record { refuses = refl; puts = c .before .before .put-numbers2 .ensures })
 
-pub lumintayag-read-note-spec : {M : Type 1} → statement M
-lumintayag-read-note-spec =
+pub lumintayag-read-note-v2-spec : {M : Type 1} → statement M
+lumintayag-read-note-v2-spec =
     tie.close
     (tie.spec
     read-note-requires
