@@ -117,17 +117,17 @@ static int in_tag(const uint8_t *doc, size_t at, const char *name, const char *o
     return strncmp((const char *)doc + at + 1, name, strlen(name)) == 0 || strncmp((const char *)doc + at + 1, other, strlen(other)) == 0;
 }
 
-/* Direction and area are those of their own series: each stands behind the series' identification and before its object (kind 2) or InParty. */
+/* Direction and area are those of their own series: each stands behind the series' identification and before its object, in kind 1 InParty. */
 static void judge_optional(struct outcome o, const uint32_t *n, const uint32_t *row, int cell) {
     const uint32_t *view = row + cell;
     int is_direction = cell == LUMINTAYAG_DIRECTION;
     if (view[0] == 0) {
-        hold(view[1] == 0 && (n[2] == 2 || is_direction), "a view that is absent is 0 and 0, and that of InArea never is");
+        hold(view[1] == 0 && (n[2] == 2 || (n[2] == 1 && is_direction)), "a view that is absent is 0 and 0, that of InArea never is, and none in kind 3");
         return;
     }
     hold(view[0] > row[LUMINTAYAG_IDENTIFICATION] && view[0] < row[LUMINTAYAG_OBJECT], "a Direction or area is that of its own series");
     hold(view[1] == (is_direction ? 3 : 16), "a Direction has three bytes, and an area sixteen");
-    hold(is_direction ? n[2] == 2 && in_tag(o.doc, view[0], "Direction", "Direction") : in_tag(o.doc, view[0], "InArea", "ConnectingArea"),
+    hold(is_direction ? n[2] != 1 && in_tag(o.doc, view[0], "Direction", "Direction") : in_tag(o.doc, view[0], "InArea", "ConnectingArea"),
          "a view stands in the tag of its element");
     hold(o.doc[view[0]] != ' ' && o.doc[view[0] + view[1] - 1] != ' ', "spaces are dropped");
 }
@@ -146,16 +146,48 @@ static void judge_series(struct outcome o, const uint32_t *n, size_t i, uint32_t
     for (uint32_t k = first, before = 0; k < *rows; before = o.positions[k++])
         hold(o.positions[k] > before && o.positions[k] <= n[5] && (k > first || o.positions[k] == 1) && (n[2] == 2 || o.positions[k] == before + 1),
              "positions begin with 1 and rise to N at most");
-    hold(n[2] == 2 || count == n[5], "a series of kind 1 has N intervals");
+    hold(n[2] != 1 || count == n[5], "a series of kind 1 has N intervals");
+    hold(n[2] != 3 || count <= 100, "a series of kind 3 has at most 100 intervals");
+}
+
+/* In an accepted document `<!--` begins a comment wherever it stands. */
+static int has_tag(const uint8_t *doc, const char *tag) {
+    for (size_t i = 0; i + strlen(tag) <= length; i++) {
+        if (memcmp(doc + i, "<!--", 4) == 0)
+            while (memcmp(doc + i, "-->", 3) != 0) i++;
+        else if (memcmp(doc + i, tag, strlen(tag)) == 0) return 1;
+    }
+    return 0;
+}
+
+static int says(struct outcome o, size_t series, int cell, const char *code) {
+    const uint32_t *view = o.series + LUMINTAYAG_SERIES_ROW * series + cell;
+    return view[1] == strlen(code) && memcmp(o.doc + view[0], code, view[1]) == 0;
+}
+
+/* Kind 3: with DocStatus at most one series; else one or two of A77, of different Direction, and one of B59, or no series. */
+static void judge_constraint(struct outcome o, const uint32_t *n) {
+    size_t a77 = 0, b59 = 0, up = 0;
+    for (size_t i = 0; i < n[3]; i++) {
+        int is_a77 = says(o, i, LUMINTAYAG_BUSINESS_TYPE, "A77");
+        a77 += is_a77, b59 += says(o, i, LUMINTAYAG_BUSINESS_TYPE, "B59"), up += is_a77 && says(o, i, LUMINTAYAG_DIRECTION, "A01");
+    }
+    hold(a77 + b59 == n[3], "a series of kind 3 is A77 or B59");
+    if (has_tag(o.doc, "<DocStatus")) hold(n[3] <= 1, "with DocStatus there is at most one series");
+    else if (n[3] > 0) {
+        hold(a77 >= 1 && b59 >= 1, "there are an A77 and a B59");
+        hold(a77 == 1 || (a77 == 2 && up == 1), "two A77 have different Directions, and three there are not");
+    }
 }
 
 static void judge_acceptance(struct outcome o, const uint32_t *n) {
     size_t room = lent.positions < lent.amounts ? lent.positions : lent.amounts;
     uint32_t rows = 0;
-    hold(n[1] == length && (n[2] == 1 || n[2] == 2) && n[3] >= 1 && n[4] >= n[3] && n[5] >= 1, "the answer on acceptance");
+    hold(n[1] == length && n[2] >= 1 && n[2] <= 3 && (n[3] >= 1 || n[2] == 3) && n[4] >= n[3] && n[5] >= 1, "the answer on acceptance");
     hold(LUMINTAYAG_SERIES_ROW * (size_t)n[3] <= lent.series && n[4] <= room, "rows have room");
     for (size_t i = 0; i < n[3]; i++) judge_series(o, n, i, &rows);
     hold(rows == n[4], "the rows of the series are the intervals");
+    if (n[2] == 3) judge_constraint(o, n);
     hold(is_zero(o.series, 4 * LUMINTAYAG_SERIES_ROW * (size_t)n[3], 4 * lent.series) && is_zero(o.positions, 4 * (size_t)rows, 4 * lent.positions) &&
              is_zero(o.amounts, 8 * (size_t)rows, 8 * lent.amounts),
          "cells past the last row are 0");

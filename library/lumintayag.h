@@ -1,12 +1,12 @@
 /*
- * Lumintayag reads documents of Germany's Redispatch 2.0: Beschaffungsanforderung 1.0 (kind 1) and
- * Kostenblatt 1.0 (kind 2).
+ * Lumintayag reads documents of Germany's Redispatch 2.0: Beschaffungsanforderung 1.0 (kind 1), Kostenblatt 1.0
+ * (kind 2) and NetworkConstraintDocument 1.1a (kind 3).
  *
  * The functions below are in liblumintayag.a and liblumintayag.so. They allocate nothing, keep nothing from call
  * to call, open no file and call nothing but memset. They end for every input. What they answer and leave behind
  * is proved for every document and every length of every slice (crates/library, crates/reader, crates/notes,
  * crates/readable); no input is excepted. Threads may call them at the same time, each with slices of its own.
- * lumintayag_read_v3 takes 67 KB of stack, whatever the document; a thread that has 128 KiB has enough.
+ * lumintayag_read_v3 takes 68 KB of stack, whatever the document; a thread that has 128 KiB has enough.
  *
  * Slices. A lent slice is two arguments: a pointer, and a length in elements (not in bytes). What no proof can see
  * is left to the caller:
@@ -29,12 +29,12 @@ extern "C" {
 #endif
 
 /*
- * The version of this header, a.b.c as 10000 a + 100 b + c: 0.3.0. lumintayag_version answers that of the archive
+ * The version of this header, a.b.c as 10000 a + 100 b + c: 0.4.0. lumintayag_version answers that of the archive
  * or shared object; a program that checks that the two are equal knows that they belong together.
  * A function whose arguments, rows or cells are laid out anew gets a new name, and the old name is gone: a
  * program that knows the old layout is not linked with the new one.
  */
-#define LUMINTAYAG_VERSION 300
+#define LUMINTAYAG_VERSION 400
 uint32_t lumintayag_version(void);
 
 /* A longer document is refused with 1. */
@@ -66,12 +66,12 @@ uint32_t lumintayag_version(void);
 #define LUMINTAYAG_SERIES_ROW 12
 
 /*
- * Rows that are room for every document: an Interval takes 45 bytes at least and a series 410, in a document of
+ * Rows that are room for every document: an Interval takes 45 bytes at least and a series 398, in a document of
  * at most 1,048,576. These two numbers are counted from the guideline and not proved; with tables of this room no
  * document should be refused with 4. All of what is lent is made 0 first, so that a caller who knows its sheets
  * lends less and is served quicker.
  */
-#define LUMINTAYAG_SERIES_ROOM 2558
+#define LUMINTAYAG_SERIES_ROOM 2635
 #define LUMINTAYAG_INTERVALS_ROOM 23302
 
 /*
@@ -97,13 +97,14 @@ uint32_t lumintayag_version(void);
 /* Kinds. 0 is a document whose root was not accepted. */
 #define LUMINTAYAG_BESCHAFFUNGSANFORDERUNG 1
 #define LUMINTAYAG_KOSTENBLATT 2
+#define LUMINTAYAG_NETWORK_CONSTRAINT_DOCUMENT 3
 
 /* The cells of the answer. The first five are those of the note. */
 enum {
     LUMINTAYAG_REFUSAL = 0,   /* 0 or a refusal's number */
     LUMINTAYAG_PLACE = 1,     /* see above */
     LUMINTAYAG_KIND = 2,      /* on a refusal, that of a root start before the faulty item, else 0 */
-    LUMINTAYAG_SERIES = 3,    /* series; on a refusal, their start tags before the faulty item */
+    LUMINTAYAG_SERIES = 3,    /* series, in kind 3 perhaps none; on a refusal, their start tags before the faulty item */
     LUMINTAYAG_INTERVALS = 4, /* intervals; on a refusal, their start tags before the faulty item */
     LUMINTAYAG_QUARTERS = 5,  /* N: quarter hours of TimePeriodCovered; 0 on every refusal */
     LUMINTAYAG_NOTE_LEN = 6   /* bytes of the note; 0 on refusal 10 */
@@ -125,14 +126,14 @@ enum {
  * and a length is in bytes between the quotes, so what it shows is doc[start] to doc[start + length - 1], without
  * a 0 after it. Lengths may be 0. A value that the series does not have is start 0 and length 0; one that it has
  * never starts at 0. In kind 2 Direction and ConnectingArea may be absent. In kind 1 there is no Direction, and
- * InArea is always there.
+ * InArea is always there. In kind 3 both are always there.
  */
 enum {
     LUMINTAYAG_IDENTIFICATION = 0,  /* start and length of the TimeSeriesIdentification */
-    LUMINTAYAG_OBJECT = 2,          /* of InParty (kind 1) or ResourceObject (kind 2) */
+    LUMINTAYAG_OBJECT = 2,          /* of InParty (kind 1) or ResourceObject (kinds 2 and 3) */
     LUMINTAYAG_BUSINESS_TYPE = 4,   /* of BusinessType, without the spaces at its ends */
     LUMINTAYAG_DIRECTION = 6,       /* of Direction, without the spaces at its ends: A01 is up, A02 is down */
-    LUMINTAYAG_AREA = 8,            /* of InArea (kind 1) or ConnectingArea (kind 2) */
+    LUMINTAYAG_AREA = 8,            /* of InArea (kind 1) or ConnectingArea (kinds 2 and 3) */
     LUMINTAYAG_FIRST_INTERVAL = 10, /* its first row in the position and amount tables */
     LUMINTAYAG_INTERVAL_COUNT = 11  /* and how many rows it has there */
 };
@@ -155,13 +156,18 @@ enum {
  *
  * Pos 1 is the first quarter hour of TimePeriodCovered, and N the last. Kind 1: a series has N intervals, with Pos
  * 1 to N. Kind 2 (curve A03): the first Pos of a series is 1, later ones rise and are at most N, and an amount
- * stands until the next Pos, the last one to the end of quarter hour N.
+ * stands until the next Pos, the last one to the end of quarter hour N. Kind 3: a series has 1 to 100 intervals, with
+ * Pos 1, 2, 3 and so on, at most N; each amount is that of its own quarter hour, and those after the last Pos have
+ * none.
  *
  * An amount is megawatts in kind 1; in kind 2 euros by MeasurementUnit: per piece (Z01), per megawatt hour (Z02)
- * or per hour (Z03). The unit is no cell of the row. What the format descriptions tell in prose of one value beside
- * another is judged only where the build scope lists it: a Direction may be absent, and a unit may stand with any
- * BusinessType. So amounts of two series can be compared where kind, BusinessType, Direction and MeasurementUnit
- * are the same, which the caller has to see to.
+ * or per hour (Z03); in kind 3 megawatts (MAW) or a share (C62). The unit is no cell of the row. What the format
+ * descriptions tell in prose of one value beside another is judged only where the build scope or a request lists it:
+ * in kind 2 a Direction may be absent, and a unit may stand with any BusinessType. So amounts of two series can be
+ * compared where kind, BusinessType, Direction and MeasurementUnit are the same, which the caller has to see to.
+ *
+ * Kind 3 has no series, or with no DocStatus one or two of BusinessType A77, two only with different Direction, and
+ * at least one of B59; with a DocStatus (A13, withdrawn) at most one series, of either. DocStatus is no cell.
  *
  * Nothing but the amounts depends on the digits of a price: two documents of equal length that differ only in
  * digits of readable Qty values get the same answer and, in the same shape, the same note, and the same cells but for

@@ -23,7 +23,7 @@ REFUSALS = [
 ]
 DEPTHS = ["", "one element", "two elements", "three elements", "four elements", "five elements", "six elements", "seven elements",
           "eight elements", "nine elements", "ten elements", "eleven elements", "twelve elements"]
-KINDS = ["no root yet", "Beschaffungsanforderung", "Kostenblatt"]
+KINDS = ["no root yet", "Beschaffungsanforderung", "Kostenblatt", "NetworkConstraintDocument"]
 
 
 def printed(*numbers):
@@ -76,13 +76,13 @@ def explained(line):
 
 
 LINES = [
-    # acceptance of both kinds, and each refusal
-    printed(0, 15871, 2, 2, 192), printed(0, 20480, 1, 1, 1),
+    # acceptance of all kinds, and each refusal
+    printed(0, 15871, 2, 2, 192), printed(0, 20480, 1, 1, 1), printed(0, 2048, 3, 2, 3), printed(3, 57, 3, 0, 0),
     printed(1, 0, 0, 0, 0), printed(2, 1234, 1, 0, 0), printed(3, 0, 0, 0, 0), printed(3, 45, 2, 0, 0),
     printed(4, 65535, 1, 64, 0), printed(5, 0, 0, 0, 0), printed(6, 1234, 2, 2, 17), printed(7, 300, 1, 0, 0),
     printed(8, 9999, 2, 1, 1), printed(9, 128, 2, 1, 96), printed(10, 0, 0, 0, 0),
     # notes that no document reader gives
-    printed(11, 0, 0, 0, 0), printed(0, 0, 0, 0, 0), printed(300, 2097151, 3, 10, 2),
+    printed(11, 0, 0, 0, 0), printed(0, 0, 0, 0, 0), printed(300, 2097151, 4, 10, 2),
     printed(2097151, 2097151, 2097151, 2097151, 2097151),
     # the new shape, at every depth that has a word and at some that have none
     printed(100, 0, 15871, 2, 2, 192, 0), printed(100, 3, 45, 2, 0, 0, 1), *[printed(100, 6, 1234, 2, 2, 17, d) for d in range(18)],

@@ -1,5 +1,5 @@
 #!/usr/bin/env python3
-"""Makes the vectors of forms_run, from 01's words alone: `forms.py stdin` and `forms.py stdout` print the files of these names."""
+"""Makes the vectors of forms_run, from the words of 01 and 02 alone: `forms.py stdin` and `forms.py stdout` print the files of these names."""
 import re
 import sys
 from decimal import Decimal
@@ -7,7 +7,7 @@ from decimal import Decimal
 LISTS = [
     "Z07", "Z05", "A14", "A10 NDE", "A01", "NDE", "A18 A39", "A18 A27 A39", "A02", "A01 A04 Z01 Z02 Z03", "A01 A02",
     "8716867000016", "10YDE-ENBW-----N 10YDE-EON------1 10YDE-RWENET---I 10YDE-VE-------2 10YFLENSBURG---3", "A03", "MAW",
-    "Z01 Z02 Z03", "Z01 Z02 Z03 Z04 Z05",
+    "Z01 Z02 Z03", "Z01 Z02 Z03 Z04 Z05", "B15", "A13", "A77 B59", "A01 A02 NDE Z01", "A01 A02 Z01", "C62 MAW",
 ]
 CODES = [c for l in LISTS for c in l.split()]
 
@@ -39,6 +39,7 @@ def answer(raw):
     if v is None:
         v = w = "\ufffd" * characters(raw)
     out += [flag(r".{0,35}", v), flag(r"[0-9]{13}", v), flag(r"[ABC][A-Z0-9]{9}[0-9]", v), flag(r"[A-Z0-9-]{16}", v), flag(r"1\.0", v)]
+    out += [flag(r".{0,36}", v), flag(r"4", v), flag(r"1", v), flag(r"1\.1a", v)]
     out += [flag(r"PT15M", w), number(w, 3), number(w, 5), amount(w)]
     return " ".join(out + [listed(v), listed(w)])
 
@@ -86,7 +87,7 @@ def numbers():
 
 def texts():
     for c in ("a", "ä", "€", "𝄞", "\u00a0"):
-        for n in (0, 1, 19, 20, 34, 35, 36, 40):
+        for n in (0, 1, 19, 20, 34, 35, 36, 37, 40):
             yield c * n
     for n in (33, 34, 35):
         yield "ä" * n + "x"
@@ -99,7 +100,7 @@ def texts():
         yield base[:3] + "_" + base[4:]
         yield "D" + base[1:]
         yield base[:-1] + "Z"
-    yield from ["1.0", "1.1", "1.00", "1,0", "10", "1.0 ", " 1.0", "PT15M", "pt15m", "PT15", "PT15MM", "PT60M", "PT900S", "PT0H15M", ""]
+    yield from ["1.0", "1.1", "1.00", "1,0", "10", "1.0 ", " 1.0", "4", "4 ", "1.1a", "1.1A", "1.1", "PT15M", "pt15m", "PT15", "PT15MM", "PT60M", "PT900S", "PT0H15M", ""]
 
 
 def codes():

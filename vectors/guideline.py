@@ -1,5 +1,5 @@
 #!/usr/bin/env python3
-"""What guideline_run is to print, made from docs/GUIDELINE.md alone: the tables of sections 2 and 3 and the list names of section 5.
+"""What guideline_run is to print, made from docs/GUIDELINE.md alone: the tables of sections 2 to 4 and the list names of section 5.
 
     guideline.py GUIDELINE.md names  > crates/guideline_run/stdin
     guideline.py GUIDELINE.md rows   > crates/guideline_run/stdout
@@ -7,8 +7,9 @@
 import sys
 
 FORMS = ["", "identification", "series identification", "market partner ID", "version", "date-time", "period covered", "time interval",
-         "resolution", "Pos", "amount", "ResourceObject", "party"]
+         "resolution", "Pos", "amount", "ResourceObject", "party", "grid element"]
 ROLES = {"Period": 3, "Interval": 4, "BusinessType": 7, "TimeSeriesIdentification": 8, "Pos": 9, "Qty": 10, "Direction": 11}
+KINDS = {1: "2", 2: "3", 3: "4"}  # the section of each kind
 
 
 def tables(path):
@@ -77,22 +78,22 @@ def main():
     found = tables(sys.argv[1])
     lists = [r[0] for r in found["5."][1:] if r[0]]
     names = []
-    for section in ("2.1", "3.1"):
-        names += [r[1] for r in found[section][1:] if r[0] != "0" and r[1] not in names]
+    for section in KINDS.values():
+        names += [r[1] for r in found[section + ".1"][1:] if r[0] != "0" and r[1] not in names]
     numbers = {n: k + 1 for k, n in enumerate(names)}
     near = [""] + [n[:-1] for n in names] + [n + "s" for n in names] + [n.lower() for n in names] + [n[1:] + n[0] for n in names]
     asked = names + [n for n in near if n not in numbers]
     if sys.argv[2] == "names":
         print("\n".join(asked))
         return
-    for section in ("2", "3"):
+    for section in KINDS.values():
         for r in rows(found[section + ".1"], attributes(found[section + ".2"]), lists, numbers):
             print("row", *r)
-    for kind, section in ((1, "2.1"), (2, "3.1")):
-        least, most = [r[3] for r in found[section] if r[1] == "Interval"][0].split("..")
+    for kind, section in KINDS.items():
+        least, most = [r[3] for r in found[section + ".1"] if r[1] == "Interval"][0].split("..")
         for n in (0, 1, 91, 92, 99, 100):
             print("intervals", kind, n, int(int(least) <= n), int(most == "n" or n < int(most)))
-    roots = {numbers[found["2.1"][2][1]]: 1, numbers[found["3.1"][2][1]]: 2}
+    roots = {numbers[found[section + ".1"][2][1]]: kind for kind, section in KINDS.items()}
     for k in range(256):
         print("root", k, roots.get(k, 0))
     for n in asked:

@@ -135,6 +135,7 @@ def thousandths(value):
 IDENTIFICATION = form(lambda value: len(value) <= 35)
 PARTNER = pattern("[0-9]{13}")
 OBJECT = pattern("[ABC][A-Z0-9]{9}[0-9]")
+GRID_ELEMENT = form(lambda value: len(value) <= 36)
 PARTY = pattern("[A-Z0-9-]{16}")
 VERSION = pattern("[1-9][0-9]{0,2}")
 POS = pattern("[1-9][0-9]{0,4}")
@@ -146,7 +147,8 @@ AREA = codes("10YDE-ENBW-----N", "10YDE-EON------1", "10YDE-RWENET---I", "10YDE-
 
 # ---------------------------------------------------------------- Structure tables
 
-Row = namedtuple("Row", "name least most attributes children")
+# optional: the attributes that may be absent
+Row = namedtuple("Row", "name least most attributes children optional", defaults=((),))
 
 
 def leaf(name, v, codingScheme=None, least=1):
@@ -154,8 +156,12 @@ def leaf(name, v, codingScheme=None, least=1):
     return Row(name, least, 1, attributes, ())
 
 
-def root(name, document_type, sender_roles, series):
-    return Row(name, 1, 1, {"DtdBDEWNachrichtenVersion": pattern(r"1\.0")}, (
+VERSION_1_0 = {"DtdBDEWNachrichtenVersion": pattern(r"1\.0")}
+VERSION_1_1A = {"DtdVersion": pattern("4"), "DtdRelease": pattern("1"), "DtdBDEWNachrichtenVersion": pattern(r"1\.1a")}
+
+
+def root(name, document_type, sender_roles, *last, attributes=VERSION_1_0, optional=()):
+    return Row(name, 1, 1, attributes, (
         leaf("DocumentIdentification", IDENTIFICATION),
         leaf("DocumentVersion", collapse(VERSION)),
         leaf("DocumentType", collapse(codes(document_type))),
@@ -166,11 +172,11 @@ def root(name, document_type, sender_roles, series):
         leaf("ReceiverRole", collapse(codes("A18", "A39"))),
         leaf("DocumentDateTime", collapse(DATE_TIME)),
         leaf("TimePeriodCovered", INTERVAL),
-        series))
+        *last), optional)
 
 
-def series(name, rows, fewest, most):
-    return Row(name, 1, sys.maxsize, {}, rows + (
+def series(name, rows, fewest, most, least=1):
+    return Row(name, least, sys.maxsize, {}, rows + (
         leaf("OriginalSenderIdentification", PARTNER, ("A10", "NDE"), least=0),
         leaf("OriginalDocumentIdentification", IDENTIFICATION, least=0),
         leaf("OriginalDocumentVersion", VERSION, least=0),
@@ -206,8 +212,23 @@ KIND_2 = root("Kostenblatt", "Z05", ("A18", "A27", "A39"), series("CostTimeSerie
     leaf("MeasurementUnit", collapse(codes("Z01", "Z02", "Z03"))),
     leaf("Status", collapse(codes("Z01", "Z02", "Z03", "Z04", "Z05")), least=0)), 1, sys.maxsize))
 
-KINDS = {"Beschaffungsanforderung": 1, "Kostenblatt": 2}
-ROOTS = {0: None, 1: KIND_1, 2: KIND_2}
+KIND_3 = root("NetworkConstraintDocument", "B15", ("A18", "A39"),
+              leaf("DocStatus", collapse(codes("A13")), least=0),
+              series("NetworkConstraintTimeSeries", (
+                  leaf("TimeSeriesIdentification", IDENTIFICATION),
+                  leaf("BusinessType", collapse(codes("A77", "B59"))),
+                  leaf("Direction", collapse(codes("A01", "A02"))),
+                  leaf("ConnectingArea", AREA, ("A01",)),
+                  leaf("ResourceObject", GRID_ELEMENT, ("A01", "A02", "NDE", "Z01")),
+                  leaf("ResourceProvider", PARTNER, ("A10", "NDE"), least=0),
+                  leaf("RequestingGridOperator", PARTNER, ("A10", "NDE"), least=0),
+                  leaf("GridElement", GRID_ELEMENT, ("A01", "A02", "Z01"), least=0),
+                  leaf("MeasurementUnit", collapse(codes("C62", "MAW")))), 1, 100, least=0),
+              attributes=VERSION_1_1A, optional=("DtdBDEWNachrichtenVersion",))
+
+KINDS = {"Beschaffungsanforderung": 1, "Kostenblatt": 2, "NetworkConstraintDocument": 3}
+ROOTS = {0: None, 1: KIND_1, 2: KIND_2, 3: KIND_3}
+SERIES = ("ScheduleTimeSeries", "CostTimeSeries", "NetworkConstraintTimeSeries")
 QUARTER = timedelta(minutes=15)
 
 # The numbers that a series takes, and those after its five views.
@@ -233,6 +254,7 @@ class Reading:
         self.open, self.kind, self.period, self.n = [], 0, None, 0
         self.series, self.used, self.originals = [], set(), 0
         self.intervals, self.positions, self.amounts = 0, [], []
+        self.withdrawn, self.businesses, self.directions = False, [], []
 
     def due(self, name):
         """The row of an element that is due with this name, or None."""
@@ -277,7 +299,13 @@ class Reading:
     def faults_of_end(self, item):
         if not self.open or self.open[-1][0].name != item.name.decode() or not self.complete():
             return [3]
-        return [8] if item.name == b"Period" and self.kind == 1 and self.inside() != self.n else []
+        if item.name == b"Period" and self.kind == 1 and self.inside() != self.n:
+            return [8]
+        return [8] if item.name == b"NetworkConstraintDocument" and self.lacks_a_business() else []
+
+    def lacks_a_business(self):
+        """Without DocStatus, a document with series has [..] A77 [..], and at least one B59."""
+        return self.series and not self.withdrawn and not {"A77", "B59"} <= set(self.businesses)
 
     def faults_of_start(self, item):
         row = self.due(item.name.decode())
@@ -286,11 +314,13 @@ class Reading:
         given, numbers = self.values(item), []
         if item.sort == "empty" and row.children:
             numbers.append(3)
-        if row.name in ("ScheduleTimeSeries", "CostTimeSeries") and len(self.series) >= self.series_room:
+        if row.name in SERIES and len(self.series) >= self.series_room:
             numbers.append(4)
+        if row.name in SERIES and self.series and self.withdrawn:
+            numbers.append(8)
         if row.name == "Interval" and self.intervals >= self.interval_room:
             numbers.append(4)
-        if given.keys() != row.attributes.keys():
+        if not row.attributes.keys() - row.optional <= given.keys() <= row.attributes.keys():
             numbers.append(5)
         own = {name: row.attributes[name](value) for name, value in given.items() if name in row.attributes}
         numbers += own.values()
@@ -305,8 +335,18 @@ class Reading:
             "TimePeriodCovered": lambda: 0 if self.period_fits(*interval(value)) else 8,
             "TimeInterval": lambda: 0 if value == self.period else 8,
             "TimeSeriesIdentification": lambda: 9 if value in self.used else 0,
-            "Pos": lambda: 0 if self.pos_fits(int(value.strip(" "))) else 8}
+            "Pos": lambda: 0 if self.pos_fits(int(value.strip(" "))) else 8,
+            "BusinessType": lambda: 8 if self.a_third_a77(value.strip(" ")) else 0,
+            "Direction": lambda: 8 if self.an_equal_direction(value.strip(" ")) else 0}
         return wrong[name]() if name in wrong else 0
+
+    def a_third_a77(self, business):
+        return self.kind == 3 and not self.withdrawn and business == "A77" and self.businesses.count("A77") == 2
+
+    def an_equal_direction(self, direction):
+        """Two only with different Direction: of the series that is being read, its BusinessType is the last one."""
+        before = [said for business, said in zip(self.businesses, self.directions) if business == "A77"]
+        return self.kind == 3 and not self.withdrawn and self.businesses[-1] == "A77" and direction in before
 
     def period_fits(self, start, end):
         if self.kind == 1:
@@ -317,7 +357,7 @@ class Reading:
     def pos_fits(self, pos):
         if pos > self.n:
             return False
-        if self.kind == 1 or self.inside() == 1:
+        if self.kind != 2 or self.inside() == 1:
             return pos == self.inside()
         return pos > self.positions[-1]
 
@@ -348,7 +388,9 @@ class Reading:
             self.period = raw.decode()
             first, last = interval(self.period)
             self.n = (last - first) // QUARTER
-        elif row.name in ("ScheduleTimeSeries", "CostTimeSeries"):
+        elif row.name == "DocStatus":
+            self.withdrawn = True
+        elif row.name in SERIES:
             self.series.append([0] * FIRST + [self.intervals, 0])
             self.originals = 0
         elif row.name == "TimeSeriesIdentification":
@@ -357,8 +399,10 @@ class Reading:
         elif row.name == "InParty" or row.name == "ResourceObject":
             self.series[-1][2:4] = start, length
         elif row.name == "BusinessType":
+            self.businesses.append(raw.decode().strip(" "))
             self.series[-1][4:6] = start + len(raw) - len(raw.lstrip(b" ")), len(raw.strip(b" "))
         elif row.name == "Direction":
+            self.directions.append(raw.decode().strip(" "))
             self.series[-1][6:8] = start + len(raw) - len(raw.lstrip(b" ")), len(raw.strip(b" "))
         elif row.name == "InArea" or row.name == "ConnectingArea":
             self.series[-1][8:10] = start, length
@@ -473,8 +517,10 @@ def edited(text, *edits):
 DECLARED = '<?xml version="1.0" encoding="UTF-8"?>\n'
 START_1 = '<Beschaffungsanforderung DtdBDEWNachrichtenVersion="1.0">'
 START_2 = '<Kostenblatt DtdBDEWNachrichtenVersion="1.0">'
+START_3 = '<NetworkConstraintDocument DtdVersion="4" DtdRelease="1" DtdBDEWNachrichtenVersion="1.1a">'
 END_1 = "</Beschaffungsanforderung>"
 END_2 = "</Kostenblatt>"
+END_3 = "</NetworkConstraintDocument>"
 DAY = "2024-05-06T22:00Z/2024-05-07T22:00Z"
 ORIGINALS = """<OriginalSenderIdentification v="4012345000047" codingScheme="NDE"/>
 <OriginalDocumentIdentification v="OD-7"/>
@@ -562,12 +608,57 @@ def first_rows(count):
     return [(pos, pos * 1000 - 500) for pos in range(1, count + 1)]
 
 
+DOC_STATUS = '<DocStatus v="A13"/>\n'
+PROVIDER = '<ResourceProvider v="4012345000030" codingScheme="NDE"/>\n'
+OPERATOR = '<RequestingGridOperator v="4012345000054" codingScheme="A10"/>\n'
+ELEMENT = '<GridElement v="NBM 220 kV" codingScheme="Z01"/>\n'
+COUNTED = [(1, "10.5"), (2, "-3.25")]
+COUNTED_ROWS = [(1, 10500), (2, -3250)]
+
+
+def constraint(identification="N-1", business="A77", direction="A01", pairs=COUNTED, period=DAY, area=AREAS[3], thing="NBM-17",
+               scheme="A01", optional="", unit="MAW", originals=""):
+    return f"""<NetworkConstraintTimeSeries>
+<TimeSeriesIdentification v="{identification}"/>
+<BusinessType v="{business}"/>
+<Direction v="{direction}"/>
+<ConnectingArea v="{area}" codingScheme="A01"/>
+<ResourceObject v="{thing}" codingScheme="{scheme}"/>
+{optional}<MeasurementUnit v="{unit}"/>
+{originals}<Period>
+<TimeInterval v="{period}"/>
+<Resolution v="PT15M"/>
+{intervals_of(pairs)}</Period>
+</NetworkConstraintTimeSeries>
+"""
+
+
+def sensitivity(identification="N-2", direction="A01", pairs=((1, "0.5"),), **others):
+    return constraint(identification, "B59", direction, pairs, **{"thing": "A1234567890", "scheme": "NDE", "unit": "C62", **others})
+
+
+def three(*constraints, status="", period=DAY):
+    return DECLARED + START_3 + head("B15", "A18", period) + status + "".join(constraints) + END_3 + "\n"
+
+
+def three_row(identification="N-1", business="A77", direction="A01", pairs=COUNTED_ROWS, area=AREAS[3], thing="NBM-17"):
+    return identification, thing, business, pairs, direction, area
+
+
+def sensitivity_row(identification="N-2", direction="A01", pairs=((1, 500),), area=AREAS[3], thing="A1234567890"):
+    return three_row(identification, "B59", direction, pairs, area, thing)
+
+
 TWO = two(cost())
 ALL_TWO = two(cost(direction=DIRECTION, area=CONNECTING, status=STATUS, originals=ORIGINALS))
 TWO_ROW = ("S-1", "C0ABCDEFGH1", "A01", SOME_ROWS)
 ALL_ROW = (*TWO_ROW, "A02", "10YDE-EON------1")
 # Kind 1 with all optional parts, given up after its second interval: for faults that come earlier.
 BEGUN_ONE = one(schedule(first(2), originals=ORIGINALS)).partition("</Period>")[0]
+THREE = three(constraint(), sensitivity())
+THREE_ROWS = [three_row(), sensitivity_row()]
+# Kind 3 with all optional parts; with DocStatus it has one series.
+ALL_THREE = three(constraint(optional=PROVIDER + OPERATOR + ELEMENT, originals=ORIGINALS), status=DOC_STATUS)
 SPRING = "2024-03-30T23:00Z/2024-03-31T22:00Z"
 AUTUMN = "2024-10-26T22:00Z/2024-10-27T23:00Z"
 
@@ -579,6 +670,11 @@ def in_two(name, refusal, series, intervals, *edits):
 
 def in_one(name, refusal, series, intervals, *edits):
     refused(name, refusal, 1, series, intervals, edited(BEGUN_ONE, *edits))
+
+
+def in_three(name, refusal, series, intervals, *edits):
+    """A fault in the kind 3 document that has all optional parts, one series and two intervals."""
+    refused("three-" + name, refusal, 3, series, intervals, edited(ALL_THREE, *edits))
 
 
 def after_root(name, refusal, text):
@@ -751,6 +847,113 @@ def accepted_one():
         ('<SenderRole v="A18"/>', '<SenderRole v="A39"/>'), ('<ReceiverRole v="A39"/>', '<ReceiverRole v="A18"/>'),
         ('000016" codingScheme="A10"', '000016" codingScheme="NDE"'), ('000023" codingScheme="NDE"', '000023" codingScheme="A10"')))
     taken("one-compact-single-quotes", 1, 96, row(96), one(schedule(first(96))).replace("\n", "").replace('"', "'"))
+
+
+# ---------------------------------------------------------------- Accepted, kind 3
+
+def accepted_three():
+    def good(name, rows, text, n=96):
+        taken("three-" + name, 3, n, rows, text)
+    good("plain", THREE_ROWS, THREE)
+    good("all-optional", [three_row()], ALL_THREE)
+    good("no-series", [], three())
+    good("no-series-doc-status", [], three(status=DOC_STATUS))
+    good("doc-status-one-a77", [three_row()], three(constraint(), status=DOC_STATUS))
+    good("doc-status-one-b59", [sensitivity_row()], three(sensitivity(), status=DOC_STATUS))
+    other = three_row("N-3", direction="A02")
+    good("two-a77", [three_row(), other, sensitivity_row()], three(constraint(), constraint("N-3", direction="A02"), sensitivity()))
+    good("two-a77-turned", [other, three_row(), sensitivity_row()], three(constraint("N-3", direction="A02"), constraint(), sensitivity()))
+    good("b59-between", [three_row(), sensitivity_row(), other], three(constraint(), sensitivity(), constraint("N-3", direction="A02")))
+    good("b59-first", [sensitivity_row(), three_row()], three(sensitivity(), constraint()))
+    good("b59-of-other-direction-between", [three_row(), sensitivity_row(direction="A02"), other],
+         three(constraint(), sensitivity(direction="A02"), constraint("N-3", direction="A02")))
+    good("many-b59", [three_row(), *(sensitivity_row(f"B-{i}") for i in range(9)), other, sensitivity_row()],
+         three(constraint(), *(sensitivity(f"B-{i}") for i in range(9)), constraint("N-3", direction="A02"), sensitivity()))
+    good("64-series", [sensitivity_row(f"B-{i}") for i in range(63)] + [three_row()], three(*(sensitivity(f"B-{i}") for i in range(63)), constraint()))
+    for name, part in (("provider", PROVIDER), ("operator", OPERATOR), ("element", ELEMENT), ("provider-and-element", PROVIDER + ELEMENT),
+                       ("operator-and-element", OPERATOR + ELEMENT)):
+        good(name + "-only", THREE_ROWS, three(constraint(optional=part), sensitivity()))
+    good("originals-only", THREE_ROWS, three(constraint(), sensitivity(originals=ORIGINALS)))
+    good("compact", [three_row()], re.sub("\n", "", ALL_THREE))
+    good("single-quotes", [three_row()], ALL_THREE.replace('"', "'"))
+    good("start-with-end", [three_row()], re.sub(r"<(\w+)( [^>]*)/>", r"<\1\2><!-- \1 --></\1>", ALL_THREE))
+    good("after-root", THREE_ROWS, THREE + "<!-- after -->\r\n\t <!---->")
+
+
+def roots_of_three():
+    for name, start in (
+            ("no-message-version", '<NetworkConstraintDocument DtdVersion="4" DtdRelease="1">'),
+            ("root-turned", '<NetworkConstraintDocument DtdBDEWNachrichtenVersion="1.1a" DtdRelease="1" DtdVersion="4">'),
+            ("root-single-quotes", "<NetworkConstraintDocument\r\n DtdVersion = '4'\tDtdRelease='1' >"),
+            ("root-namespaces", '<NetworkConstraintDocument xmlns="urn:x" DtdVersion="4" xsi:schemaLocation="ä b" DtdRelease="1" xmlns:xsi="y" xsi:="">'),
+            ("root-many-namespaces", START_3.replace(">", MANY + ">"))):
+        taken("three-" + name, 3, 96, THREE_ROWS, edited(THREE, (START_3, start)))
+
+
+def counts_of_three():
+    def good(name, count, n, period):
+        taken("three-" + name, 3, n, [three_row(pairs=first_rows(count)), sensitivity_row(pairs=first_rows(1))],
+              three(constraint(pairs=first(count), period=period), sensitivity(pairs=first(1), period=period), period=period))
+    short, hour = "2024-05-06T00:07Z/2024-05-06T00:22Z", "2024-05-06T10:00Z/2024-05-06T11:00Z"
+    year, two_days = "2024-01-01T00:00Z/2025-01-01T00:00Z", "2024-05-06T00:00Z/2024-05-08T00:00Z"
+    good("one-interval", 1, 96, DAY)
+    good("n-1", 1, 1, short)
+    good("n-of-4", 4, 4, hour)
+    good("3-of-4", 3, 4, hour)
+    good("96-of-96", 96, 96, DAY)
+    good("100-of-100", 100, 100, AUTUMN)
+    good("100-of-192", 100, 192, two_days)
+    good("n-35136", 100, 35136, year)
+    good("99-of-35136", 99, 35136, "2023-01-01T00:00Z/2024-01-02T00:00Z")
+    good("92-in-may", 92, 92, "2024-05-10T23:00Z/2024-05-11T22:00Z")
+    good("last-year", 1, 1, "2099-12-31T23:30Z/2099-12-31T23:45Z")
+
+    def full(name, refusal, count, due, period, mark):
+        """Intervals that are counted up to count, of which the mark's one is refused."""
+        text = three(constraint(pairs=first(count), period=period), sensitivity(period=period), period=period)
+        refused("three-" + name, refusal, 3, 1, due, edited(text, (mark, MARK + mark)))
+    full("5-of-4", 8, 5, 5, hour, '<Pos v="5"/>')
+    full("2-of-1", 8, 2, 2, short, '<Pos v="2"/>')
+    full("97-of-96", 8, 97, 97, DAY, '<Pos v="97"/>')
+    full("100-of-96", 8, 100, 97, DAY, '<Pos v="97"/>')
+    full("100-of-99", 8, 100, 100, "2024-05-06T00:00Z/2024-05-07T00:45Z", '<Pos v="100"/>')
+    for name, period in (("100", AUTUMN), ("192", two_days), ("35136", year)):
+        full("101-of-" + name, 3, 101, 100, period, '<Interval><Pos v="101"/>')
+    refused("three-101-empty-tag", 3, 3, 1, 100, edited(
+        three(constraint(pairs=first(100), period=AUTUMN), period=AUTUMN), ("</Period>", "@@<Interval/></Period>")))
+    refused("three-intervals-none", 3, 3, 1, 0, edited(three(constraint(pairs=[]), sensitivity()), ("PT15M\"/>\n</Period>", "PT15M\"/>\n@@</Period>")))
+
+
+def values_of_three():
+    schemes, grid_schemes = ("A01", "A02", "NDE", "Z01"), ("A01", "A02", "Z01")
+    rows = [three_row("N-0", area=AREAS[0]), three_row("N-1", direction="A02", area=AREAS[1]), sensitivity_row("N-2", area=AREAS[2]),
+            sensitivity_row("N-3", "A02", area=AREAS[3]), sensitivity_row("N-4", area=AREAS[4])]
+    texts = [constraint("N-0", area=AREAS[0], scheme=schemes[0], unit="C62"), constraint("N-1", direction="A02", area=AREAS[1], scheme=schemes[1]),
+             *(sensitivity(f"N-{i}", f"A0{i % 2 + 1}", area=AREAS[i], scheme=(schemes * 2)[i], unit=("C62", "MAW", "C62")[i - 2],
+                           optional=f'<GridElement v="NBM" codingScheme="{grid_schemes[i - 2]}"/>\n') for i in (2, 3, 4))]
+    taken("three-every-code", 3, 96, rows, edited(three(*texts), ('<SenderRole v="A18"/>', '<SenderRole v="A39"/>'),
+                                                 ('<ReceiverRole v="A39"/>', '<ReceiverRole v="A18"/>')))
+    other = edited(OPERATOR, ('"A10"', '"NDE"')) + ELEMENT
+    taken("three-party-schemes", 3, 96, [three_row(), sensitivity_row()], edited(
+        three(constraint(optional=edited(PROVIDER, ('"NDE"', '"A10"')) + other), sensitivity()),
+        ('000016" codingScheme="A10"', '000016" codingScheme="NDE"'), ('000023" codingScheme="NDE"', '000023" codingScheme="A10"')))
+    for name, thing in (("empty", ""), ("36", 36 * "x"), ("umlauts-36", 36 * "ä"), ("four-bytes-36", 36 * "\U0001f4a1"),
+                        ("spaces", "  NBM 17 "), ("small-letters", "d0abc/./x")):
+        taken("three-object-" + name, 3, 96, [three_row(thing=thing), sensitivity_row()], three(constraint(thing=thing), sensitivity()))
+        element = f'<GridElement codingScheme="A02" v="{thing}"/>\n'
+        taken("three-element-" + name, 3, 96, THREE_ROWS, three(constraint(), sensitivity(optional=element)))
+    amounts = [("-0", 0), ("-1", -1000), ("999999999999.999", 999999999999999), ("1.001", 1001), ("  12.34 ", 12340), ("000000000000", 0), ("-0.001", -1)]
+    pairs, read_as = [(i, text) for i, (text, _) in enumerate(amounts, 1)], [(i, amount) for i, (_, amount) in enumerate(amounts, 1)]
+    taken("three-amounts", 3, 96, [three_row(pairs=read_as), sensitivity_row(pairs=read_as)], three(constraint(pairs=pairs), sensitivity(pairs=pairs)))
+    taken("three-spaces-dropped", 3, 96, [three_row()], edited(ALL_THREE, *(
+        (f'v="{value}"', f'v="  {value} "') for value in (
+            "3", "B15", "A14", "A18", "A39", "2024-05-06T07:08:09Z", "A13", "A77", "A01", "MAW", "2024-05-05T10:11:12Z", "PT15M", "1", "2", "10.5", "-3.25")),
+        ('codingScheme="A01"/>\n<ResourceObject', 'codingScheme=" A01 "/>\n<ResourceObject'), ('NBM-17" codingScheme="A01"', 'NBM-17" codingScheme=" A01"'),
+        ('codingScheme="Z01"', 'codingScheme="Z01  "'), ('000030" codingScheme="NDE"', '000030" codingScheme=" NDE "'),
+        ('000054" codingScheme="A10"', '000054" codingScheme=" A10 "'), ('000016" codingScheme="A10"', '000016" codingScheme=" A10"')))
+    taken("three-directions-spaced", 3, 96, [three_row(), three_row("N-3", direction="A02"), sensitivity_row()],
+          three(constraint(direction="A01 "), constraint("N-3", business=" A77", direction="  A02"), sensitivity()))
+    taken("three-ids", 3, 96, [three_row(""), sensitivity_row(35 * "ß")], edited(three(constraint(""), sensitivity(35 * "ß")), ('"D-1"', '""')))
 
 
 # ---------------------------------------------------------------- Refused: short documents and the examples of 01
@@ -1084,6 +1287,229 @@ def counts_of_one():
         '<Interval><Pos v="101"/>', '@@<Interval><Pos v="101"/>'))
 
 
+# ---------------------------------------------------------------- Refused: the rows of kind 3
+
+def starts_of_three():
+    def short(name, refusal, text, kind=0):
+        refused("three-root-" + name, refusal, kind, 0, 0, text)
+
+    def attributes(name, refusal, text):
+        short(name, refusal, f"@@<NetworkConstraintDocument{text}>")
+    short("alone", 3, '<NetworkConstraintDocument DtdVersion="4" DtdRelease="1">@@', 3)
+    short("alone-message", 3, START_3 + "@@", 3)
+    short("end-at-once", 3, START_3 + "@@" + END_3, 3)
+    short("small-letter", 3, "@@" + START_3.replace("<N", "<n"))
+    short("empty-tag", 3, "@@" + START_3.replace(">", "/>"))
+    short("empty-tag-bare", 3, "@@<NetworkConstraintDocument/>")
+    attributes("no-attribute", 5, "")
+    attributes("no-version", 5, ' DtdRelease="1" DtdBDEWNachrichtenVersion="1.1a"')
+    attributes("no-release", 5, ' DtdVersion="4" DtdBDEWNachrichtenVersion="1.1a"')
+    attributes("no-release-other-version", 5, ' DtdVersion="5"')
+    attributes("message-alone", 5, ' DtdBDEWNachrichtenVersion="1.1a"')
+    attributes("of-two", 5, ' DtdBDEWNachrichtenVersion="1.0"')
+    attributes("unknown", 5, ' DtdVersion="4" DtdRelease="1" v="4"')
+    attributes("unknown-and-other-release", 5, ' DtdVersion="4" DtdRelease="2" dtdRelease="1"')
+    attributes("xsi", 5, ' DtdVersion="4" DtdRelease="1" xsi="4"')
+    attributes("version-twice", 2, ' DtdVersion="4" DtdRelease="1" DtdVersion="4"')
+    for name, old, new in (("version-5", '"4"', '"5"'), ("version-space", '"4"', '" 4"'), ("version-empty", '"4"', '""'), ("version-4-0", '"4"', '"4.0"'),
+                           ("release-2", '"1"', '"2"'), ("release-space", '"1"', '"1 "'), ("release-empty", '"1"', '""'), ("release-01", '"1"', '"01"'),
+                           ("message-empty", '"1.1a"', '""'), ("message-1-0", '"1.1a"', '"1.0"'), ("message-1-1", '"1.1a"', '"1.1"'),
+                           ("message-space", '"1.1a"', '"1.1a "'), ("message-upper", '"1.1a"', '"1.1A"')):
+        short(name, 6, "@@" + edited(START_3, (old, new)))
+    for name, refusal, old, new in (("no-version", 5, ' DtdVersion="4"', ""), ("no-release", 5, ' DtdRelease="1"', ""), ("other-version", 6, '"4"', '"3"'),
+                                    ("other-release", 6, '"1"', '"0"'), ("other-message", 6, "1.1a", "1.1")):
+        refused("three-whole-" + name, refusal, 0, 0, 0, edited(THREE, (START_3, MARK + edited(START_3, (old, new)))))
+    for kind, start in (("one", START_1), ("two", START_2)):
+        for name, attribute in (("version", 'DtdVersion="4"'), ("release", 'DtdRelease="1"')):
+            refused(f"{kind}-root-dtd-{name}", 5, 0, 0, 0, "@@" + start.replace(">", f" {attribute}>"))
+
+
+def head_of_three():
+    def fault(name, refusal, old, new):
+        in_three(name, refusal, 0, 0, (old, new))
+    fault("document-id-36", 6, '<DocumentIdentification v="D-1"/>', f'@@<DocumentIdentification v="{36 * "x"}"/>')
+    fault("document-version-0", 6, '<DocumentVersion v="3"/>', '@@<DocumentVersion v="0"/>')
+    fault("document-version-dtd-version", 5, '<DocumentVersion v="3"/>', '@@<DocumentVersion v="3" DtdVersion="4"/>')
+    for name, code in (("one", "Z07"), ("two", "Z05")):
+        fault("document-type-of-" + name, 7, '<DocumentType v="B15"/>', f'@@<DocumentType v="{code}"/>')
+    fault("process-type-code", 7, '<ProcessType v="A14"/>', '@@<ProcessType v="A13"/>')
+    sender, receiver = '<SenderIdentification v="4012345000016" codingScheme="A10"/>', '<ReceiverIdentification v="4012345000023" codingScheme="NDE"/>'
+    fault("sender-12-digits", 6, sender, '@@<SenderIdentification v="401234500001" codingScheme="A10"/>')
+    fault("sender-scheme", 7, sender, '@@<SenderIdentification v="4012345000016" codingScheme="Z01"/>')
+    fault("sender-role-of-two", 7, '<SenderRole v="A18"/>', '@@<SenderRole v="A27"/>')
+    fault("receiver-space", 6, receiver, '@@<ReceiverIdentification v=" 4012345000023" codingScheme="NDE"/>')
+    fault("receiver-scheme", 7, receiver, '@@<ReceiverIdentification v="4012345000023" codingScheme="A01"/>')
+    fault("receiver-role-of-sender-of-two", 7, '<ReceiverRole v="A39"/>', '@@<ReceiverRole v="A27"/>')
+    fault("date-time-no-seconds", 6, '<DocumentDateTime v="2024-05-06T07:08:09Z"/>', '@@<DocumentDateTime v="2024-05-06T07:08Z"/>')
+    covered = f'<TimePeriodCovered v="{DAY}"/>\n'
+    for name, refusal, value in (
+            ("seconds", 6, "2024-05-06T22:00:00Z/2024-05-07T22:00:00Z"), ("space", 6, " " + DAY), ("end-2100", 6, "2099-12-31T00:00Z/2100-01-01T00:00Z"),
+            ("end-before-start", 8, "2024-05-07T22:00Z/2024-05-06T22:00Z"), ("no-length", 8, "2024-05-06T22:00Z/2024-05-06T22:00Z"),
+            ("20-minutes", 8, "2024-05-06T22:00Z/2024-05-06T22:20Z"), ("over-366-days", 8, "2024-01-01T00:00Z/2025-01-01T00:15Z")):
+        fault("period-covered-" + name, refusal, covered, f'@@<TimePeriodCovered v="{value}"/>')
+    for name, value in (("a14", "A14"), ("a01", "A01"), ("empty", ""), ("small-letter", "a13"), ("space-inside", "A 13")):
+        fault("doc-status-" + name, 7, DOC_STATUS, f'@@<DocStatus v="{value}"/>')
+    fault("doc-status-no-v", 5, DOC_STATUS, "@@<DocStatus/>")
+    fault("doc-status-scheme", 5, DOC_STATUS, '@@<DocStatus v="A13" codingScheme="A01"/>')
+    fault("doc-status-small-name", 3, DOC_STATUS, '@@<docStatus v="A13"/>')
+    fault("doc-status-twice", 3, DOC_STATUS, DOC_STATUS + "@@" + DOC_STATUS)
+    fault("doc-status-early", 3, covered + DOC_STATUS, "@@" + DOC_STATUS + covered)
+    fault("doc-status-not-ended", 3, DOC_STATUS, '<DocStatus v="A13">@@')
+    refused("three-doc-status-after-series", 3, 3, 1, 2, edited(three(constraint()), (END_3, "@@" + DOC_STATUS + END_3)))
+    refused("three-status-of-two", 3, 3, 0, 0, edited(ALL_THREE, (DOC_STATUS, '@@<Status v="Z01"/>')))
+    series_start = "<NetworkConstraintTimeSeries>"
+    fault("series-attribute", 5, series_start, '@@<NetworkConstraintTimeSeries v="">')
+    fault("series-empty-tag", 3, series_start, "@@<NetworkConstraintTimeSeries/>")
+    fault("series-of-one", 3, series_start, "@@<ScheduleTimeSeries>")
+    fault("series-of-two", 3, series_start, "@@<CostTimeSeries>")
+
+
+def series_of_three():
+    def fault(name, refusal, old, new):
+        in_three(name, refusal, 1, 0, (old, new))
+    fault("series-id-36", 6, '<TimeSeriesIdentification v="N-1"/>', f'@@<TimeSeriesIdentification v="{36 * "ä"}"/>')
+    fault("business-type-of-one", 7, '<BusinessType v="A77"/>', '@@<BusinessType v="A02"/>')
+    fault("business-type-of-two", 7, '<BusinessType v="A77"/>', '@@<BusinessType v="A01"/>')
+    fault("business-type-b58", 7, '<BusinessType v="A77"/>', '@@<BusinessType v="B58"/>')
+    direction, area = '<Direction v="A01"/>\n', f'<ConnectingArea v="{AREAS[3]}" codingScheme="A01"/>\n'
+    fault("direction-code", 7, direction, '@@<Direction v="A03"/>\n')
+    fault("direction-no-v", 5, direction, "@@<Direction/>")
+    fault("direction-twice", 3, direction, direction + "@@" + direction)
+    fault("product", 3, area, '@@<Product v="8716867000016"/>' + area)
+    for name, value in (("lost-dash", "10YDE-EON-----1"), ("space", "10YDE-EON------1 "), ("commas", "10Y,,,,,,,,,,,,,"), ("18", "10YDE-VE---------2"),
+                        ("other", "10YDE-OTHER----7"), ("empty", "")):
+        fault("area-" + name, 7, area, f'@@<ConnectingArea v="{value}" codingScheme="A01"/>')
+    fault("area-scheme", 7, area, f'@@<ConnectingArea v="{AREAS[3]}" codingScheme="NDE"/>')
+    fault("area-no-scheme", 5, area, f'@@<ConnectingArea v="{AREAS[3]}"/>')
+    thing = '<ResourceObject v="NBM-17" codingScheme="A01"/>\n'
+    for name, value in (("37", 37 * "x"), ("umlauts-37", 37 * "ä"), ("four-bytes-37", 37 * "\U0001f4a1")):
+        fault("object-" + name, 6, thing, f'@@<ResourceObject v="{value}" codingScheme="A01"/>')
+        fault("element-" + name, 6, ELEMENT, f'@@<GridElement v="{value}" codingScheme="A01"/>')
+    fault("object-scheme", 7, thing, '@@<ResourceObject v="NBM-17" codingScheme="A10"/>')
+    fault("object-no-scheme", 5, thing, '@@<ResourceObject v="NBM-17"/>')
+    fault("object-no-v", 5, thing, '@@<ResourceObject codingScheme="A01"/>')
+    fault("object-both-wrong", 6, thing, f'@@<ResourceObject v="{37 * "x"}" codingScheme="A10"/>')
+    fault("object-before-area", 3, area + thing, "@@" + thing + area)
+    fault("provider-form", 6, PROVIDER, '@@<ResourceProvider v="401234500003X" codingScheme="A10"/>')
+    fault("provider-space", 6, PROVIDER, '@@<ResourceProvider v="4012345000030 " codingScheme="A10"/>')
+    fault("provider-scheme", 7, PROVIDER, '@@<ResourceProvider v="4012345000030" codingScheme="A01"/>')
+    fault("provider-twice", 3, PROVIDER, PROVIDER + "@@" + PROVIDER)
+    fault("provider-late", 3, PROVIDER + OPERATOR, OPERATOR + "@@" + PROVIDER)
+    fault("operator-form", 6, OPERATOR, '@@<RequestingGridOperator v="40123450000540" codingScheme="A10"/>')
+    fault("operator-space", 6, OPERATOR, '@@<RequestingGridOperator v=" 4012345000054" codingScheme="A10"/>')
+    fault("operator-scheme", 7, OPERATOR, '@@<RequestingGridOperator v="4012345000054" codingScheme="Z01"/>')
+    fault("operator-no-scheme", 5, OPERATOR, '@@<RequestingGridOperator v="4012345000054"/>')
+    fault("operator-late", 3, OPERATOR + ELEMENT, ELEMENT + "@@" + OPERATOR)
+    fault("operator-before-object", 3, thing, "@@" + OPERATOR + thing)
+    fault("element-scheme", 7, ELEMENT, '@@<GridElement v="NBM" codingScheme="NDE"/>')
+    fault("element-no-scheme", 5, ELEMENT, '@@<GridElement v="NBM"/>')
+    fault("element-twice", 3, ELEMENT, ELEMENT + "@@" + ELEMENT)
+    unit = '<MeasurementUnit v="MAW"/>\n'
+    fault("element-late", 3, ELEMENT + unit, unit + "@@" + ELEMENT)
+    fault("unit-of-two", 7, unit, '@@<MeasurementUnit v="Z01"/>')
+    fault("unit-small-letters", 7, unit, '@@<MeasurementUnit v="maw"/>')
+    fault("curve-type", 3, unit, '@@<CurveType v="A03"/>' + unit)
+    fault("status", 3, unit, unit + '@@<Status v="Z01"/>')
+    sender = '<OriginalSenderIdentification v="4012345000047" codingScheme="NDE"/>'
+    fault("original-sender-space", 6, sender, '@@<OriginalSenderIdentification v=" 4012345000047" codingScheme="NDE"/>')
+    fault("original-sender-no-scheme", 5, sender, '@@<OriginalSenderIdentification v="4012345000047"/>')
+    fault("original-document-id-36", 6, '<OriginalDocumentIdentification v="OD-7"/>', f'@@<OriginalDocumentIdentification v="{36 * "x"}"/>')
+    fault("original-version-space", 6, '<OriginalDocumentVersion v="7"/>', '@@<OriginalDocumentVersion v=" 7"/>')
+    fault("original-date-time-no-seconds", 6, '<OriginalDocumentDateTime v="2024-05-05T10:11:12Z"/>',
+          '@@<OriginalDocumentDateTime v="2024-05-05T10:11Z"/>')
+    fault("original-series-id-36", 6, '<OriginalTimeSeriesIdentification v="OS-7"/>', f'@@<OriginalTimeSeriesIdentification v="{36 * "y"}"/>')
+    fault("original-only-one", 8, ORIGINALS + "<Period>", sender + "\n@@<Period>")
+    in_three("original-one-missing", 8, 1, 0, ('<OriginalDocumentVersion v="7"/>\n', ""), ("<Period>", "@@<Period>"))
+    in_three("original-one-missing-attribute", 5, 1, 0, ('<OriginalDocumentVersion v="7"/>\n', ""), ("<Period>", '@@<Period v="1">'))
+
+
+def period_of_three():
+    def fault(name, refusal, intervals, old, new):
+        in_three(name, refusal, 1, intervals, (old, new))
+    fault("period-attribute", 5, 0, "<Period>", '@@<Period x="">')
+    fault("period-empty-tag", 3, 0, "<Period>", "@@<Period/>")
+    fault("period-twice", 3, 2, "</Period>\n", "</Period>\n@@<Period>\n")
+    interval_tag = f'<TimeInterval v="{DAY}"/>'
+    fault("time-interval-form", 6, 0, interval_tag, f'@@<TimeInterval v="{DAY} "/>')
+    fault("time-interval-differs", 8, 0, interval_tag, '@@<TimeInterval v="2024-05-06T22:00Z/2024-05-07T21:45Z"/>')
+    fault("resolution-pt1h", 8, 0, '<Resolution v="PT15M"/>', '@@<Resolution v="PT1H"/>')
+    fault("resolution-empty", 8, 0, '<Resolution v="PT15M"/>', '@@<Resolution v=""/>')
+    fault("resolution-no-v", 5, 0, '<Resolution v="PT15M"/>', "@@<Resolution/>")
+    second = '<Interval><Pos v="2"/>'
+    fault("interval-attribute", 5, 1, second, '@@<Interval v="2"><Pos v="2"/>')
+    fault("interval-empty-tag", 3, 1, second, "@@<Interval/>" + second)
+    for name, value in (("0", "0"), ("100000", "100000"), ("02", "02"), ("empty", "")):
+        fault("pos-" + name, 6, 2, '<Pos v="2"/>', f'@@<Pos v="{value}"/>')
+    for name, value in (("2", "2"), ("101", "101"), ("97", "97"), ("99999", "99999")):
+        fault("pos-first-" + name, 8, 1, '<Pos v="1"/>', f'@@<Pos v="{value}"/>')
+    fault("pos-first-100000", 6, 1, '<Pos v="1"/>', '@@<Pos v="100000"/>')
+    fault("pos-again", 8, 2, '<Pos v="2"/>', '@@<Pos v="1"/>')
+    fault("pos-skips", 8, 2, '<Pos v="2"/>', '@@<Pos v="3"/>')
+    fault("pos-skips-unknown-attribute", 5, 2, '<Pos v="2"/>', '@@<Pos v="3" w=""/>')
+    fault("pos-missing", 3, 2, '<Pos v="2"/>', "@@")
+    refused("three-pos-not-from-1-again", 8, 3, 2, 3, three(constraint(), sensitivity(pairs=[(3, 1)])).replace('<Pos v="3"/>', '@@<Pos v="3"/>'))
+    for name, value in (("point-last", "5."), ("point-first", ".5"), ("plus", "+5"), ("empty", ""), ("comma", "0,5")):
+        fault("qty-" + name, 6, 2, '<Qty v="-3.25"/>', f'@@<Qty v="{value}"/>')
+    fault("qty-missing", 3, 2, '<Qty v="-3.25"/>', "@@")
+    fault("qty-no-v", 5, 2, '<Qty v="-3.25"/>', "@@<Qty/>")
+
+
+def series_against_each_other():
+    """02: "Refusals: 8 at a third A77's BusinessType, at a second A77's equal Direction, at the second series after a DocStatus, and at the root's end for a
+    missing A77 or B59." The smaller numbers come before it."""
+    def at(name, refusal, series, intervals, tag, *texts, status=""):
+        """The tag is that of the last series."""
+        whole = three(*texts, status=status)
+        before, found, after = whole.rpartition(tag)
+        assert found, name
+        refused("three-" + name, refusal, 3, series, intervals, before + MARK + tag + after)
+    up, down, element = constraint(), constraint("N-3", direction="A02"), sensitivity()
+    for name, refusal, series, intervals, texts in (
+            ("third-a77", 8, 3, 4, (up, down)), ("third-a77-b59-first", 8, 4, 5, (element, up, down)), ("third-a77-b59-between", 8, 4, 5, (up, element, down))):
+        for direction in ("A01", "A02"):
+            at(f"{name}-{direction.lower()}", refusal, series, intervals, '<BusinessType v="A77"/>', *texts, constraint("N-9", direction=direction))
+    at("third-a77-spaces", 8, 3, 4, '<BusinessType v="  A77 "/>', up, down, constraint("N-9", business="  A77 "))
+    third = '<BusinessType v="A77"/>'
+    for name, refusal, tag in (("unknown-attribute", 5, '<BusinessType v="A77" w=""/>'), ("no-v", 5, "<BusinessType/>"), ("code", 7, '<BusinessType v="A78"/>'),
+                               ("twice-in-tag", 2, '<BusinessType v="A77" v="A77"/>'), ("not-due", 3, '<Direction v="A77"/>')):
+        at("third-a77-" + name, refusal, 3, 4, tag, up, down, constraint("N-9").replace(third, tag))
+    at("third-a77-id-used", 9, 3, 4, '<TimeSeriesIdentification v="N-1"/>', up, down, constraint("N-1"))
+    same = '<Direction v="A01"/>'
+    at("second-a77-equal-direction", 8, 2, 2, same, up, constraint("N-3"))
+    at("second-a77-equal-direction-b59-between", 8, 3, 3, same, up, element, constraint("N-3"))
+    at("second-a77-equal-direction-b59-of-other-between", 8, 3, 3, same, up, sensitivity(direction="A02"), constraint("N-3"))
+    at("second-a77-equal-direction-down", 8, 2, 2, '<Direction v="A02"/>', down, constraint("N-4", direction="A02"))
+    at("second-a77-equal-direction-spaces", 8, 2, 2, '<Direction v=" A01  "/>', up, constraint("N-3", direction=" A01  "))
+    at("second-a77-equal-direction-first-spaces", 8, 2, 2, same, constraint(business="A77 ", direction="A01 "), constraint("N-3", business=" A77"))
+    for name, refusal, tag in (("unknown-attribute", 5, '<Direction v="A01" w=""/>'), ("code", 7, '<Direction v="A03"/>'), ("empty", 7, '<Direction v=""/>'),
+                               ("not-due", 3, '<Product v="A01"/>'), ("twice-in-tag", 2, '<Direction v="A01" v="A02"/>')):
+        at("second-a77-equal-direction-" + name, refusal, 2, 2, tag, up, constraint("N-3").replace(same, tag))
+    start = "<NetworkConstraintTimeSeries>"
+    at("doc-status-second-series", 8, 1, 2, start, up, element, status=DOC_STATUS)
+    at("doc-status-second-series-b59", 8, 1, 1, start, element, up, status=DOC_STATUS)
+    at("doc-status-second-series-equal-direction", 8, 1, 2, start, up, constraint("N-3"), status=DOC_STATUS)
+    at("doc-status-second-series-id-used", 8, 1, 2, start, up, constraint(), status=DOC_STATUS)
+    for name, refusal, tag in (("empty-tag", 3, "<NetworkConstraintTimeSeries/>"), ("attribute", 5, '<NetworkConstraintTimeSeries v="">'),
+                               ("empty-tag-attribute", 3, '<NetworkConstraintTimeSeries v=""/>'), ("other-name", 3, "<CostTimeSeries>"),
+                               ("attribute-twice", 2, '<NetworkConstraintTimeSeries v="" v="">')):
+        at("doc-status-second-series-" + name, refusal, 1, 2, tag, up, sensitivity().replace(start, tag), status=DOC_STATUS)
+    at("no-a77", 8, 1, 1, END_3, element)
+    at("no-b59", 8, 1, 2, END_3, up)
+    at("no-b59-two-a77", 8, 2, 4, END_3, up, down)
+    at("no-a77-two-b59", 8, 2, 2, END_3, element, sensitivity("N-3", "A02"))
+    refused("three-no-b59-other-end", 3, 3, 1, 2, edited(three(up), (END_3, "@@" + END_2)))
+    refused("three-no-b59-end-attribute", 2, 3, 1, 2, edited(three(up), (END_3, '@@</NetworkConstraintDocument v="">')))
+    refused("three-no-b59-no-end", 3, 3, 1, 2, three(up).partition(END_3)[0] + "@@")
+    refused("three-no-b59-text", 3, 3, 1, 2, edited(three(up), ("</NetworkConstraintTimeSeries>\n" + END_3, "</NetworkConstraintTimeSeries>@@\nB59" + END_3)))
+    refused("three-id-used", 9, 3, 2, 2, edited(
+        three(up, sensitivity("N-1x")), ('<TimeSeriesIdentification v="N-1x"/>', '@@<TimeSeriesIdentification v="N-1"/>')))
+    refused("three-65-series", 4, 3, 64, 65, edited(three(*(sensitivity(f"B-{i}") for i in range(63)), up, sensitivity("B-64")),
+                                                   ('<NetworkConstraintTimeSeries>\n<TimeSeriesIdentification v="B-64"/>',
+                                                    '@@<NetworkConstraintTimeSeries>\n<TimeSeriesIdentification v="B-64"/>')))
+    for name, refusal, text in (("text", 3, "@@\n."), ("second-root", 3, "@@" + START_3), ("end-tag-again", 3, "@@" + END_3)):
+        refused("three-late-" + name, refusal, 3, 2, 3, THREE.rstrip("\n") + text)
+
+
 # ---------------------------------------------------------------- Refused: tables full, identifications used, several faults, late faults
 
 def missing_rows():
@@ -1102,7 +1528,10 @@ def missing_rows():
             "TimeSeriesIdentification BusinessType Product ResourceObject ResourceProvider CurveType MeasurementUnit Status".split())
     missing("one", BEGUN_ONE, 1, 1, ("TimeSeriesIdentification BusinessType Product InArea OutArea InParty OutParty MeasurementUnit "
                                      "OriginalSenderIdentification").split())
-    for document, text, kind in (("two", ALL_TWO, 2), ("one", BEGUN_ONE, 1)):
+    missing("three", ALL_THREE, 3, 0, top + ["DocStatus"])
+    missing("three", ALL_THREE.replace(PROVIDER + OPERATOR + ELEMENT, ""), 3, 1,
+            "TimeSeriesIdentification BusinessType Direction ConnectingArea ResourceObject MeasurementUnit OriginalSenderIdentification".split())
+    for document, text, kind in (("two", ALL_TWO, 2), ("one", BEGUN_ONE, 1), ("three", ALL_THREE, 3)):
         missing(document, text, kind, 1, ["TimeInterval", "Resolution", "Interval"])
 
 
@@ -1201,6 +1630,16 @@ def other_examples():
     assert read(doc.replace(b"<Interval><Pos v=\"5\"/>", b"<Interval/>"), 12, 1, 1)[:2] == (3, second)
     hundred = raw(one(schedule(first(101), period=AUTUMN), period=AUTUMN))
     assert read(hundred, 12, 100, 100)[:2] == (3, hundred.rindex(b"<Interval>"))
+    # Kind 3: the note of a root alone, the second series after a DocStatus with and without room, and the 101st Interval with full tables.
+    assert read(b'<NetworkConstraintDocument DtdVersion="4" DtdRelease="1">')[:7] == (3, 57, 3, 0, 0, 0, bytes.fromhex("0339030000"))
+    withdrawn = raw(three(constraint(), sensitivity(), status=DOC_STATUS))
+    again = withdrawn.rindex(b"<NetworkConstraintTimeSeries>")
+    assert [read(withdrawn, cells)[:6] for cells in (12, 23, 24)] == 2 * [(4, again, 3, 1, 2, 0)] + [(8, again, 3, 1, 2, 0)]
+    for room, refusal, place in ((100, 3, b"<Interval>"), (101, 3, b"<Interval>"), (99, 4, b'<Interval><Pos v="100"/>')):
+        hundred = raw(three(constraint(pairs=first(101), period=AUTUMN), period=AUTUMN))
+        assert read(hundred, 12, room, room)[:2] == (refusal, hundred.rindex(place)), room
+    fifth = raw(three(constraint(pairs=first(5), period="2024-05-06T10:00Z/2024-05-06T11:00Z"), period="2024-05-06T10:00Z/2024-05-06T11:00Z"))
+    assert [read(fifth, 12, room, room)[:2] for room in (4, 5)] == [(4, fifth.rindex(b"<Interval>")), (8, fifth.rindex(b"<Pos"))]
     pair = raw(two(cost(), cost("S-2")))
     assert [read(pair, cells)[:2] for cells in (0, 11, 12, 23, 24, 35)] == 2 * [(4, pair.index(b"<CostTimeSeries>"))] + \
         2 * [(4, pair.rindex(b"<CostTimeSeries>"))] + 2 * [(0, len(pair))]
@@ -1248,8 +1687,9 @@ def line(name, answer):
 
 
 def main():
-    for group in (accepted_two, directions_and_areas, accepted_values, accepted_items, accepted_one, short_documents, declarations, unreadable_items,
-                  other_text, rows_of_head, rows_of_series, rows_of_originals, rows_of_period, rows_of_one, counts_of_one,
+    for group in (accepted_two, directions_and_areas, accepted_values, accepted_items, accepted_one, accepted_three, roots_of_three, counts_of_three,
+                  values_of_three, starts_of_three, head_of_three, series_of_three, period_of_three, series_against_each_other, short_documents,
+                  declarations, unreadable_items, other_text, rows_of_head, rows_of_series, rows_of_originals, rows_of_period, rows_of_one, counts_of_one,
                   missing_rows, near_names, places_in_notes, full_tables, used_identifications, several_faults, late_faults,
                   other_examples):
         group()

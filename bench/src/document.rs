@@ -57,19 +57,8 @@ fn interval(s: &mut Sheet, k: usize, pos: usize) {
     s.close("Interval");
 }
 
-/// A series of 96 intervals, or of fewer where the document would go past `size` bytes.
-fn series(s: &mut Sheet, k: usize, size: usize) {
-    s.open("<CostTimeSeries>");
-    s.leaf("TimeSeriesIdentification", &format!("TS-{k:06}"));
-    s.leaf("BusinessType", "A01");
-    s.leaf("Direction", if k % 2 == 0 { "A01" } else { "A02" });
-    s.leaf("Product", "8716867000016");
-    s.coded("ConnectingArea", "10YDE-EON------1", "A01");
-    s.coded("ResourceObject", &format!("C{:010}", 4_000_000 + k * 7), "NDE");
-    s.coded("ResourceProvider", "9900000000017", "NDE");
-    s.leaf("CurveType", "A03");
-    s.leaf("MeasurementUnit", "Z02");
-    s.leaf("Status", "Z01");
+/// The Period of series `k`: 96 intervals, or fewer where the document would go past `size` bytes.
+fn period(s: &mut Sheet, k: usize, size: usize) {
     s.open("<Period>");
     s.leaf("TimeInterval", "2031-02-02T23:00Z/2031-02-03T23:00Z");
     s.leaf("Resolution", "PT15M");
@@ -82,12 +71,60 @@ fn series(s: &mut Sheet, k: usize, size: usize) {
         }
     }
     s.close("Period");
+}
+
+fn series(s: &mut Sheet, k: usize, size: usize) {
+    s.open("<CostTimeSeries>");
+    s.leaf("TimeSeriesIdentification", &format!("TS-{k:06}"));
+    s.leaf("BusinessType", "A01");
+    s.leaf("Direction", if k % 2 == 0 { "A01" } else { "A02" });
+    s.leaf("Product", "8716867000016");
+    s.coded("ConnectingArea", "10YDE-EON------1", "A01");
+    s.coded("ResourceObject", &format!("C{:010}", 4_000_000 + k * 7), "NDE");
+    s.coded("ResourceProvider", "9900000000017", "NDE");
+    s.leaf("CurveType", "A03");
+    s.leaf("MeasurementUnit", "Z02");
+    s.leaf("Status", "Z01");
+    period(s, k, size);
     s.close("CostTimeSeries");
 }
 
+/// In kind 3 two of the three end tags are longer.
+const LONGER: usize = 32;
+
+/// A series of a NetworkConstraintDocument: the first two are A77, of both Directions, all others B59.
+fn constraint(s: &mut Sheet, k: usize, size: usize) {
+    s.open("<NetworkConstraintTimeSeries>");
+    s.leaf("TimeSeriesIdentification", &format!("TS-{k:06}"));
+    s.leaf("BusinessType", if k < 2 { "A77" } else { "B59" });
+    s.leaf("Direction", if k % 2 == 0 { "A01" } else { "A02" });
+    s.coded("ConnectingArea", "10YDE-EON------1", "A01");
+    s.coded("ResourceObject", &format!("C{:010}", 4_000_000 + k * 7), "NDE");
+    s.coded("GridElement", "1f0c2a4e-77b1-4c55-9d1e-000000000417", "Z01");
+    s.leaf("MeasurementUnit", if k < 2 { "MAW" } else { "C62" });
+    period(s, k, size.saturating_sub(LONGER));
+    s.close("NetworkConstraintTimeSeries");
+}
+
+/// Series until `size` bytes are nearly reached, and three at least: two A77 and a B59.
+pub fn network_constraint_document(size: usize, pretty: bool) -> Vec<u8> {
+    let mut s = Sheet { text: String::new(), pretty, depth: 0 };
+    s.open("<NetworkConstraintDocument DtdVersion=\"4\" DtdRelease=\"1\" DtdBDEWNachrichtenVersion=\"1.1a\">");
+    head(&mut s, "B15", "A18");
+    let mut k = 0;
+    while k < 3 || s.text.len() + FRONT < size {
+        constraint(&mut s, k, size);
+        k += 1;
+    }
+    s.close("NetworkConstraintDocument");
+    s.text.into_bytes()
+}
+
+/// A series without its intervals takes less.
+const FRONT: usize = 1500;
+
 /// Series until `size` bytes are nearly reached; curve A03 lets the last one have fewer intervals.
 pub fn kostenblatt(size: usize, pretty: bool) -> Vec<u8> {
-    const FRONT: usize = 1500; // a series without its intervals takes less
     let mut s = Sheet { text: String::new(), pretty, depth: 0 };
     s.open("<Kostenblatt DtdBDEWNachrichtenVersion=\"1.0\">");
     head(&mut s, "Z05", "A27");

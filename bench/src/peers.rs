@@ -119,11 +119,15 @@ fn judge_of(schema: &str) -> *mut c_void {
 }
 
 thread_local! {
-    static JUDGES: [*mut c_void; 2] = [judge_of("beschaffungsanforderung"), judge_of("kostenblatt")];
+    static JUDGES: [*mut c_void; 3] = ["beschaffungsanforderung", "kostenblatt", "networkconstraintdocument"].map(judge_of);
 }
 
 fn by_judge(doc: &[u8], judged: impl Fn(*mut c_void) -> c_int) -> usize {
-    let kind = if doc.starts_with(b"<B") { 0 } else { 1 };
+    let kind = match doc.get(1) {
+        Some(b'B') => 0,
+        Some(b'K') => 1,
+        _ => 2,
+    };
     if JUDGES.with(|judges| judged(judges[kind])) == 0 { doc.len() } else { 0 }
 }
 

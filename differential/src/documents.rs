@@ -46,7 +46,7 @@ pub fn document(seed: u64, number: u64) -> Document {
     if random.one_in(12) {
         return soup_document(random);
     }
-    let kind = if random.one_in(5) { 1 } else { 2 };
+    let kind = random.one_of(&[1, 2, 2, 2, 3, 3]);
     let (mut pieces, plan) = right_pieces(random, kind);
     let lengths = lengths_for(random, &pieces);
     break_rules(random, &mut pieces, &plan);
@@ -58,17 +58,17 @@ pub fn document(seed: u64, number: u64) -> Document {
     Document { bytes, lengths }
 }
 
-/// Windows 0 and 2 of four have a document of kind 2 each, cut from its front on. Windows 1 and 3 have the same one of kind 1, which is
-/// longer: cut from its front on, then from its end back.
+/// Windows 0 and 2 of six have a document of kind 2 each, windows 4 and 5 one of kind 3 each, cut from its front on. Windows 1 and 3 have the
+/// same one of kind 1, which is longer: cut from its front on, then from its end back.
 fn cut_document(seed: u64, turn: u64) -> Document {
     let window = turn / WINDOW;
-    let kind = if window % 2 == 1 { 1 } else { 2 };
-    let random = &mut Random::new(seed ^ 0x0063_7574, if kind == 1 { window / 4 * 4 + 1 } else { window });
+    let kind = [2, 1, 2, 1, 3, 3][(window % 6) as usize];
+    let random = &mut Random::new(seed ^ 0x0063_7574, if kind == 1 { window / 6 * 6 + 1 } else { window });
     let (pieces, _) = right_pieces(random, kind);
     let style = Style::any(random);
     let mut bytes = spelled(random, &pieces, &style);
     let step = (turn % WINDOW) as usize % (bytes.len() + 1);
-    bytes.truncate(if window % 4 == 3 { bytes.len() - step } else { step });
+    bytes.truncate(if window % 6 == 3 { bytes.len() - step } else { step });
     Document { bytes, lengths: enough(&pieces) }
 }
 
@@ -102,6 +102,9 @@ fn tag(random: &mut Random, row: &'static Row, plan: &Plan) -> Tag {
     // Of these two the row shows where the spaces end.
     let seldom = if matches!(row.task, Task::BusinessType | Task::Direction) { 4 } else { 12 };
     for wanted in row.attributes {
+        if !wanted.required && random.one_in(2) {
+            continue;
+        }
         let mut value = right(random, wanted.form, plan);
         if wanted.collapse && random.one_in(seldom) {
             value = spaced(random, &value);
@@ -119,11 +122,13 @@ fn right_pieces(random: &mut Random, kind: usize) -> (Pieces, Plan) {
     let mut opened = tag(random, root, &plan);
     add_namespaces(random, &mut opened);
     pieces.push(Piece::Open(opened));
+    let withdrawn = random.one_in(4);
     for row in root.children {
-        if row.task == Task::Series {
-            add_all_series(random, row, &mut plan, &mut pieces);
-        } else {
-            pieces.push(Piece::Leaf(tag(random, row, &plan)));
+        match row.task {
+            Task::Series if kind == 3 => add_constraints(random, row, &mut plan, withdrawn, &mut pieces),
+            Task::Series => add_all_series(random, row, &mut plan, &mut pieces),
+            Task::DocStatus if !withdrawn => {}
+            _ => pieces.push(Piece::Leaf(tag(random, row, &plan))),
         }
     }
     pieces.push(Piece::Close(root.name.as_bytes().to_vec()));
@@ -154,6 +159,46 @@ fn add_all_series(random: &mut Random, row: &'static Row, plan: &mut Plan, piece
     let many = if random.one_in(SELDOM) { random.within(300, 1500) } else { some };
     for _ in 0..if plan.kind == 1 { few.min(2) } else { many } {
         add_series(random, row, plan, pieces);
+    }
+}
+
+/// Kind 3: with DocStatus at most one series; else none, or one or two A77 of different Direction among B59, in any order.
+fn add_constraints(random: &mut Random, row: &'static Row, plan: &mut Plan, withdrawn: bool, pieces: &mut Pieces) {
+    let first = random.below(2);
+    let mut series = vec![("A77", first), ("B59", random.below(2))];
+    if random.one_in(2) {
+        series.push(("A77", 1 - first));
+    }
+    let few = random.one_of(&[0, 0, 1, 1, 2]);
+    for _ in 0..if random.one_in(400) { random.within(20, 60) } else { few } {
+        series.push(("B59", random.below(2)));
+    }
+    for at in 0..series.len() {
+        series.swap(at, random.below(at + 1));
+    }
+    series.truncate(if random.one_in(8) {
+        0
+    } else if withdrawn {
+        1
+    } else {
+        series.len()
+    });
+    for (business, direction) in series {
+        let from = pieces.len();
+        add_series(random, row, plan, pieces);
+        set_constraint(random, &mut pieces[from..], business, direction);
+    }
+}
+
+const DIRECTIONS: [&str; 2] = ["A01", "A02"];
+
+/// The first BusinessType and Direction of some pieces, with spaces at their ends or none.
+fn set_constraint(random: &mut Random, pieces: &mut [Piece], business: &str, direction: usize) {
+    for (task, said) in [(Task::BusinessType, business), (Task::Direction, DIRECTIONS[direction])] {
+        if let Some(at) = places_of(pieces, task).first() {
+            let value = if random.one_in(4) { spaced(random, said.as_bytes()) } else { said.as_bytes().to_vec() };
+            set_value(&mut pieces[*at], value);
+        }
     }
 }
 
@@ -194,10 +239,14 @@ fn add_period(random: &mut Random, row: &'static Row, plan: &Plan, pieces: &mut 
     pieces.push(Piece::Close(row.name.as_bytes().to_vec()));
 }
 
-/// All N Intervals in kind 1, a few that rise in kind 2; seldom many.
+/// All N Intervals in kind 1, a few that rise in kind 2, a few from 1 on in kind 3, at most 100; seldom many.
 fn add_intervals(random: &mut Random, row: &'static Row, plan: &Plan, pieces: &mut Pieces) {
     let many = plan.kind == 2 && random.one_in(SELDOM);
-    let few = if plan.kind == 1 { plan.n } else { random.one_of(&[1, 1, 2, 2, 3, 5]) };
+    let few = match plan.kind {
+        1 => plan.n,
+        3 if random.one_in(12) => random.one_of(&[99, 100]),
+        _ => random.one_of(&[1, 1, 2, 2, 3, 5]),
+    };
     let mut left = if many { random.within(2000, 20_000) } else { few };
     let mut pos = 1;
     while left > 0 && pos <= plan.n {
@@ -208,7 +257,7 @@ fn add_intervals(random: &mut Random, row: &'static Row, plan: &Plan, pieces: &m
 }
 
 fn next_pos(random: &mut Random, plan: &Plan, pos: usize) -> usize {
-    if plan.kind == 1 || random.one_in(3) {
+    if plan.kind != 2 || random.one_in(3) {
         pos + 1
     } else if random.one_in(6) && pos < plan.n {
         plan.n
@@ -247,7 +296,7 @@ fn lengths_for(random: &mut Random, pieces: &[Piece]) -> Lengths {
     let least = enough(pieces);
     let all_enough = random.one_in(2);
     let mut around = |need: usize, step: usize| match random.below(12) {
-        _ if all_enough => need + random.below(10),
+        _ if all_enough => need + random.below(4 * step),
         0 => need.saturating_sub(1 + random.below(step)),
         1 => random.below(need + 2),
         2 => random.below(3 * ROW),
@@ -276,6 +325,9 @@ fn break_rules(random: &mut Random, pieces: &mut Pieces, plan: &Plan) {
 fn break_rule(random: &mut Random, pieces: &mut Pieces, plan: &Plan) {
     if pieces.is_empty() {
         return;
+    }
+    if plan.kind == 3 && random.one_in(3) {
+        return break_constraint(random, pieces, plan);
     }
     match random.below(20) {
         0..=5 => break_value(random, pieces, plan),
@@ -327,7 +379,7 @@ fn break_value(random: &mut Random, pieces: &mut [Piece], plan: &Plan) {
 
 const UNKNOWN: &[&str] = &[
     "w", "V", "v.", "v:", "codingScheme", "CodingScheme", "codingscheme", "xmlns", "xmlns:a", "xsi:type", "xsi", "xmlnsx", "xml:lang", "_", "a:b:c",
-    "DtdBDEWNachrichtenVersion", "dtdBDEWNachrichtenVersion", "v",
+    "DtdBDEWNachrichtenVersion", "dtdBDEWNachrichtenVersion", "v", "DtdVersion", "DtdRelease", "dtdVersion", "DtdReleas",
 ];
 
 fn break_attributes(random: &mut Random, pieces: &mut [Piece], plan: &Plan) {
@@ -515,6 +567,57 @@ fn break_relation(random: &mut Random, pieces: &mut Pieces, plan: &Plan) {
     }
 }
 
+/// Kind 3: another BusinessType or Direction, one DocStatus more or less, a series left out, or more of them.
+fn break_constraint(random: &mut Random, pieces: &mut Pieces, plan: &Plan) {
+    let starts = places_of(pieces, Task::Series);
+    match random.below(6) {
+        0 => {
+            let places = places_of(pieces, Task::BusinessType);
+            let said = random.pick(&["A77", "A77", "B59", "A01"]);
+            if !places.is_empty() {
+                set_value(&mut pieces[*random.pick(&places)], said.as_bytes().to_vec());
+            }
+        }
+        1 => {
+            let said = random.below(2);
+            for at in places_of(pieces, Task::Direction) {
+                set_value(&mut pieces[at], DIRECTIONS[said].as_bytes().to_vec());
+            }
+        }
+        2 => turn_status(random, pieces, plan, starts.first().copied()),
+        3 if !starts.is_empty() => {
+            let range = whole(pieces, *random.pick(&starts));
+            pieces.drain(range);
+        }
+        _ => add_changes(random, pieces, plan),
+    }
+}
+
+/// The DocStatus goes, or one comes before the first series or the root's end.
+fn turn_status(random: &mut Random, pieces: &mut Pieces, plan: &Plan, first: Option<usize>) {
+    let there = places_of(pieces, Task::DocStatus);
+    if let Some(at) = there.first() {
+        pieces.remove(*at);
+    } else if let Some(row) = ROOTS[2].children.iter().find(|row| row.task == Task::DocStatus) {
+        let at = first.unwrap_or(pieces.len().saturating_sub(1));
+        pieces.insert(at, Piece::Leaf(tag(random, row, plan)));
+    }
+}
+
+/// One to three more series of A77 before the root's end.
+fn add_changes(random: &mut Random, pieces: &mut Pieces, plan: &Plan) {
+    let Some(row) = ROOTS[2].children.last() else { return };
+    let mut others = Plan { covered: plan.covered.clone(), identifications: plan.identifications.clone(), ..*plan };
+    for _ in 0..random.within(1, 3) {
+        let mut more = Vec::new();
+        add_series(random, row, &mut others, &mut more);
+        let direction = random.below(2);
+        set_constraint(random, &mut more, "A77", direction);
+        let at = pieces.len().saturating_sub(1);
+        pieces.splice(at..at, more);
+    }
+}
+
 fn break_pos(random: &mut Random, pieces: &mut [Piece], plan: &Plan) {
     let places = places_of(pieces, Task::Pos);
     if places.is_empty() {
@@ -643,7 +746,8 @@ const ITEMS: &[&str] = &[
     "<Qty v=\"a\nb\"/>", "<Qty v=\"a>b]]>\"/>", "<Qty v = '1' />", "<Qty\tv\n=\r'1'\n>", "</Qty v=\"1\">", "</ Qty>", "</Qty >", "</Qty\n>",
     "</Qty/>", "</>", "<>", "</1>", "<:a/>", "<-a/>", "<1a/>", "<a:b:c/>", "<a:/>", "<_/>", "<ä/>", "<a ä=\"\"/>", "<Qty :v=\"1\"/>",
     "<Qty v=\"1\" v=\"1\"/>", "<x v='1' w='2' v='3'/>", "<Qty=\"1\"/>", "<Qty v==\"1\"/>", "<Qty v=\"1\"", "<Qty v=\"1", "<Qty", "<Qty /",
-    "<Interval/>", "<Period/>", "<CostTimeSeries/>", "<ScheduleTimeSeries a=\"\">", "<Interval a='1'>", "<Period a='1'>", "</Interval>", "</Period>",
+    "<Interval/>", "<Period/>", "<CostTimeSeries/>", "<NetworkConstraintTimeSeries/>", "<NetworkConstraintTimeSeries a=''>",
+    "<DocStatus v=\"A13\"/>", "<ScheduleTimeSeries a=\"\">", "<Interval a='1'>", "<Period a='1'>", "</Interval>", "</Period>",
 ];
 
 fn insert_item(random: &mut Random, pieces: &mut Pieces) {
@@ -660,7 +764,8 @@ const CRUMBS: &[&[u8]] = &[
     b"<", b">", b"/", b"</", b"/>", b"=", b"\"", b"'", b" ", b" ", b"\n", b"\t", b"v", b" v=\"1\"", b" w='2'", b"<!--", b"--", b"-->", b"-", b"!",
     b"?", b"&", b"]]>", b"]", b"<?xml", b" version=\"1.0\"", b" encoding='utf-8'", b"?>", b"\xEF\xBB\xBF", b"Kostenblatt",
     b"<Kostenblatt DtdBDEWNachrichtenVersion=\"1.0\">", b"</Kostenblatt>", b"Qty", b"a", b"0", b":", b".", b"\xC3\xA4", b"\xE2\x82\xAC", b"\x80",
-    b"\x00", b"DtdBDEWNachrichtenVersion", b"<DocumentIdentification v=\"\"", b" xmlns=\"\"", b" xsi:a=''", b"1.0",
+    b"<NetworkConstraintDocument DtdVersion=\"4\" DtdRelease=\"1\">", b"</NetworkConstraintDocument>", b" DtdVersion=\"4\"", b" DtdRelease='1'",
+    b"<NetworkConstraintDocument", b"\x00", b"DtdBDEWNachrichtenVersion", b"<DocumentIdentification v=\"\"", b" xmlns=\"\"", b" xsi:a=''", b"1.0",
 ];
 
 fn soup(random: &mut Random) -> Vec<u8> {

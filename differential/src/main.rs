@@ -18,6 +18,8 @@ const USAGE: &str = "usage: differential COUNT [SEED [FIRST]]";
 /// How many documents there were of each refusal; 0 is acceptance.
 struct Tally {
     refusals: [u64; 11],
+    /// Accepted ones by kind.
+    kinds: [u64; 4],
     notes: notes::Tally,
     renamed: u64,
     renamed_taken: u64,
@@ -33,7 +35,7 @@ fn main() -> ExitCode {
     }
     let seed = arguments.get(1).copied().unwrap_or(1);
     let first = arguments.get(2).copied().unwrap_or(0);
-    let mut tally = Tally { refusals: [0; 11], notes: notes::Tally::default(), renamed: 0, renamed_taken: 0, bytes: 0 };
+    let mut tally = Tally { refusals: [0; 11], kinds: [0; 4], notes: notes::Tally::default(), renamed: 0, renamed_taken: 0, bytes: 0 };
     let Some(edges) = notes::edges() else { return ExitCode::FAILURE };
     for number in first..first.saturating_add(arguments[0]) {
         let made = document(seed, number);
@@ -46,7 +48,8 @@ fn main() -> ExitCode {
 }
 
 fn print_tally(count: u64, edges: usize, tally: &Tally) {
-    println!("{count} documents, {} bytes: {} accepted", tally.bytes, tally.refusals[0]);
+    let [_, one, two, three] = tally.kinds;
+    println!("{count} documents, {} bytes: {} accepted, {one} of kind 1, {two} of kind 2, {three} of kind 3", tally.bytes, tally.refusals[0]);
     for (number, many) in tally.refusals.iter().enumerate().skip(1) {
         println!("refusal {number}: {many}");
     }
@@ -94,6 +97,7 @@ fn same_reading(made: &Document, seed: u64, number: u64, tally: &mut Tally) -> b
     let expected = call.by_model();
     tally.bytes += made.bytes.len() as u64;
     tally.refusals[expected.answer[0] as usize] += 1;
+    tally.kinds[expected.answer[2] as usize] += u64::from(expected.answer[0] == 0);
     if !call.differs(&expected) {
         return true;
     }

@@ -307,6 +307,11 @@ fn is_identification(value: &[u8]) -> bool {
     std::str::from_utf8(value).is_ok_and(|text| text.chars().count() <= 35)
 }
 
+/// "0 to 36 characters"
+fn is_grid_element(value: &[u8]) -> bool {
+    std::str::from_utf8(value).is_ok_and(|text| text.chars().count() <= 36)
+}
+
 /// "thirteen digits"
 fn is_partner(value: &[u8]) -> bool {
     value.len() == 13 && all_digits(value)
@@ -451,7 +456,7 @@ pub fn midnight(day: i64) -> i64 {
 }
 
 /// Kind 1: "8 where the start or end isn't local midnight", on the next UTC date.
-/// "Kind 2: its end is after its start, by a multiple of 15 minutes and at most 366 days."
+/// "Kind 2: its end is after its start, by a multiple of 15 minutes and at most 366 days." Kind 3: "kind 2's rules stand".
 fn period_fits(kind: u32, start: i64, end: i64) -> bool {
     if kind == 1 {
         let day = start / 1440 + 1;
@@ -479,6 +484,19 @@ struct Open {
     count: usize,
 }
 
+/// What kind 3 asks of its series together: "one or two of BusinessType A77, two only with different Direction, and at least one B59", or with DocStatus
+/// "at most one series".
+#[derive(Default)]
+struct Constraints<'d> {
+    doc_status: bool,
+    /// How many series are A77 and B59, and whether the one at hand is A77.
+    a77: usize,
+    b59: usize,
+    at_a77: bool,
+    /// The Directions of the A77 series, spaces dropped.
+    directions: Vec<&'d [u8]>,
+}
+
 struct Reading<'d> {
     doc: &'d [u8],
     series_room: usize,
@@ -493,6 +511,7 @@ struct Reading<'d> {
     n: u32,
     originals: usize,
     last_pos: u32,
+    constraints: Constraints<'d>,
     series: Vec<[u32; ROW]>,
     positions: Vec<u32>,
     amounts: Vec<i64>,
@@ -512,6 +531,7 @@ impl<'d> Reading<'d> {
             n: 0,
             originals: 0,
             last_pos: 0,
+            constraints: Constraints::default(),
             series: Vec::new(),
             positions: Vec::new(),
             amounts: Vec::new(),
@@ -563,7 +583,7 @@ impl<'d> Reading<'d> {
         }
         let by_value = self.value_fault(row, attributes);
         let half = row.task == Task::Period && (1..=4).contains(&self.originals);
-        let faults = [by_value, unless(!half, 8)];
+        let faults = [by_value, unless(!half, 8), unless(!self.against_series(row, attributes), 8)];
         if let Some(smallest) = faults.into_iter().filter(|fault| *fault > 0).min() {
             return Err(smallest);
         }
@@ -572,6 +592,20 @@ impl<'d> Reading<'d> {
             self.open.push(Open { row, child: 0, count: 0 });
         }
         Ok(())
+    }
+
+    /// Kind 3: "8 at a third A77's BusinessType, at a second A77's equal Direction, at the second series after a DocStatus"
+    fn against_series(&self, row: &Row, attributes: &[Given]) -> bool {
+        let before = &self.constraints;
+        let value = row.attributes.first().and_then(|wanted| self.value(wanted, attributes)).unwrap_or(0..0);
+        let said = part(self.doc, value);
+        self.kind == 3
+            && match row.task {
+                Task::Series => before.doc_status && !self.series.is_empty(),
+                Task::BusinessType => !before.doc_status && said == b"A77" && before.a77 == 2,
+                Task::Direction => !before.doc_status && before.at_a77 && before.directions.contains(&said),
+                _ => false,
+            }
     }
 
     /// The element that a start of this name is, where it is due.
@@ -623,12 +657,13 @@ impl<'d> Reading<'d> {
 
     fn fault(&self, form: Form, value: &[u8]) -> u32 {
         match form {
-            Form::Fixed => unless(value == b"1.0", 6),
+            Form::Fixed(fixed) => unless(value == fixed.as_bytes(), 6),
             Form::Identification => unless(is_identification(value), 6),
             Form::SeriesIdentification => self.series_identification_fault(value),
             Form::Partner => unless(is_partner(value), 6),
             Form::Party => unless(is_party(value), 6),
             Form::Object => unless(is_object(value), 6),
+            Form::GridElement => unless(is_grid_element(value), 6),
             Form::Version => unless(plain_number(value, 3).is_some(), 6),
             Form::DateTime => unless(is_date_time(value), 6),
             Form::Covered => self.covered_fault(value),
@@ -666,10 +701,10 @@ impl<'d> Reading<'d> {
         }
     }
 
-    /// "Pos is at most N. Kind 1: 1, 2, 3 and so on .. Kind 2: the first Pos is 1, later ones rise"
+    /// "Pos is at most N. Kind 1: 1, 2, 3 and so on .. Kind 2: the first Pos is 1, later ones rise"; kind 3: "counted up by one from 1"
     fn pos_fault(&self, value: &[u8]) -> u32 {
         let Some(pos) = plain_number(value, 5) else { return 6 };
-        let follows = if self.kind == 1 || self.last_pos == 0 { pos == self.last_pos + 1 } else { pos > self.last_pos };
+        let follows = if self.kind != 2 || self.last_pos == 0 { pos == self.last_pos + 1 } else { pos > self.last_pos };
         unless(follows && pos <= self.n, 8)
     }
 
@@ -684,8 +719,19 @@ impl<'d> Reading<'d> {
             Task::Series => self.take_series(),
             Task::SeriesIdentification => self.set_view(0, value),
             Task::Object => self.set_view(2, value),
-            Task::BusinessType => self.set_view(4, value),
-            Task::Direction => self.set_view(6, value),
+            Task::DocStatus => self.constraints.doc_status = true,
+            Task::BusinessType => {
+                self.set_view(4, value);
+                self.constraints.at_a77 = bytes == b"A77";
+                self.constraints.a77 += usize::from(bytes == b"A77");
+                self.constraints.b59 += usize::from(bytes == b"B59");
+            }
+            Task::Direction => {
+                self.set_view(6, value);
+                if self.constraints.at_a77 {
+                    self.constraints.directions.push(bytes);
+                }
+            }
             Task::Area => self.set_view(8, value),
             Task::Original => self.originals += 1,
             Task::Period => self.last_pos = 0,
@@ -746,6 +792,12 @@ impl<'d> Reading<'d> {
         if self.kind == 1 && top.row.task == Task::Period && intervals != self.n {
             return Err(8);
         }
+        // Kind 3: "at the root's end for a missing A77 or B59"
+        let Constraints { doc_status, a77, b59, .. } = self.constraints;
+        let lacking = self.kind == 3 && !doc_status && !self.series.is_empty() && (a77 == 0 || b59 == 0);
+        if lacking && top.row.task == Task::Root {
+            return Err(8);
+        }
         self.open.pop();
         Ok(())
     }
@@ -769,7 +821,7 @@ fn attributes_right(row: &Row, attributes: &[Given]) -> bool {
     let passed = |name: &[u8]| row.task == Task::Root && (name == b"xmlns" || name.starts_with(b"xmlns:") || name.starts_with(b"xsi:"));
     let known = |name: &[u8]| row.attributes.iter().any(|wanted| wanted.name.as_bytes() == name);
     let there = |wanted: &Attribute| attributes.iter().any(|given| given.name == wanted.name.as_bytes());
-    row.attributes.iter().all(there) && attributes.iter().all(|given| known(given.name) || passed(given.name))
+    row.attributes.iter().all(|wanted| !wanted.required || there(wanted)) && attributes.iter().all(|given| known(given.name) || passed(given.name))
 }
 
 // ---------------------------------------------------------------- Tables and note

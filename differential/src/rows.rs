@@ -1,14 +1,15 @@
-//! The structure tables and guideline rows of both kinds, as docs/GUIDELINE.md has them.
+//! The structure tables and guideline rows of the three kinds, as docs/GUIDELINE.md has them.
 
 /// What a value has to look like.
 #[derive(Clone, Copy, PartialEq, Eq, Debug)]
 pub enum Form {
-    Fixed,
+    Fixed(&'static str),
     Identification,
     SeriesIdentification,
     Partner,
     Party,
     Object,
+    GridElement,
     Version,
     DateTime,
     Covered,
@@ -24,6 +25,7 @@ pub struct Attribute {
     /// "Where the guideline says collapse, leading and trailing spaces are dropped".
     pub collapse: bool,
     pub form: Form,
+    pub required: bool,
 }
 
 /// What an element does besides being there.
@@ -32,6 +34,7 @@ pub enum Task {
     Nothing,
     Root,
     Covered,
+    DocStatus,
     Series,
     SeriesIdentification,
     Object,
@@ -45,7 +48,7 @@ pub enum Task {
     Qty,
 }
 
-/// An element: how often it may come in its parent, its attributes (all required) and its children in order.
+/// An element: how often it may come in its parent, its attributes and its children in order.
 pub struct Row {
     pub name: &'static str,
     pub least: usize,
@@ -56,7 +59,11 @@ pub struct Row {
 }
 
 const fn attribute(name: &'static str, collapse: bool, form: Form) -> Attribute {
-    Attribute { name, collapse, form }
+    Attribute { name, collapse, form, required: true }
+}
+
+const fn optional(name: &'static str, collapse: bool, form: Form) -> Attribute {
+    Attribute { name, collapse, form, required: false }
 }
 
 const fn once(name: &'static str, attributes: &'static [Attribute]) -> Row {
@@ -83,7 +90,12 @@ const PARTY_SCHEME: Form = Form::List(&["A10", "NDE"]);
 const EIC_SCHEME: Form = Form::List(&["A01"]);
 const ROLES: Form = Form::List(&["A18", "A39"]);
 
-const FIXED: &[Attribute] = &[attribute("DtdBDEWNachrichtenVersion", false, Form::Fixed)];
+const FIXED: &[Attribute] = &[attribute("DtdBDEWNachrichtenVersion", false, Form::Fixed("1.0"))];
+const FIXED_3: &[Attribute] = &[
+    attribute("DtdVersion", false, Form::Fixed("4")),
+    attribute("DtdRelease", false, Form::Fixed("1")),
+    optional("DtdBDEWNachrichtenVersion", false, Form::Fixed("1.1a")),
+];
 const IDENTIFICATION: &[Attribute] = &[attribute("v", false, Form::Identification)];
 const SERIES_IDENTIFICATION: &[Attribute] = &[attribute("v", false, Form::SeriesIdentification)];
 const VERSION: &[Attribute] = &[attribute("v", true, Form::Version)];
@@ -98,25 +110,34 @@ const PARTNER: &[Attribute] = &[attribute("v", false, Form::Partner), attribute(
 const PARTY: &[Attribute] = &[attribute("v", false, Form::Party), attribute("codingScheme", true, EIC_SCHEME)];
 const AREA: &[Attribute] = &[attribute("v", false, Form::List(AREAS)), attribute("codingScheme", true, EIC_SCHEME)];
 const OBJECT: &[Attribute] = &[attribute("v", false, Form::Object), attribute("codingScheme", true, Form::List(&["NDE"]))];
+const OBJECT_3: &[Attribute] =
+    &[attribute("v", false, Form::GridElement), attribute("codingScheme", true, Form::List(&["A01", "A02", "NDE", "Z01"]))];
+const GRID_ELEMENT: &[Attribute] = &[attribute("v", false, Form::GridElement), attribute("codingScheme", true, Form::List(&["A01", "A02", "Z01"]))];
 
 const DOCUMENT_TYPE_1: &[Attribute] = &[attribute("v", true, Form::List(&["Z07"]))];
 const DOCUMENT_TYPE_2: &[Attribute] = &[attribute("v", true, Form::List(&["Z05"]))];
+const DOCUMENT_TYPE_3: &[Attribute] = &[attribute("v", true, Form::List(&["B15"]))];
 const PROCESS_TYPE: &[Attribute] = &[attribute("v", true, Form::List(&["A14"]))];
 const ROLE: &[Attribute] = &[attribute("v", true, ROLES)];
 const SENDER_ROLE_2: &[Attribute] = &[attribute("v", true, Form::List(&["A18", "A27", "A39"]))];
 const BUSINESS_TYPE_1: &[Attribute] = &[attribute("v", true, Form::List(&["A02"]))];
 const BUSINESS_TYPE_2: &[Attribute] = &[attribute("v", true, Form::List(&["A01", "A04", "Z01", "Z02", "Z03"]))];
+const BUSINESS_TYPE_3: &[Attribute] = &[attribute("v", true, Form::List(&["A77", "B59"]))];
+const DOC_STATUS: &[Attribute] = &[attribute("v", true, Form::List(&["A13"]))];
 const DIRECTION: &[Attribute] = &[attribute("v", true, Form::List(&["A01", "A02"]))];
 const PRODUCT: &[Attribute] = &[attribute("v", true, Form::List(&["8716867000016"]))];
 const CURVE_TYPE: &[Attribute] = &[attribute("v", true, Form::List(&["A03"]))];
 const UNIT_1: &[Attribute] = &[attribute("v", true, Form::List(&["MAW"]))];
 const UNIT_2: &[Attribute] = &[attribute("v", true, Form::List(&["Z01", "Z02", "Z03"]))];
+const UNIT_3: &[Attribute] = &[attribute("v", true, Form::List(&["C62", "MAW"]))];
 const STATUS: &[Attribute] = &[attribute("v", true, Form::List(&["Z01", "Z02", "Z03", "Z04", "Z05"]))];
 
 const INTERVAL: &[Row] = &[leaf("Pos", 1, POS, Task::Pos), leaf("Qty", 1, QTY, Task::Qty)];
 const PERIOD_1: &[Row] = &[once("TimeInterval", TIME_INTERVAL), once("Resolution", RESOLUTION), group("Interval", 92, 100, INTERVAL, Task::Interval)];
 const PERIOD_2: &[Row] =
     &[once("TimeInterval", TIME_INTERVAL), once("Resolution", RESOLUTION), group("Interval", 1, UNBOUNDED, INTERVAL, Task::Interval)];
+
+const PERIOD_3: &[Row] = &[once("TimeInterval", TIME_INTERVAL), once("Resolution", RESOLUTION), group("Interval", 1, 100, INTERVAL, Task::Interval)];
 
 const SERIES_1: &[Row] = &[
     leaf("TimeSeriesIdentification", 1, SERIES_IDENTIFICATION, Task::SeriesIdentification),
@@ -154,6 +175,24 @@ const SERIES_2: &[Row] = &[
     group("Period", 1, 1, PERIOD_2, Task::Period),
 ];
 
+const SERIES_3: &[Row] = &[
+    leaf("TimeSeriesIdentification", 1, SERIES_IDENTIFICATION, Task::SeriesIdentification),
+    leaf("BusinessType", 1, BUSINESS_TYPE_3, Task::BusinessType),
+    leaf("Direction", 1, DIRECTION, Task::Direction),
+    leaf("ConnectingArea", 1, AREA, Task::Area),
+    leaf("ResourceObject", 1, OBJECT_3, Task::Object),
+    maybe("ResourceProvider", PARTNER),
+    maybe("RequestingGridOperator", PARTNER),
+    maybe("GridElement", GRID_ELEMENT),
+    once("MeasurementUnit", UNIT_3),
+    leaf("OriginalSenderIdentification", 0, PARTNER, Task::Original),
+    leaf("OriginalDocumentIdentification", 0, IDENTIFICATION, Task::Original),
+    leaf("OriginalDocumentVersion", 0, ORIGINAL_VERSION, Task::Original),
+    leaf("OriginalDocumentDateTime", 0, DATE_TIME, Task::Original),
+    leaf("OriginalTimeSeriesIdentification", 0, IDENTIFICATION, Task::Original),
+    group("Period", 1, 1, PERIOD_3, Task::Period),
+];
+
 const DOCUMENT_1: &[Row] = &[
     once("DocumentIdentification", IDENTIFICATION),
     once("DocumentVersion", VERSION),
@@ -182,8 +221,24 @@ const DOCUMENT_2: &[Row] = &[
     group("CostTimeSeries", 1, UNBOUNDED, SERIES_2, Task::Series),
 ];
 
+const DOCUMENT_3: &[Row] = &[
+    once("DocumentIdentification", IDENTIFICATION),
+    once("DocumentVersion", VERSION),
+    once("DocumentType", DOCUMENT_TYPE_3),
+    once("ProcessType", PROCESS_TYPE),
+    once("SenderIdentification", PARTNER),
+    once("SenderRole", ROLE),
+    once("ReceiverIdentification", PARTNER),
+    once("ReceiverRole", ROLE),
+    once("DocumentDateTime", DATE_TIME),
+    leaf("TimePeriodCovered", 1, COVERED, Task::Covered),
+    leaf("DocStatus", 0, DOC_STATUS, Task::DocStatus),
+    group("NetworkConstraintTimeSeries", 0, UNBOUNDED, SERIES_3, Task::Series),
+];
+
 /// The root of each kind; kind 1 comes first.
-pub static ROOTS: [Row; 2] = [
+pub static ROOTS: [Row; 3] = [
     Row { name: "Beschaffungsanforderung", least: 1, most: 1, attributes: FIXED, children: DOCUMENT_1, task: Task::Root },
     Row { name: "Kostenblatt", least: 1, most: 1, attributes: FIXED, children: DOCUMENT_2, task: Task::Root },
+    Row { name: "NetworkConstraintDocument", least: 1, most: 1, attributes: FIXED_3, children: DOCUMENT_3, task: Task::Root },
 ];

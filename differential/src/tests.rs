@@ -32,6 +32,36 @@ fn kind_1(covered: &str, intervals: usize) -> String {
     format!("{root}{head}<ScheduleTimeSeries>{series}</ScheduleTimeSeries></Beschaffungsanforderung>")
 }
 
+const ROOT_3: &str = "<NetworkConstraintDocument DtdVersion=\"4\" DtdRelease=\"1\">";
+const END_3: &str = "</NetworkConstraintDocument>";
+const WITHDRAWN: &str = "<DocStatus v=\" A13\"/>";
+
+/// A series of kind 3 with its intervals.
+fn constraint(identification: &str, business: &str, direction: &str, intervals: usize) -> String {
+    let rows: String = (1..=intervals).map(|pos| format!("<Interval><Pos v=\"{pos}\"/><Qty v=\"0.{pos}\"/></Interval>")).collect();
+    let first = format!("<TimeSeriesIdentification v=\"{identification}\"/><BusinessType v=\"{business}\"/><Direction v=\"{direction}\"/>");
+    let object =
+        "<ConnectingArea v=\"10YDE-VE-------2\" codingScheme=\"A01\"/><ResourceObject v=\"nbm ä\" codingScheme=\"Z01\"/><MeasurementUnit v=\"C62\"/>";
+    let period = format!("<Period><TimeInterval v=\"2024-02-29T00:07Z/2024-02-29T01:07Z\"/><Resolution v=\"PT15M\"/>{rows}</Period>");
+    format!("<NetworkConstraintTimeSeries>{first}{object}{period}</NetworkConstraintTimeSeries>")
+}
+
+/// A document of kind 3 with a status or none, and its series.
+fn kind_3(status: &str, series: &[String]) -> String {
+    let head = HEAD.replace("Z05", "B15").replace("A27", "A39");
+    [ROOT_3, &head, status, &series.concat(), END_3].concat()
+}
+
+/// One series of A77 with Direction A01 and one of B59.
+fn plain_3() -> Vec<String> {
+    vec![constraint("p", "A77", "A01", 2), constraint("n", "B59", "A01", 1)]
+}
+
+/// The last place where `piece` stands in a document.
+fn last(doc: &str, number: u32, piece: &str) -> (u32, u32) {
+    (number, doc.rfind(piece).unwrap_or(usize::MAX) as u32)
+}
+
 fn refusal(doc: &str) -> (u32, u32) {
     let answer = read(doc.as_bytes(), &ROOM).answer;
     (answer[0], answer[1])
@@ -108,6 +138,116 @@ fn local_midnight() {
         let doc = kind_1(covered, 92);
         assert_eq!(refusal(&doc), at(&doc, 8, "<TimePeriodCovered"));
     }
+}
+
+#[test]
+fn kind_3_root() {
+    assert_eq!(read(ROOT_3.as_bytes(), &ROOM).answer, [3, 57, 3, 0, 0, 0, 5]);
+    assert_eq!(read(ROOT_3.as_bytes(), &ROOM).note[..5], [3, 0x39, 3, 0, 0]);
+    for (old, new, number) in [
+        (" DtdVersion=\"4\"", "", 5),
+        (" DtdRelease=\"1\"", "", 5),
+        ("\"4\"", "\" 4\"", 6),
+        ("\"1\"", "\"2\"", 6),
+        (">", " DtdBDEWNachrichtenVersion=\"\">", 6),
+        (">", " DtdBDEWNachrichtenVersion=\"1.0\">", 6),
+        (">", " v=\"4\">", 5),
+        (">", "/>", 3),
+    ] {
+        assert_eq!(refusal(&ROOT_3.replace(old, new)), (number, 0), "{new}");
+    }
+    let doc = kind_3("", &plain_3());
+    accepted(&doc);
+    for more in [" DtdBDEWNachrichtenVersion=\"1.1a\">", " xsi:x=''>", " xmlns='urn:x' DtdBDEWNachrichtenVersion='1.1a'>"] {
+        accepted(&doc.replacen('>', more, 1));
+    }
+    assert_eq!(refusal(&ROOT.replace('>', " DtdVersion=\"4\">")), (5, 0));
+}
+
+/// "Without DocStatus, a document with series has one or two of BusinessType A77, two only with different Direction, and at least one B59."
+#[test]
+fn kind_3_series() {
+    let up = || constraint("p", "A77", "A01", 2);
+    let down = || constraint("q", " A77", "A02 ", 4);
+    let element = || constraint("n", "B59", "A01", 1);
+    for series in [vec![], vec![up(), element()], vec![element(), up(), down()], vec![up(), element(), down()], vec![down(), up(), element()]] {
+        let outcome = accepted(&kind_3("", &series));
+        assert_eq!((outcome.answer[2], outcome.answer[3] as usize, outcome.answer[5]), (3, series.len(), 4));
+    }
+    for series in [vec![], vec![up()], vec![element()]] {
+        accepted(&kind_3(WITHDRAWN, &series));
+    }
+    for series in [vec![up()], vec![up(), down()], vec![element()]] {
+        let doc = kind_3("", &series);
+        assert_eq!(refusal(&doc), at(&doc, 8, END_3));
+        let other = doc.replace(END_3, "</Kostenblatt>");
+        assert_eq!(refusal(&other), at(&other, 3, "</Kostenblatt>"));
+    }
+    for direction in ["A01", "A02"] {
+        let doc = kind_3("", &[up(), down(), element(), constraint("r", "A77", direction, 1)]);
+        assert_eq!(refusal(&doc), last(&doc, 8, "<BusinessType"));
+    }
+    for between in [vec![], vec![element()]] {
+        let doc = kind_3("", &[vec![up()], between, vec![constraint("r", "A77", " A01", 1)]].concat());
+        assert_eq!(refusal(&doc), last(&doc, 8, "<Direction"));
+        let other = doc.replace("v=\" A01\"", "v=\" A01\" w=\"\"");
+        assert_eq!(refusal(&other), last(&other, 5, "<Direction"));
+    }
+}
+
+/// "With DocStatus (A13) there is at most one series": 8 at the second one's start, after 3, 4 and 5; it is not counted.
+#[test]
+fn kind_3_withdrawn() {
+    let start = "<NetworkConstraintTimeSeries>";
+    let doc = kind_3(WITHDRAWN, &plain_3());
+    let (_, place) = last(&doc, 8, start);
+    assert_eq!(read(doc.as_bytes(), &ROOM).answer[..5], [8, place, 3, 1, 2]);
+    assert_eq!(read(doc.as_bytes(), &Lengths { series: 23, ..ROOM }).answer[..5], [4, place, 3, 1, 2]);
+    let (before, after) = doc.split_at(place as usize);
+    for (tag, number) in [("<NetworkConstraintTimeSeries/>", 3), ("<NetworkConstraintTimeSeries a=''>", 5)] {
+        assert_eq!(refusal(&[before, &after.replace(start, tag)].concat()), (number, place));
+    }
+    for (status, number) in [("<DocStatus v=\"A14\"/>", 7), ("<DocStatus/>", 5), ("<docStatus v=\"A13\"/>", 3)] {
+        let doc = kind_3(status, &[]);
+        assert_eq!(refusal(&doc), at(&doc, number, status));
+    }
+}
+
+#[test]
+fn kind_3_values() {
+    let doc = kind_3("", &[constraint("p", "A77", "A01", 4), constraint("n", "B59", "A01", 1)]);
+    let outcome = accepted(&doc);
+    let find = |piece: &str| doc.find(piece).unwrap_or(0) as u32;
+    assert_eq!(outcome.series[..ROW], [find("p\"/"), 1, find("nbm"), 6, find("A77"), 3, find("A01\"/><Conn"), 3, find("10YDE"), 16, 0, 4]);
+    for (number, object) in [(0, "ä".repeat(36)), (6, "ä".repeat(37)), (0, String::new())] {
+        let doc = doc.replacen("nbm ä", &object, 1);
+        assert_eq!(refusal(&doc).0, number);
+        let element = format!("<GridElement v=\"{object}\" codingScheme=\"A02\"/><MeasurementUnit");
+        assert_eq!(refusal(&doc.replacen("<MeasurementUnit", &element, 1)).0, number);
+    }
+    for (old, new, number, piece) in [
+        ("<ReceiverRole v=\"A18\"", "<ReceiverRole v=\"A27\"", 7, "<ReceiverRole"),
+        ("\"Z01\"", "\"A10\"", 7, "<ResourceObject"),
+        ("<Direction v=\"A01\"/>", "", 3, "<ConnectingArea"),
+        ("<Pos v=\"2\"", "<Pos v=\"3\"", 8, "<Pos v=\"3\""),
+        ("<Pos v=\"1\"", "<Pos v=\"101\"", 8, "<Pos"),
+        ("<Pos v=\"1\"", "<Pos v=\"100000\"", 6, "<Pos"),
+        ("2024-02-29T00:07Z/2024-02-29T01:07Z", "2024-02-29T00:07Z/2025-03-01T00:22Z", 8, "<TimePeriodCovered"),
+    ] {
+        let doc = doc.replacen(old, new, 1);
+        assert_eq!(refusal(&doc), at(&doc, number, piece), "{new}");
+    }
+    let none = kind_3("", &[constraint("p", "A77", "A01", 0)]);
+    assert_eq!(refusal(&none), at(&none, 3, "</Period>"));
+    let fifth = kind_3("", &[constraint("p", "A77", "A01", 5)]);
+    assert_eq!(refusal(&fifth), at(&fifth, 8, "<Pos v=\"5\""));
+    let full = read(fifth.as_bytes(), &Lengths { amounts: 4, ..ROOM }).answer;
+    assert_eq!((full[0], full[1]), last(&fifth, 4, "<Interval>"));
+    let year = |intervals| kind_3("", &[constraint("p", "A77", "A01", intervals)]).replace("2024-02-29T01:07Z", "2025-03-01T00:07Z");
+    assert_eq!(refusal(&year(100)), at(&year(100), 8, END_3));
+    assert_eq!(refusal(&year(101)), at(&year(101), 3, "<Interval><Pos v=\"101\""));
+    let full = read(year(101).as_bytes(), &Lengths { amounts: 100, ..ROOM }).answer;
+    assert_eq!((full[0], full[1]), last(&year(101), 3, "<Interval>"));
 }
 
 #[test]
@@ -340,6 +480,28 @@ fn ten_and_one() {
     assert_eq!(read(&vec![b' '; 1_048_577], &short).answer, [10, 0, 0, 0, 0, 0, 0]);
     assert_eq!(read(&vec![b' '; 1_048_577], &ROOM).answer, [1, 0, 0, 0, 0, 0, 5]);
     assert_eq!(read(&vec![b' '; 1_048_576], &ROOM).answer, [3, 1_048_576, 0, 0, 0, 0, 7]);
+}
+
+/// Documents of kind 3 come up with no series, with a DocStatus, with one A77 and with two, with all 100 Intervals, and refused at each of 02's four places.
+#[test]
+fn generated_of_kind_3() {
+    let (mut accepted, mut places) = ([0; 5], [0; 4]);
+    for number in 0..30_000 {
+        let made = document(5, number);
+        let outcome = read(&made.bytes, &made.lengths);
+        let [refusal, place, 3, series, ..] = outcome.answer else { continue };
+        let rows = || outcome.series.chunks_exact(ROW).take(series as usize);
+        let a77 = rows().filter(|row| made.bytes[row[4] as usize..].starts_with(b"A77")).count();
+        let shapes = [series == 0, made.bytes.windows(10).any(|part| part == b"<DocStatus"), a77 == 1, a77 == 2, rows().any(|row| row[11] == 100)];
+        for (many, there) in accepted.iter_mut().zip(shapes) {
+            *many += usize::from(refusal == 0 && there);
+        }
+        let names = ["<BusinessType", "<Direction", "<NetworkConstraintTimeSeries", "</NetworkConstraintDocument"];
+        for (many, name) in places.iter_mut().zip(names) {
+            *many += usize::from(refusal == 8 && made.bytes[place as usize..].starts_with(name.as_bytes()));
+        }
+    }
+    assert!(accepted.iter().chain(&places).all(|many| *many > 50), "{accepted:?} {places:?}");
 }
 
 /// Every refusal comes up among the documents, of kind 2 rows with and without Direction and area, spaces on either side of a Direction and after a

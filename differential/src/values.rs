@@ -20,9 +20,9 @@ const NARROW: &[u8] = b"abcXYZ0189-_.:/=>]? !#()";
 
 /// All codes and some that no list has.
 const CODES: &[&str] = &[
-    "A00", "A01", "A02", "A03", "A04", "A05", "A10", "A14", "A18", "A27", "A39", "NDE", "MAW", "Z00", "Z01", "Z02", "Z03", "Z04", "Z05", "Z06",
-    "Z07", "Z08", "Z1", "Z011", "a01", "z01", "nde", "maw", "MWH", "KWT", "PT15M", "A 01", "", " ", "1.0", "8716867000016", "8716867000023",
-    "871686700001", "87168670000166",
+    "A00", "A01", "A02", "A03", "A04", "A05", "A10", "A13", "A14", "A18", "A27", "A39", "A77", "B15", "B59", "C62", "NDE", "MAW", "Z00", "Z01",
+    "Z02", "Z03", "Z04", "Z05", "Z06", "Z07", "Z08", "Z1", "Z011", "a01", "z01", "nde", "maw", "MWH", "KWT", "PT15M", "A 01", "", " ", "1.0",
+    "8716867000016", "8716867000023", "871686700001", "87168670000166", "A78", "B58", "b59", "C63", "c62",
 ];
 
 const NEAR_AREAS: &[&str] = &[
@@ -110,7 +110,13 @@ pub fn period(random: &mut Random, kind: usize) -> (Vec<u8>, usize) {
     }
     let day = a_day(random);
     let start = day + random.below(1440) as i64;
-    let n = if random.one_in(20) { random.one_of(&[35_135, 35_136]) } else { upto(random, &[3, 12, 100, 20_000]) };
+    let n = if kind == 3 && random.one_in(4) {
+        random.within(95, 105)
+    } else if random.one_in(20) {
+        random.one_of(&[35_135, 35_136])
+    } else {
+        upto(random, &[3, 12, 100, 20_000])
+    };
     (period_text(start, start + n as i64 * 15), n)
 }
 
@@ -128,6 +134,16 @@ pub fn odd_period(random: &mut Random) -> Vec<u8> {
 fn identification(random: &mut Random) -> Vec<u8> {
     let length = if random.one_in(4) { random.within(33, 35) } else { random.within(0, 12) };
     text(random, length)
+}
+
+/// Often what kind 2 would take; else any characters.
+fn grid_element(random: &mut Random) -> Vec<u8> {
+    let length = if random.one_in(4) { random.within(34, 36) } else { random.within(0, 12) };
+    if random.one_in(4) {
+        object(random)
+    } else {
+        text(random, length)
+    }
 }
 
 fn text(random: &mut Random, length: usize) -> Vec<u8> {
@@ -188,11 +204,12 @@ fn date_time(random: &mut Random) -> Vec<u8> {
 /// A value of the form. Pos is the plan's business, so any number stands for it here.
 pub fn right(random: &mut Random, form: Form, plan: &Plan) -> Vec<u8> {
     match form {
-        Form::Fixed => b"1.0".to_vec(),
+        Form::Fixed(fixed) => fixed.as_bytes().to_vec(),
         Form::Identification | Form::SeriesIdentification => identification(random),
         Form::Partner => digits(random, 13),
         Form::Party => of_bytes(random, PARTY, 16),
         Form::Object => object(random),
+        Form::GridElement => grid_element(random),
         Form::Version => upto(random, &[9, 99, 999]).to_string().into_bytes(),
         Form::DateTime => date_time(random),
         Form::Covered | Form::TimeInterval => plan.covered.clone(),
@@ -231,7 +248,8 @@ pub fn wrong(random: &mut Random, form: Form, plan: &Plan) -> Vec<u8> {
             spaced(random, &value)
         }
         _ => {
-            let forms = [Form::Fixed, Form::Partner, Form::Party, Form::Object, Form::Version, Form::DateTime, Form::TimeInterval, Form::Amount];
+            let forms =
+                [Form::Fixed("1.0"), Form::Partner, Form::Party, Form::Object, Form::Version, Form::DateTime, Form::TimeInterval, Form::Amount];
             let other = *random.pick(&forms);
             right(random, other, plan)
         }
@@ -241,7 +259,9 @@ pub fn wrong(random: &mut Random, form: Form, plan: &Plan) -> Vec<u8> {
 fn known_wrong(random: &mut Random, form: Form, plan: &Plan) -> Vec<u8> {
     let from = |random: &mut Random, list: &[&str]| random.pick(list).as_bytes().to_vec();
     match form {
-        Form::Fixed => from(random, &["1.1", "1", "1.0 ", " 1.0", "", "01.0", "1.00", "2.0", "1,0"]),
+        Form::Fixed(_) => {
+            from(random, &["1.1", "1", "1.0 ", " 1.0", "", "01.0", "1.00", "2.0", "1,0", "4", "5", " 4", "1 ", "1.1a", "1.1a ", "1.1A", "1.0"])
+        }
         Form::Identification | Form::SeriesIdentification => {
             let length = random.within(34, 38);
             text(random, length)
@@ -255,6 +275,10 @@ fn known_wrong(random: &mut Random, form: Form, plan: &Plan) -> Vec<u8> {
             of_bytes(random, PARTY, length)
         }
         Form::Object => from(random, &["D1234567890", "A123456789", "A12345678901", "a1234567890", "A12345678a0", "A123456789A", "", "A12345-7890"]),
+        Form::GridElement => {
+            let length = random.within(35, 39);
+            text(random, length)
+        }
         Form::Version | Form::Pos => from(random, WRONG_NUMBERS),
         Form::DateTime => wrong_date_time(random),
         Form::Covered | Form::TimeInterval => wrong_period(random, plan),

@@ -80,7 +80,7 @@ pub fn why(doc: &[u8], answer: Answer) -> Option<&'static str> {
             let declares = tag.outside.windows(6).any(|six| is_white(six[0]) && &six[1..] == b"xmlns");
             declares.then_some("namespace declared on an element that is not the root: to 01 an unknown attribute")
         }
-        8 => Some("rule between values: periods, Pos, counts, Originals"),
+        8 => Some("rule between values: periods, Pos, counts, Originals, the series of kind 3"),
         9 => Some("TimeSeriesIdentification used before"),
         _ => None,
     }

@@ -22,7 +22,7 @@ use libxml::{Schema, Tree};
 use tags::passed_over;
 
 const USAGE: &str = "usage: peers SCHEMAS SAMPLES COUNT [SEED]";
-const ROOTS: [&str; 2] = ["Beschaffungsanforderung", "Kostenblatt"];
+const ROOTS: [&str; 3] = ["Beschaffungsanforderung", "Kostenblatt", "NetworkConstraintDocument"];
 /// How many neighbours of each accepted document are looked at.
 const NEIGHBOURS: usize = 4;
 const LONGEST_WITH_NEIGHBOURS: usize = 100_000;
@@ -64,14 +64,14 @@ struct Tally {
 }
 
 struct Judge {
-    schemas: [Schema; 2],
+    schemas: [Schema; 3],
 }
 
 impl Judge {
     /// The kind whose schema accepts the document, else 0.
     fn kind(&self, tree: &Tree) -> u32 {
         let name = tree.root_name();
-        let taken = (0..2).find(|at| name == ROOTS[*at] && self.schemas[*at].accepts(tree));
+        let taken = (0..3).find(|at| name == ROOTS[*at] && self.schemas[*at].accepts(tree));
         taken.map_or(0, |at| at as u32 + 1)
     }
 
@@ -195,12 +195,12 @@ fn main() -> ExitCode {
         return ExitCode::from(2);
     }
     let schema = |name: &str| Schema::read(&format!("{}/{name}.xsd", words[0]));
-    let (Some(first), Some(second)) = (schema("beschaffungsanforderung"), schema("kostenblatt")) else {
+    let [Some(first), Some(second), Some(third)] = ["beschaffungsanforderung", "kostenblatt", "networkconstraintdocument"].map(schema) else {
         eprintln!("a schema in {} can't be read", words[0]);
         return ExitCode::from(2);
     };
     libxml::shut();
-    let judge = Judge { schemas: [first, second] };
+    let judge = Judge { schemas: [first, second, third] };
     let samples = match judge_samples(&judge, &words[1]) {
         Ok(tally) => tally,
         Err(error) => {

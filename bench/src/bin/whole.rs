@@ -52,7 +52,7 @@ const ROW: usize = 12;
 const OLD: u32 = 0;
 
 /// Room for every document of 1 MiB.
-const MOST: (usize, usize) = (2_558, 23_302);
+const MOST: (usize, usize) = (2_635, 23_302);
 
 type Make = fn(usize, bool) -> Vec<u8>;
 
@@ -77,7 +77,7 @@ struct Line {
 }
 
 fn lines() -> Vec<Line> {
-    let kinds: [(u32, Make); 2] = [(1, document::beschaffungsanforderung), (2, document::kostenblatt)];
+    let kinds: [(u32, Make); 3] = [(1, document::beschaffungsanforderung), (2, document::kostenblatt), (3, document::network_constraint_document)];
     let mut lines = Vec::new();
     for (kind, make) in kinds {
         for (layout, pretty) in [("plain", false), ("pretty-printed", true)] {

@@ -23,12 +23,14 @@ use Rattle.structure.specs.declared.Due.the-variants.{Row, NotDue}
 use Rattle.structure.proofs.Means.{start-means}
 use Rattle.columns.specs.Columns.{formOf, roleOf}
 use Rattle.guideline.specs.Kinds.{isKind}
-use Rattle.guideline.specs.Rows.{beschaffungsanforderung, kostenblatt, rowsOf}
+use Rattle.guideline.specs.Rows.{beschaffungsanforderung, kostenblatt, networkConstraintDocument, rowsOf}
 use Rattle.guideline.proofs.Each.{of-table}
 use Rattle.guideline.proofs.Roots.{no-start, no-end}
 use Rattle.rules.specs.declared.Judged.{Judged}
 use Rattle.states.specs.Moves.{begun, cutShort, startJudged, atRow, oneSeries, oneInterval, oneOriginal, lastPos, covering, kept, entered, entryOf, startedBy, startedAt, started, closedAt, endRefusal, afterEndAt, afterEnd, moved, rootKind, kindTold, step}
+use Rattle.states.specs.Constraints.{noticed}
 use Rattle.states.specs.declared.State.{State}
+use Rattle.states.specs.declared.Seen.{Seen}
 use Rattle.states.specs.declared.Room.{Room}
 use Rattle.states.specs.declared.Entry.{Entry}
 use Rattle.states.specs.declared.Entry.the-variants.{Nothing, Amount}
@@ -42,7 +44,7 @@ use Rattle.blindness.proofs.Tables.{waits, due, all-tested, waits-other
 
 -- the document as a whole waits for no Qty
 root-waits : (kind : ℕ) (o : Bool) → waits (getD (rowsOf kind) 0 0) o ≡ false
-unfolding waits roleOf rowsOf beschaffungsanforderung kostenblatt elementNo numberIn names same
+unfolding waits roleOf rowsOf beschaffungsanforderung kostenblatt networkConstraintDocument elementNo numberIn names same
 root-waits kind o = not-true (waits (getD (rowsOf kind) 0 0) o) (of-table (λ l. not (waits (getD l 0 0) o)) refl kind)
 
 abbrev pub waiting : State → Bool
@@ -149,10 +151,10 @@ module _ (x : State) (kind : ℕ) (room : Room) (c : ℕ)
     taken = getD (rowsOf kind) q 0
 
     -- any row but an Interval's
-    still-passed : (within : Bool) → (roleOf taken ≡ 4 → ⊥) → (y : State) → Still (atRow x kind q within) y
+    still-passed : (within : Bool) (seen : Seen) → (roleOf taken ≡ 4 → ⊥) → (y : State) → Still (atRow x kind q within seen) y
         → Passed c room (x .intervals) b y (entryOf (roleOf taken) (j .first))
     unfolding atRow
-    still-passed within h y s =
+    still-passed within seen h y s =
         let z = due-count (roleOf taken) (waits (getD (rowsOf kind) (x .row) 0) (x .inside)) fact in
         let n : x .intervals ≡ c + toCome b + toCome (eqb (roleOf taken) 9) = rw told (omega (arith, count, z)) in
         record {
@@ -179,9 +181,9 @@ module _ (x : State) (kind : ℕ) (room : Room) (c : ℕ)
             let u : toCome (eqb (roleOf taken) 10) + toCome (eqb (roleOf taken) 9) ≡ 1 = rw (role e) in
             omega (arith, count, z, u)
 
-    interval-passed : roleOf taken ≡ 4 → x .intervals < room .intervals → Passed c room (x .intervals) b (oneInterval (atRow x kind q true)) (entryOf (roleOf taken) (j .first))
+    interval-passed : (seen : Seen) → roleOf taken ≡ 4 → x .intervals < room .intervals → Passed c room (x .intervals) b (oneInterval (atRow x kind q true seen)) (entryOf (roleOf taken) (j .first))
     unfolding oneInterval atRow waits
-    interval-passed h free =
+    interval-passed seen h free =
         let z : waits (getD (rowsOf kind) (x .row) 0) (x .inside) ≡ false = due-interval (waits (getD (rowsOf kind) (x .row) 0) (x .inside)) (rw h at fact) in
         let n : x .intervals ≡ c + 0 = rw z at count in
         let f : b ≡ false = told ∙ rw h in
@@ -212,16 +214,18 @@ module _ (x : State) (kind : ℕ) (room : Room) (c : ℕ)
           let fact = start-due rows (all-tested kind) (x .row) (x .inside) (elementNo (partOf s 1 (t .name))) q z in
           let told = eb ∙ role-told kind (partOf s 1 (t .name)) q (row-named rows (x .row) (x .inside) (elementNo (partOf s 1 (t .name))) q z) in
           let j = startJudged x kind rows q t s empty room in
+          let seen = noticed (x .seen) w (j .first) in
+          let p₀ = atRow x kind q (not empty) seen in
           ⊎-elim
           (λ y.
           let g = judged-passed x kind rows q t s empty room (y .0) in
           rw (y .1)
           (⊎-elim
           (λ h.
-          let p = interval-passed q (root q z) fact b told j (h .0) (interval-room x (roleOf w) room (g .free) (h .0)) in
-          rw (kept-interval (atRow x kind q (not empty)) w j (h .0), not-short empty rows q (row-facts rows (all-tested kind) q l .whole (h .0)) (g .whole)) p)
+          let p = interval-passed q (root q z) fact b told j seen (h .0) (interval-room x (roleOf w) room (g .free) (h .0)) in
+          rw (kept-interval p₀ w j (h .0), not-short empty rows q (row-facts rows (all-tested kind) q l .whole (h .0)) (g .whole)) p)
           (λ h.
-          still-passed q (root q z) fact b told j (not empty) (h .0) (kept (atRow x kind q (not empty)) w j) (kept-still (atRow x kind q (not empty)) w j (h .0)))
+          still-passed q (root q z) fact b told j (not empty) seen (h .0) (kept p₀ w j) (kept-still p₀ w j (h .0)))
           (eqb-cases (roleOf w) 4)))
           (λ y. rw (y .1) (y .0))
           (eqb-cases (j .number) 0)

@@ -25,7 +25,7 @@ use Rattle.prolog.specs.declared.Begin.{Begin}
 use Rattle.prolog.specs.declared.Begin.the-variants.{From, Misdeclared}
 use Rattle.structure.specs.Rows.{nameOf}
 use Rattle.columns.specs.Columns.{formOf, collapsed, roleOf}
-use Rattle.guideline.specs.Rows.{beschaffungsanforderung, kostenblatt, rowsOf}
+use Rattle.guideline.specs.Rows.{beschaffungsanforderung, kostenblatt, networkConstraintDocument, rowsOf}
 use Rattle.guideline.proofs.Each.{of-table}
 use Rattle.states.specs.Moves.{entryOf}
 use Rattle.states.specs.declared.Entry.the-variants.{Identification}
@@ -135,7 +135,7 @@ abbrev idFit : List ℕ → Bool
 idFit = allFit named 2 false 8
 
 ids-fit : (kind : ℕ) → idFit (rowsOf kind) ≡ true
-unfolding allFit fits rowsOf beschaffungsanforderung kostenblatt elementNo numberIn names same nameOf formOf collapsed roleOf
+unfolding allFit fits rowsOf beschaffungsanforderung kostenblatt networkConstraintDocument elementNo numberIn names same nameOf formOf collapsed roleOf
 ids-fit = of-table idFit refl
 
 id-known : elementNo named ≡ 0 → ⊥

@@ -22,7 +22,7 @@ use Rattle.structure.specs.declared.Due.{Due}
 use Rattle.structure.specs.declared.Due.the-variants.{Row, NotDue}
 use Rattle.structure.proofs.Means.{start-means}
 use Rattle.columns.specs.Columns.{formOf, collapsed, roleOf}
-use Rattle.guideline.specs.Rows.{beschaffungsanforderung, kostenblatt, rowsOf}
+use Rattle.guideline.specs.Rows.{beschaffungsanforderung, kostenblatt, networkConstraintDocument, rowsOf}
 use Rattle.guideline.proofs.Each.{of-table}
 use Rattle.rules.specs.declared.Held.{Held}
 use Rattle.states.specs.Attributes.{valueOf, schemeRefusal, valueFixed, dtdFixed, judgeTag}
@@ -278,7 +278,7 @@ abbrev qtyFit : List ℕ → Bool
 qtyFit = allFit (text "Qty") 10 true 10
 
 all-fit : (kind : ℕ) → qtyFit (rowsOf kind) ≡ true
-unfolding allFit fits rowsOf beschaffungsanforderung kostenblatt elementNo numberIn names same nameOf formOf collapsed roleOf
+unfolding allFit fits rowsOf beschaffungsanforderung kostenblatt networkConstraintDocument elementNo numberIn names same nameOf formOf collapsed roleOf
 all-fit = of-table qtyFit refl
 
 -- the row of a Qty, of any kind, and that of an amount

@@ -16,7 +16,7 @@ use Rattle.structure.specs.Rows.{nameOf, parentOf, required, repeated, endsIn, 
 use Rattle.structure.specs.declared.Due.the-variants.{Row}
 use Rattle.structure.proofs.Means.{start-means, end-means}
 use Rattle.columns.specs.Columns.{roleOf}
-use Rattle.guideline.specs.Rows.{beschaffungsanforderung, kostenblatt, rowsOf}
+use Rattle.guideline.specs.Rows.{beschaffungsanforderung, kostenblatt, networkConstraintDocument, rowsOf}
 use Rattle.guideline.proofs.Each.{of-table}
 
 -- an Interval is started and its Qty is still to come: the last row is an Interval that is open, or a Pos
@@ -52,7 +52,7 @@ tested rows =
     (length rows)
 
 pub all-tested : (kind : ℕ) → tested (rowsOf kind) ≡ true
-unfolding tested rowTest startTest due waits rowsOf beschaffungsanforderung kostenblatt elementNo numberIn names same nameOf parentOf required repeated endsAtOnce endsIn roleOf
+unfolding tested rowTest startTest due waits rowsOf beschaffungsanforderung kostenblatt networkConstraintDocument elementNo numberIn names same nameOf parentOf required repeated endsAtOnce endsIn roleOf
 all-tested = of-table tested refl
 
 five : (a b c d : Bool) {e : Bool} → cond a (cond b (cond c (cond d e false) false) false) false ≡ true

@@ -20,6 +20,12 @@ use Rattle.columns.specs.Columns.{
   unitOneList,
   unitTwoList,
   statusList,
+  documentTypeThreeList,
+  docStatusList,
+  businessTypeThreeList,
+  resourceSchemeThreeList,
+  gridSchemeList,
+  unitThreeList,
 }
 use Rattle.codes.specs.Lists.{
   documentTypeOne,
@@ -39,14 +45,22 @@ use Rattle.codes.specs.Lists.{
   unitOne,
   unitTwo,
   status,
+  documentTypeThree,
+  docStatus,
+  businessTypeThree,
+  resourceSchemeThree,
+  gridScheme,
+  unitThree,
   lists,
   codesOf,
 }
 
 pub lists-named : map codesOf
     (documentTypeOneList ∷ documentTypeTwoList ∷ processTypeList ∷ partySchemeList ∷ eicSchemeList ∷ resourceSchemeList ∷ roleList ∷ senderRoleTwoList ∷
-    businessTypeOneList ∷ businessTypeTwoList ∷ directionList ∷ productList ∷ areaList ∷ curveTypeList ∷ unitOneList ∷ unitTwoList ∷ statusList ∷ [])
+    businessTypeOneList ∷ businessTypeTwoList ∷ directionList ∷ productList ∷ areaList ∷ curveTypeList ∷ unitOneList ∷ unitTwoList ∷ statusList ∷
+    documentTypeThreeList ∷ docStatusList ∷ businessTypeThreeList ∷ resourceSchemeThreeList ∷ gridSchemeList ∷ unitThreeList ∷ [])
     ≡ documentTypeOne ∷ documentTypeTwo ∷ processType ∷ partyScheme ∷ eicScheme ∷ resourceScheme ∷ role ∷ senderRoleTwo ∷
-    businessTypeOne ∷ businessTypeTwo ∷ direction ∷ product ∷ area ∷ curveType ∷ unitOne ∷ unitTwo ∷ status ∷ []
+    businessTypeOne ∷ businessTypeTwo ∷ direction ∷ product ∷ area ∷ curveType ∷ unitOne ∷ unitTwo ∷ status ∷
+    documentTypeThree ∷ docStatus ∷ businessTypeThree ∷ resourceSchemeThree ∷ gridScheme ∷ unitThree ∷ []
 unfolding codesOf lists
 lists-named = refl

@@ -16,7 +16,7 @@ documentTypeTwo = text "Z05" ∷ []
 abbrev pub processType : List (List ℕ)
 processType = text "A14" ∷ []
 
--- codingScheme of market partners; of areas, InParty and OutParty; of ResourceObject
+-- codingScheme of market partners; of areas, InParty and OutParty; of ResourceObject in a Kostenblatt
 abbrev pub partyScheme : List (List ℕ)
 partyScheme = text "A10" ∷ text "NDE" ∷ []
 
@@ -68,11 +68,31 @@ unitTwo = text "Z01" ∷ text "Z02" ∷ text "Z03" ∷ []
 abbrev pub status : List (List ℕ)
 status = text "Z01" ∷ text "Z02" ∷ text "Z03" ∷ text "Z04" ∷ text "Z05" ∷ []
 
+-- what a NetworkConstraintDocument has of its own: DocumentType, DocStatus, BusinessType; codingScheme of ResourceObject and of GridElement; MeasurementUnit
+abbrev pub documentTypeThree : List (List ℕ)
+documentTypeThree = text "B15" ∷ []
+
+abbrev pub docStatus : List (List ℕ)
+docStatus = text "A13" ∷ []
+
+abbrev pub businessTypeThree : List (List ℕ)
+businessTypeThree = text "A77" ∷ text "B59" ∷ []
+
+abbrev pub resourceSchemeThree : List (List ℕ)
+resourceSchemeThree = text "A01" ∷ text "A02" ∷ text "NDE" ∷ text "Z01" ∷ []
+
+abbrev pub gridScheme : List (List ℕ)
+gridScheme = text "A01" ∷ text "A02" ∷ text "Z01" ∷ []
+
+abbrev pub unitThree : List (List ℕ)
+unitThree = text "C62" ∷ text "MAW" ∷ []
+
 -- the lists by their numbers, from 0, in the order of docs/GUIDELINE.md, section 5
 unfoldable pub lists : List (List (List ℕ))
 lists =
     documentTypeOne ∷ documentTypeTwo ∷ processType ∷ partyScheme ∷ eicScheme ∷ resourceScheme ∷ role ∷ senderRoleTwo ∷
-    businessTypeOne ∷ businessTypeTwo ∷ direction ∷ product ∷ area ∷ curveType ∷ unitOne ∷ unitTwo ∷ status ∷ []
+    businessTypeOne ∷ businessTypeTwo ∷ direction ∷ product ∷ area ∷ curveType ∷ unitOne ∷ unitTwo ∷ status ∷
+    documentTypeThree ∷ docStatus ∷ businessTypeThree ∷ resourceSchemeThree ∷ gridScheme ∷ unitThree ∷ []
 
 -- the codes of a list; a number that no list has lists nothing
 unfoldable pub codesOf : ℕ → List (List ℕ)

@@ -1,20 +1,26 @@
 // Code lists, and whether a value is in one. The codes of a list are equally long, and stand in a row with single spaces between them.
 use columns::AREA_LIST;
 use columns::BUSINESS_TYPE_ONE_LIST;
+use columns::BUSINESS_TYPE_THREE_LIST;
 use columns::BUSINESS_TYPE_TWO_LIST;
 use columns::CURVE_TYPE_LIST;
 use columns::DIRECTION_LIST;
+use columns::DOC_STATUS_LIST;
 use columns::DOCUMENT_TYPE_ONE_LIST;
+use columns::DOCUMENT_TYPE_THREE_LIST;
 use columns::DOCUMENT_TYPE_TWO_LIST;
 use columns::EIC_SCHEME_LIST;
+use columns::GRID_SCHEME_LIST;
 use columns::PARTY_SCHEME_LIST;
 use columns::PROCESS_TYPE_LIST;
 use columns::PRODUCT_LIST;
 use columns::RESOURCE_SCHEME_LIST;
+use columns::RESOURCE_SCHEME_THREE_LIST;
 use columns::ROLE_LIST;
 use columns::SENDER_ROLE_TWO_LIST;
 use columns::STATUS_LIST;
 use columns::UNIT_ONE_LIST;
+use columns::UNIT_THREE_LIST;
 use columns::UNIT_TWO_LIST;
 use pictures::is_said;
 use slices::front;
@@ -67,6 +73,12 @@ pub fn is_listed(list: usize, v: &[u8]) -> bool
         UNIT_ONE_LIST => is_among(b"MAW", 3, v),
         UNIT_TWO_LIST => is_among(b"Z01 Z02 Z03", 3, v),
         STATUS_LIST => is_among(b"Z01 Z02 Z03 Z04 Z05", 3, v),
+        DOCUMENT_TYPE_THREE_LIST => is_among(b"B15", 3, v),
+        DOC_STATUS_LIST => is_among(b"A13", 3, v),
+        BUSINESS_TYPE_THREE_LIST => is_among(b"A77 B59", 3, v),
+        RESOURCE_SCHEME_THREE_LIST => is_among(b"A01 A02 NDE Z01", 3, v),
+        GRID_SCHEME_LIST => is_among(b"A01 A02 Z01", 3, v),
+        UNIT_THREE_LIST => is_among(b"C62 MAW", 3, v),
         _ => false,
     }
 }

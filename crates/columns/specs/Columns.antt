@@ -90,13 +90,17 @@ posForm = 9
 abbrev pub amountForm : ℕ
 amountForm = 10
 
--- ResourceObject
+-- ResourceObject of kind 2
 abbrev pub objectForm : ℕ
 objectForm = 11
 
 -- InParty, OutParty
 abbrev pub partyForm : ℕ
 partyForm = 12
+
+-- ResourceObject of kind 3, GridElement
+abbrev pub gridElementForm : ℕ
+gridElementForm = 13
 
 -- code lists: the place of each in section 5 of docs/GUIDELINE.md, counted from 0
 abbrev pub documentTypeOneList : ℕ
@@ -149,6 +153,24 @@ unitTwoList = 15
 
 abbrev pub statusList : ℕ
 statusList = 16
+
+abbrev pub documentTypeThreeList : ℕ
+documentTypeThreeList = 17
+
+abbrev pub docStatusList : ℕ
+docStatusList = 18
+
+abbrev pub businessTypeThreeList : ℕ
+businessTypeThreeList = 19
+
+abbrev pub resourceSchemeThreeList : ℕ
+resourceSchemeThreeList = 20
+
+abbrev pub gridSchemeList : ℕ
+gridSchemeList = 21
+
+abbrev pub unitThreeList : ℕ
+unitThreeList = 22
 
 -- "A value with a code list is judged by that list alone": the forms from here on are code lists
 abbrev pub inList : ℕ

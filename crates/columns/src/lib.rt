@@ -46,6 +46,8 @@ pub const OBJECT_FORM: usize = 11;
 
 pub const PARTY_FORM: usize = 12;
 
+pub const GRID_ELEMENT_FORM: usize = 13;
+
 // Code lists, by their places in section 5 of docs/GUIDELINE.md, counted from 0.
 pub const DOCUMENT_TYPE_ONE_LIST: usize = 0;
 
@@ -80,6 +82,18 @@ pub const UNIT_ONE_LIST: usize = 14;
 pub const UNIT_TWO_LIST: usize = 15;
 
 pub const STATUS_LIST: usize = 16;
+
+pub const DOCUMENT_TYPE_THREE_LIST: usize = 17;
+
+pub const DOC_STATUS_LIST: usize = 18;
+
+pub const BUSINESS_TYPE_THREE_LIST: usize = 19;
+
+pub const RESOURCE_SCHEME_THREE_LIST: usize = 20;
+
+pub const GRID_SCHEME_LIST: usize = 21;
+
+pub const UNIT_THREE_LIST: usize = 22;
 
 // A form from here on is a code list: this and the list's number.
 pub const IN_LIST: usize = 32;

@@ -22,7 +22,7 @@ use Rattle.trees.proofs.Along.{run-along, conforms-along}
 use Rattle.trees.proofs.Theorems.{complete, sound}
 use Rattle.contents.specs.Spelled.{AllAllowed}
 use Rattle.contents.proofs.Laid.{laid, Known}
-use Rattle.contents.proofs.Walk.{nothing, walked, Passes}
+use Rattle.contents.proofs.Walk.{nothing, walked, Heeds, Passes}
 use Rattle.contents.proofs.Fill.{placedSigns, saying, stateOf, filled, Unused, Stands}
 use Rattle.contents.proofs.Lifted.{spelled-stands}
 use Rattle.contents.proofs.Signs.{Runs, respelled, runs-follow, runs-along, along-runs}
@@ -37,6 +37,7 @@ pub record Read (doc : List ℕ) (room : Room) (n : ℕ) (t : Tables) (kind : �
   pub conforms : Conforms (rowsOf kind) 0 kids
   pub stands : Stands doc kids
   pub passes : Passes kind room (rowsOf kind) (saying kids) nothing
+  pub heeds : Heeds kind (rowsOf kind) (saying kids) nothing
   pub unused : Unused doc kind (rowsOf kind) kids nothing t
 
 begun-is : stateOf 0 0 true nothing ≡ begun
@@ -73,7 +74,8 @@ module _ (doc : List ℕ) (room : Room) (n : ℕ) (t : Tables) (short : length d
           tags = s .2;
           conforms = s .1;
           stands = spelled-stands doc n rows kids (s .2);
-          passes = k .0;
+          passes = k .0 .0;
+          heeds = k .0 .1;
           unused = k .1;
         },
       )
@@ -96,7 +98,7 @@ module _ (doc : List ℕ) (room : Room) (n : ℕ) (t : Tables) (short : length d
       let a = conforms-along Placed rows m 0 kids (m .some-row) (r .conforms) in
       let over : overOf rows (rowAfter 0 kids) (openAfter true kids) ≡ true =
       sym (run-along Placed rows kids 0 true a []) ∙ ap (follows rows 0 true) (append-nil (spell rows kids)) ∙ complete Placed rows w kids (r .conforms) in
-      let runs = along-runs doc room kind rows (Ends doc kind (outOf kind kids)) kids 0 true nothing t a [] (r .passes) (r .unused) (over, refl) in
+      let runs = along-runs doc room kind rows (Ends doc kind (outOf kind kids)) kids 0 true nothing t a [] (r .passes) (r .heeds) (r .unused) (over, refl) in
       ap (λ (st : State). readItems doc room xs st t) (sym begun-is)
       ∙ begun-back doc room kind (r .known) (outOf kind kids) xs t (items-low doc n short) (r .allowed)
       (respelled doc room kind rows (Ends doc kind (outOf kind kids)) 0 true nothing t (append-nil (spell rows kids) ∙ sym (r .tags)) runs)

@@ -65,6 +65,7 @@ stateOf kind r inside y =
       quarters = quarterHours (y .period .start) (y .period .end);
       last = y .last;
       originals = y .originals;
+      seen = y .seen;
     }
 
 -- the tables after the start tag of an element of row q, y being the tally after it

@@ -33,7 +33,7 @@ use Rattle.reader.proofs.Ran.{read-next, read-stop, still, unreadable}
 use Rattle.trees.specs.Trees.{Sign, Opens, Closes}
 use Rattle.contents.specs.Spelled.{saidOfTag, elementIn, allowed, AllAllowed}
 use Rattle.contents.proofs.Laid.{Layout, Known, laid}
-use Rattle.contents.proofs.Walk.{Tally, nothing, Ended}
+use Rattle.contents.proofs.Walk.{Tally, nothing, Shuts}
 use Rattle.contents.proofs.Fill.{tablesWith, saidByItem, saidOf, placedBy, placedSigns, stateOf}
 use Rattle.contents.proofs.Signs.{on-row, row-on, Goal, after, bringing, Runs, Opening, Closing, respelled}
 use Rattle.contents.proofs.Rooted.{first-row, no-end, not-over, row-within, row-named, short-ends, ends-row, row-ends}
@@ -168,11 +168,12 @@ module _ (doc : List ℕ) (room : Room) (kind : ℕ) (known : Known kind) where
   abbrev Reads : List Placed → ℕ → Bool → Tally → Tables → Type 0
   Reads xs r o y t = AllAllowed xs × Runs doc room kind rows (Over kind) (placedSigns xs) r o y t
 
-  -- the row of an empty tag is no Period's
-  ended-once : (q : ℕ) (y : Tally) → q < length rows → endsAtOnce rows q ≡ true → Ended kind (getD rows q 0) y
-  ended-once q y l e h =
-      let z : _≡_ {A = Bool} true false = sym e ∙ ap (endsAtOnce rows) (L .only-period q l h) ∙ laid kind known .filled in
-      absurd (zero-not-one (cc))
+  -- the row of an empty tag is no Period's and no root's
+  ended-once : (q : ℕ) (y : Tally) → q < length rows → endsAtOnce rows q ≡ true → Shuts kind (getD rows q 0) y
+  ended-once q y l e =
+      let gone : (i : ℕ) → q ≡ i → endsAtOnce rows i ≡ false → ⊥ =
+      λ i h f. let z : _≡_ {A = Bool} true false = sym e ∙ ap (endsAtOnce rows) h ∙ f in zero-not-one (cc) in
+      (λ h. absurd (gone p (L .only-period q l h) (laid kind known .filled)), λ h. absurd (gone 1 (L .only-root q l h) (laid kind known .rooted)))
 
   -- ---- a reading that is accepted
 

@@ -7,15 +7,15 @@ use mathlib.Core.Bool.{Bool, true, false, cond, not}
 use mathlib.Core.Logic.{⊎-elim}
 use lib.Dec.{eqb, leb, ltb}
 use lib.ListN.{length, getD}
-use borrow.Author.Tests.{eq-eqb, ne-eqb, eqb-true, le-leb, lt-ltb, ltb-true, not-true}
+use borrow.Author.Tests.{eq-eqb, ne-eqb, eqb-true, le-leb, lt-ltb, ltb-true, leb-true, not-true}
 use Rattle.lists.proofs.Below.{every, below}
 use Rattle.lists.proofs.Cases.{bool-cases, both-true, never, where-true}
 use Rattle.slices.specs.Same.{same}
 use Rattle.elements.specs.Names.{names, numberIn, elementNo}
 use Rattle.structure.specs.Rows.{nameOf, parentOf, required, repeated, endsIn, endsAtOnce}
 use Rattle.columns.specs.Columns.{formOf, collapsed, roleOf, periodForm, seriesRole, periodRole, seriesIdRole}
-use Rattle.guideline.specs.Kinds.{kindOne, kindTwo, isKind, kindOf}
-use Rattle.guideline.specs.Rows.{beschaffungsanforderung, kostenblatt, rowsOf}
+use Rattle.guideline.specs.Kinds.{noKind, kindOne, kindTwo, kindThree, kindAt, isKind, kindOf}
+use Rattle.guideline.specs.Rows.{beschaffungsanforderung, kostenblatt, networkConstraintDocument, rowsOf}
 use Rattle.guideline.proofs.Each.{of-kind}
 use Rattle.states.specs.Attributes.{asksV}
 use Rattle.trees.specs.Trees.{wellMade}
@@ -27,6 +27,10 @@ Known kind = isKind kind ≡ true
 -- the row that row q stands in; r is the row of a series
 abbrev pub home : ℕ → ℕ → ℕ → ℕ
 home r p q = cond (leb q 1) 0 (cond (leb q r) 1 (cond (leb q p) r (cond (leb q (p + 3)) p (p + 3))))
+
+-- BusinessType and Direction
+abbrev pub codedRole : ℕ → Bool
+codedRole role = cond (eqb role 7) true (eqb role 11)
 
 -- a table lies so, with its Period in row p
 pub record Layout (rows : List ℕ) (p : ℕ) : Type 0 where
@@ -59,6 +63,8 @@ pub record Layout (rows : List ℕ) (p : ℕ) : Type 0 where
   pub only-qty : (q : ℕ) → q < length rows → roleOf (getD rows q 0) ≡ 10 → q ≡ p + 5
   -- what the tables show stands in a series
   pub shown-in : (q : ℕ) → q < length rows → 6 ≤ roleOf (getD rows q 0) → 2 + heads < q
+  -- a BusinessType and a Direction have a code list
+  pub coded : (q : ℕ) → q < length rows → codedRole (roleOf (getD rows q 0)) ≡ true → 32 ≤ formOf (getD rows q 0)
   -- the values that are held against others
   pub covered-form : (q : ℕ) → q < length rows → formOf (getD rows q 0) ≡ 6 → q ≡ 2 + covered
   pub time-form : (q : ℕ) → q < length rows → formOf (getD rows q 0) ≡ 7 → q ≡ p + 1
@@ -82,13 +88,32 @@ seriesAt L = 2 + L .heads
 abbrev pub Valued : List ℕ → Type 0
 Valued rows = (q : ℕ) → q < length rows → 6 ≤ roleOf (getD rows q 0) → asksV (getD rows q 0) ≡ true
 
--- the rows of a kind; a Period has to have something in it, and the root's name tells the kind
+-- the rows that the rules between the series of a constraint look at, r being the row of a series
+pub record Sighted (rows : List ℕ) (r p : ℕ) : Type 0 where
+  pub business : roleOf (getD rows (r + 2) 0) ≡ 7
+  pub direction : roleOf (getD rows (r + 3) 0) ≡ 11
+  pub only-business : (q : ℕ) → q < length rows → roleOf (getD rows q 0) ≡ 7 → q ≡ r + 2
+  pub only-direction : (q : ℕ) → q < length rows → roleOf (getD rows q 0) ≡ 11 → q ≡ r + 3
+  pub business-form : formOf (getD rows (r + 2) 0) ≡ 51
+  pub direction-form : formOf (getD rows (r + 3) 0) ≡ 42
+  pub business-collapsed : collapsed (getD rows (r + 2) 0) ≡ true
+  pub direction-collapsed : collapsed (getD rows (r + 3) 0) ≡ true
+  pub must-first : required (getD rows (r + 1) 0) ≡ true
+  pub must-business : required (getD rows (r + 2) 0) ≡ true
+  pub must-direction : required (getD rows (r + 3) 0) ≡ true
+  -- a DocStatus stands in the root before the series
+  pub status : (q : ℕ) → q < length rows → formOf (getD rows q 0) ≡ 50 → (1 < q) × (q < r)
+  pub deep : r + 3 < p
+
+-- the rows of a kind; the root and a Period have to have something in them, and the root's name tells the kind
 pub record Laid (kind : ℕ) : Type 0 where
   pub period : ℕ
   pub layout : Layout (rowsOf kind) period
   pub valued : Valued (rowsOf kind)
   pub filled : endsAtOnce (rowsOf kind) period ≡ false
+  pub rooted : endsAtOnce (rowsOf kind) 1 ≡ false
   pub told : kindOf (nameOf (getD (rowsOf kind) 1 0)) ≡ kind
+  pub sighted : kindAt kind .constrained ≡ true → Sighted (rowsOf kind) (seriesAt layout) period
 
 -- ---- the tests by which a table lies so
 
@@ -144,6 +169,37 @@ abbrev rowBy : (ℕ → ℕ) → ℕ → List ℕ → ℕ
 rowBy column n [] = 0
 rowBy column n (w ∷ ws) = cond (eqb (column w) n) 0 (suc (rowBy column n ws))
 
+abbrev sights : List ℕ → ℕ → ℕ → List Bool
+sights rows r p =
+    soleTest rows roleOf 7 (r + 2) ∷ soleTest rows roleOf 11 (r + 3) ∷ eqb (formOf (getD rows (r + 2) 0)) 51 ∷ eqb (formOf (getD rows (r + 3) 0)) 42
+    ∷ collapsed (getD rows (r + 2) 0) ∷ collapsed (getD rows (r + 3) 0)
+    ∷ required (getD rows (r + 1) 0) ∷ required (getD rows (r + 2) 0) ∷ required (getD rows (r + 3) 0)
+    ∷ wherever rows (λ q. eqb (formOf (getD rows q 0)) 50) (λ q. cond (ltb 1 q) (ltb q r) false) ∷ ltb (r + 3) p ∷ []
+
+seen-so : (rows : List ℕ) (r p : ℕ) → all (sights rows r p) ≡ true → Sighted rows r p
+seen-so rows r p h =
+    let t : (n : ℕ) → getD (sights rows r p) n true ≡ true = all-at (sights rows r p) h in
+    let business = sole rows roleOf 7 (r + 2) (t 0) in
+    let direction = sole rows roleOf 11 (r + 3) (t 1) in
+    record {
+      business = business .0;
+      direction = direction .0;
+      only-business = business .1;
+      only-direction = direction .1;
+      business-form = eqb-true (formOf (getD rows (r + 2) 0)) 51 (t 2);
+      direction-form = eqb-true (formOf (getD rows (r + 3) 0)) 42 (t 3);
+      business-collapsed = t 4;
+      direction-collapsed = t 5;
+      must-first = t 6;
+      must-business = t 7;
+      must-direction = t 8;
+      status = λ q l e.
+          let f = at-row rows (λ q. eqb (formOf (getD rows q 0)) 50) (λ q. cond (ltb 1 q) (ltb q r) false) (t 9) q l (eq-eqb (formOf (getD rows q 0)) 50 e) in
+          let k = both-true (ltb 1 q) f in
+          (ltb-true 1 q (k .0), ltb-true q r (k .1));
+      deep = ltb-true (r + 3) p (t 10);
+    }
+
 abbrev tests : ℕ → ℕ → ℕ → ℕ → ℕ → List Bool
 tests kind p d c i =
     let rows = rowsOf kind in
@@ -158,7 +214,9 @@ tests kind p d c i =
     ∷ required (getD rows (p + 4) 0) ∷ required (getD rows (p + 5) 0)
     ∷ wherever rows (λ q. repeated (getD rows q 0)) (λ q. cond (eqb q (2 + d)) true (eqb q (p + 3)))
     ∷ wherever rows (λ q. leb 6 (roleOf (getD rows q 0))) (λ q. asksV (getD rows q 0))
-    ∷ not (endsAtOnce rows p) ∷ eqb (kindOf (nameOf (getD rows 1 0))) kind ∷ ltb c d ∷ ltb (2 + d) i ∷ ltb i p ∷ []
+    ∷ not (endsAtOnce rows p) ∷ eqb (kindOf (nameOf (getD rows 1 0))) kind ∷ ltb c d ∷ ltb (2 + d) i ∷ ltb i p
+    ∷ wherever rows (λ q. codedRole (roleOf (getD rows q 0))) (λ q. leb 32 (formOf (getD rows q 0)))
+    ∷ not (endsAtOnce rows 1) ∷ cond (kindAt kind .constrained) (all (sights rows (2 + d) p)) true ∷ []
 
 -- the tests by their places in that list
 tested : (kind p d c i : ℕ) → wellMade (rowsOf kind) ≡ true → all (tests kind p d c i) ≡ true → Laid kind
@@ -205,6 +263,7 @@ tested kind p d c i well h =
             only-pos = pos .1;
             only-qty = qty .1;
             shown-in = λ q l e. ltb-true (2 + d) q (of-shown (λ q. ltb (2 + d) q) (t 8) q l e);
+            coded = λ q l e. leb-true 32 (formOf (getD rows q 0)) (at-row rows (λ q. codedRole (roleOf (getD rows q 0))) (λ q. leb 32 (formOf (getD rows q 0))) (t 29) q l e);
             covered-form = sole rows formOf 6 (2 + c) (t 12) .1;
             time-form = sole rows formOf 7 (p + 1) (t 13) .1;
             only-pos-form = pos-form .1;
@@ -220,7 +279,9 @@ tested kind p d c i well h =
           };
       valued = λ q l e. of-shown (λ q. asksV (getD rows q 0)) (t 23) q l e;
       filled = not-true (endsAtOnce rows p) (t 24);
+      rooted = not-true (endsAtOnce rows 1) (t 30);
       told = eqb-true (kindOf (nameOf (getD rows 1 0))) kind (t 25);
+      sighted = λ e. seen-so rows (2 + d) p (where-true (kindAt kind .constrained) (t 31) e);
     }
 
 -- where the rows of a kind with these roles, and TimePeriodCovered, stand
@@ -231,7 +292,7 @@ abbrev coveredIn : ℕ → ℕ
 coveredIn kind = rowBy formOf periodForm (rowsOf kind)
 
 pub laid : (kind : ℕ) → Known kind → Laid kind
-unfolding rowsOf beschaffungsanforderung kostenblatt elementNo numberIn names same parentOf required repeated roleOf formOf collapsed asksV nameOf kindOf kindOne kindTwo endsAtOnce endsIn
+unfolding rowsOf beschaffungsanforderung kostenblatt networkConstraintDocument elementNo numberIn names same parentOf required repeated roleOf formOf collapsed asksV nameOf kindOf kindOne kindTwo kindThree noKind kindAt endsAtOnce endsIn
 laid kind known =
     tested kind (rowIn kind periodRole) (rowIn kind seriesRole - 2) (coveredIn kind - 2) (rowIn kind seriesIdRole) (well-made kind known)
     (of-kind (λ k. all (tests k (rowIn k periodRole) (rowIn k seriesRole - 2) (coveredIn k - 2) (rowIn k seriesIdRole))) refl kind known)

@@ -17,6 +17,8 @@ pub mod Tallies
 pub mod Segments
 pub mod Levels
 pub mod Rules
+pub mod Stages
+pub mod Heeded
 pub mod Views
 pub mod Roles
 pub mod Intervals

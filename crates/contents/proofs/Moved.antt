@@ -33,7 +33,7 @@ use Rattle.contents.specs.Said.{TagSaid}
 use Rattle.contents.specs.Spelled.{saidOfTag}
 use Rattle.contents.specs.Legal.{positionOf}
 use Rattle.contents.proofs.Laid.{Layout, Known}
-use Rattle.contents.proofs.Walk.{Tally, opened, Taken, Ended}
+use Rattle.contents.proofs.Walk.{Tally, opened, Takes, Shuts}
 use Rattle.contents.proofs.Fill.{saidOf, stateOf}
 use Rattle.contents.proofs.Signs.{after, bringing, New}
 use Rattle.contents.proofs.Steps.{judged-taken, taken-judged, entered-opened, entry-same, ended-taken, taken-ended, closed-same}
@@ -128,7 +128,7 @@ module _ (doc : List ℕ) (room : Room) (kind : ℕ) (rows : List ℕ) where
   -- the tag takes row q
   pub record Went (r : ℕ) (o : Bool) (y : Tally) (t : Tables) (x : Placed) (name : ℕ) (empty : Bool) (q : ℕ) : Type 0 where
     pub due : startOf rows r o name ≡ Row q
-    pub taken : Taken kind room (getD rows q 0) (saidOf x) y
+    pub taken : Takes kind room (getD rows q 0) (saidOf x) y
     pub whole : cutShort empty rows q ≡ false
     pub new : New doc rows q x (after rows q x y) t
 
@@ -141,7 +141,7 @@ module _ (doc : List ℕ) (room : Room) (kind : ℕ) (rows : List ℕ) where
 -- and so with an end tag
 abbrev pub Closed : ℕ → List ℕ → ℕ → Bool → Tally → ℕ → Step → Type 0
 Closed kind rows r o y name (Next st e) =
-    (q : ℕ) × (endOf rows r o name ≡ Row q) × Ended kind (getD rows q 0) y × (st ≡ stateOf kind q false y) × (e ≡ Nothing)
+    (q : ℕ) × (endOf rows r o name ≡ Row q) × Shuts kind (getD rows q 0) y × (st ≡ stateOf kind q false y) × (e ≡ Nothing)
 Closed kind rows r o y name (Refused n) = n ≡ 0 → ⊥
 
 module _ (doc : List ℕ) (room : Room) (kind : ℕ) (rows : List ℕ) (p : ℕ) (L : Layout rows p) where
@@ -149,20 +149,20 @@ module _ (doc : List ℕ) (room : Room) (kind : ℕ) (rows : List ℕ) (p : ℕ)
       (says : saidOfTag tag (x .rest) ≡ saidOf x) (n : ℕ) (low : Low (suc n) y) where
     module _ (q : ℕ) (d : startOf rows r o name ≡ Row q) where
       -- the start tag, judged good, moves the state to that of the tally after it
-      went : (a : Taken kind room (getD rows q 0) (saidOf x) y) → cutShort empty rows q ≡ false
+      went : (a : Takes kind room (getD rows q 0) (saidOf x) y) → cutShort empty rows q ≡ false
           → startedBy (stateOf k₀ r o y) kind q (getD rows q 0) empty (startJudged (stateOf k₀ r o y) kind rows q tag (x .rest) empty room)
           ≡ Next (stateOf kind q (not empty) (after rows q x y)) (bringing rows q x)
       unfolding startedBy
       went a b =
           let g = row-within rows p L r o name q d in
-          let a′ : Taken kind room (getD rows q 0) (saidOfTag tag (x .rest)) y = rw says a in
-          let j = taken-judged kind rows p L room k₀ r o y q g tag (x .rest) empty a′ b .0 in
+          let a′ : Takes kind room (getD rows q 0) (saidOfTag tag (x .rest)) y = rw says a in
+          let j = taken-judged kind rows p L room k₀ r o y q g tag (x .rest) empty (a′ .0) (a′ .1) b .0 in
           let u = counts in
           let e =
-          entered-opened kind rows p L room k₀ r o y q g tag (x .rest) empty a′ b (u .0) (u .1) (u .2) (not empty)
+          entered-opened kind rows p L room k₀ r o y q g tag (x .rest) empty (a′ .0) (a′ .1) b (u .0) (u .1) (u .2) (not empty)
           ∙ ap (λ (m : TagSaid). stateOf kind q (not empty) (opened (getD rows q 0) m y)) says in
           let h =
-          entry-same kind rows p L room k₀ r o y q g tag (x .rest) empty a′ b
+          entry-same kind rows p L room k₀ r o y q g tag (x .rest) empty (a′ .0) (a′ .1) b
           ∙ ap (λ (m : TagSaid). entryOf (roleOf (getD rows q 0)) (positionOf m)) says in
           rw (e, h, j)
         where
@@ -186,7 +186,7 @@ module _ (doc : List ℕ) (room : Room) (kind : ℕ) (rows : List ℕ) (p : ℕ)
           ⊎-elim
           (λ (h : (j .number ≡ 0) × (eqb (j .number) 0 ≡ true)).
           let k = judged-taken kind rows p L room k₀ r o y q g tag (x .rest) empty (h .0) in
-          let a : Taken kind room (getD rows q 0) (saidOf x) y = subst (λ (m : TagSaid). Taken kind room (getD rows q 0) m y) says (k .0) in
+          let a : Takes kind room (getD rows q 0) (saidOf x) y = subst (λ (m : TagSaid). Takes kind room (getD rows q 0) m y) says (k .0) in
           let e = went a (k .1) in
           ⊎-elim
           (λ u. subst goes (sym (ap whole e ∙ is-used doc (t .series) (x .item) (x .rest) st (bringing rows q x) u)) (λ z. omega (arith, z)))
@@ -233,7 +233,7 @@ module _ (doc : List ℕ) (kind : ℕ) (rows : List ℕ) (r : ℕ) (o : Bool) (y
           (λ (h : (endRefusal (stateOf kind r o y) rows q ≡ 0 → ⊥) × (eqb (endRefusal (stateOf kind r o y) rows q) 0 ≡ false)). rw (h .1) (h .0))
           (eqb-cases (endRefusal (stateOf kind r o y) rows q) 0)
 
-  pub went-ends : (q : ℕ) → endOf rows r o name ≡ Row q → Ended kind (getD rows q 0) y
+  pub went-ends : (q : ℕ) → endOf rows r o name ≡ Row q → Shuts kind (getD rows q 0) y
       → withoutUsed doc ts i s (afterEnd (stateOf kind r o y) rows name) ≡ Next (stateOf kind q false y) Nothing
   unfolding afterEnd afterEndAt withoutUsed usedBefore usedWith broughtBy stateOf
   went-ends q z h =

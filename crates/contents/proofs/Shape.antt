@@ -10,7 +10,7 @@ use lib.Dec.{eqb}
 use lib.ListN.{length, getD}
 use borrow.Author.Tests.{eq-eqb, ne-eqb, le-leb, lt-leb}
 use Rattle.lists.proofs.Cases.{eqb-cases, leb-cases, ltb-cases, zero-not-one, up}
-use Rattle.structure.specs.Rows.{parentOf, repeated}
+use Rattle.structure.specs.Rows.{parentOf, required, repeated}
 use Rattle.columns.specs.Columns.{roleOf}
 use Rattle.trees.specs.Trees.{Trees, none, element, rowsTaken, Stand, ComesAfter, InOrder, Among, Fits, EachConforms, Conforms}
 use Rattle.trees.proofs.Made.{made, child-after}
@@ -155,6 +155,19 @@ module _ (rows : List ℕ) (p : ℕ) (L : Layout rows p) where
       (ltb-cases k r))
       c
 
+  -- a row among those that come after row r
+  among-after : (k r : ℕ) (qs : List ℕ) → ComesAfter rows r qs → InOrder rows qs → Among k qs → r ≤ k
+  unfolding ComesAfter InOrder Among
+  among-after k r [] a o m = absurd m
+  among-after k r (q ∷ qs) a o m =
+      let b : r ≤ q = ⊎-elim (λ (g : r < q). omega (arith, g)) (λ (g : (q ≡ r) × (repeated (getD rows r 0) ≡ true)). omega (arith, g .0)) a in
+      ⊎-elim (λ (e : k ≡ q). omega (arith, b, e)) (λ h. let z = among-after k q qs (o .0) (o .1) h in omega (arith, z, b)) m
+
+  -- the values of a series come once
+  value-once : (k : ℕ) → seriesAt L < k → k < p → repeated (getD rows k 0) ≡ false
+  value-once k a b =
+      let z = L .size in L .once k (omega (arith, z, b)) (λ (e : k ≡ seriesAt L). omega (arith, e, a)) (λ (e : k ≡ p + 3). omega (arith, e, b))
+
   module _ {A : Type 0} where
     -- nothing comes after the last row that may stand in h, where that comes once
     alone : (k h : ℕ) (c : Trees A) → repeated (getD rows k 0) ≡ false → ((q : ℕ) → q < length rows → parentOf (getD rows q 0) ≡ h → q ≤ k)
@@ -250,6 +263,102 @@ module _ (rows : List ℕ) (p : ℕ) (L : Layout rows p) where
           deep = t .deep;
         })
         (eqb-cases q p)
+
+    -- ---- its first values, where they have to come
+
+    -- none of them is of a row before k
+    abbrev From : ℕ → Trees A → Type 0
+    From k none = Unit {0}
+    From k (element q tag inner after) = k ≤ q
+
+    -- row k is the first of them
+    record Led (k : ℕ) (c : Trees A) : Type 0 where
+      tag : A
+      after : Trees A
+      is : c ≡ element k tag none after
+      comes : ComesAfter rows k (rowsTaken after)
+      ordered : InOrder rows (rowsTaken after)
+      stands : Stand rows (seriesAt L) (rowsTaken after)
+      each : EachConforms rows after
+      others : (j : ℕ) → k < j → Among j (rowsTaken c) → Among j (rowsTaken after)
+
+    lead : (k : ℕ) → seriesAt L < k → k < p → (c : Trees A) → From k c → Stand rows (seriesAt L) (rowsTaken c) → InOrder rows (rowsTaken c) → EachConforms rows c
+        → Among k (rowsTaken c) → Led k c
+    unfolding rowsTaken Stand InOrder Among EachConforms
+    lead k a b none f s o each m = absurd m
+    lead k a b (element q tag inner after) f s o each m =
+        let e : q ≡ k =
+        ⊎-elim (λ (g : k ≡ q). sym g) (λ g. let z = among-after k q (rowsTaken after) (o .0) (o .1) g in omega (arith, z, f)) m in
+        let n = value-bare q inner (omega (arith, a, e)) (λ (z : q ≡ seriesAt L). omega (arith, z, a, e)) (omega (arith, b, e)) (each .0 .stand) in
+        record {
+          tag = tag;
+          after = after;
+          is = ap (λ i. element q tag i after) n ∙ ap (λ (i : ℕ). element i tag none after) e;
+          comes = subst (λ (i : ℕ). ComesAfter rows i (rowsTaken after)) e (o .0);
+          ordered = o .1;
+          stands = s .2;
+          each = each .2;
+          others = λ j l h. ⊎-elim (λ (z : j ≡ q). absurd (omega (arith, z, l, e))) (λ z. z) h;
+        }
+
+    stand-from : (c : Trees A) → Stand rows (seriesAt L) (rowsTaken c) → From (seriesAt L + 1) c
+    unfolding rowsTaken Stand
+    stand-from none s = tt
+    stand-from (element q tag inner after) s = let z = under-series q (s .0) (s .1) .0 in omega (arith, z)
+
+    next-from : (k j : ℕ) → j ≡ k + 1 → repeated (getD rows k 0) ≡ false → (c : Trees A) → ComesAfter rows k (rowsTaken c) → From j c
+    unfolding rowsTaken
+    next-from k j e o none a = tt
+    next-from k j e o (element q tag inner after) a = let z = further k k q (rowsTaken after) o (omega arith) a in omega (arith, z, e)
+
+    -- past a row that comes once come later rows alone, at any depth
+    past : (k : ℕ) → repeated (getD rows k 0) ≡ false → (h : ℕ) (c : Trees A) (j : ℕ) → k ≤ j → ComesAfter rows j (rowsTaken c) → InOrder rows (rowsTaken c)
+        → Stand rows h (rowsTaken c) → EachConforms rows c → Within (λ q. (k < q) × (q < length rows)) c
+    unfolding rowsTaken Stand InOrder EachConforms Within
+    past k o h none j b a i s each = tt
+    past k o h (element q tag inner after) j b a i s each =
+        let g = further k j q (rowsTaken after) o b a in (
+          (g, s .0),
+          beyond k q inner (omega (arith, g)) (s .0) (each .0 .stand) (each .1),
+          past k o h after q (omega (arith, g)) (i .0) (i .1) (s .2) (each .2),
+        )
+
+    pub record FirstThree (c : Trees A) : Type 0 where
+      pub first : A
+      pub second : A
+      pub third : A
+      pub rest : Trees A
+      pub is : c ≡ element (seriesAt L + 1) first none (element (seriesAt L + 2) second none (element (seriesAt L + 3) third none rest))
+      pub later : Within (λ q. (seriesAt L + 3 < q) × (q < length rows)) rest
+
+    module _ (deep : seriesAt L + 3 < p) (one : required (getD rows (seriesAt L + 1) 0) ≡ true) (two : required (getD rows (seriesAt L + 2) 0) ≡ true)
+        (three : required (getD rows (seriesAt L + 3) 0) ≡ true) where
+      pub first-three : (c : Trees A) → Fits rows (seriesAt L) (rowsTaken c) → EachConforms rows c → FirstThree c
+      first-three c f conform =
+          let z = L .size in
+          let r = seriesAt L in
+          let must : (k : ℕ) → r < k → k < p → required (getD rows k 0) ≡ true → Among k (rowsTaken c) =
+          λ k a b m. f .complete k (omega (arith, z, b)) (in-series-row k a (omega (arith, b))) m in
+          let in1 : r + 1 < p = omega (arith, deep) in
+          let in2 : r + 2 < p = omega (arith, deep) in
+          let a = lead (r + 1) (omega arith) in1 c (stand-from c (f .stand)) (f .stand) (f .ordered) conform (must (r + 1) (omega arith) in1 one) in
+          let b =
+          lead (r + 2) (omega arith) in2 (a .after) (next-from (r + 1) (r + 2) (omega arith) (value-once (r + 1) (omega arith) in1) (a .after) (a .comes)) (a .stands)
+          (a .ordered) (a .each) (a .others (r + 2) (omega arith) (must (r + 2) (omega arith) in2 two)) in
+          let d =
+          lead (r + 3) (omega arith) deep (b .after) (next-from (r + 2) (r + 3) (omega arith) (value-once (r + 2) (omega arith) in2) (b .after) (b .comes)) (b .stands)
+          (b .ordered) (b .each)
+          (b .others (r + 3) (omega arith) (a .others (r + 3) (omega arith) (must (r + 3) (omega arith) deep three))) in
+          record {
+            first = a .tag;
+            second = b .tag;
+            third = d .tag;
+            rest = d .after;
+            is =
+                a .is
+                ∙ ap (λ i. element (r + 1) (a .tag) none i) (b .is ∙ ap (λ i. element (r + 2) (b .tag) none i) (d .is));
+            later = past (r + 3) (value-once (r + 3) (omega arith) deep) r (d .after) (r + 3) (omega arith) (d .comes) (d .ordered) (d .stands) (d .each);
+          }
 
     -- series side by side
     unfoldable pub AllSeries : Trees A → Type 0

@@ -21,7 +21,7 @@ use Rattle.trees.specs.Trees.{Sign, Opens, Closes, Trees, none, element, spell}
 use Rattle.trees.specs.Cursor.{onRow, follows, rowAfter, openAfter}
 use Rattle.trees.proofs.Along.{Along, spell-on, closes-after, due-within}
 use Rattle.contents.specs.Legal.{positionOf}
-use Rattle.contents.proofs.Walk.{Tally, opened, walked, Taken, Ended, Passes}
+use Rattle.contents.proofs.Walk.{Tally, opened, walked, Takes, Shuts, Heeds, Passes}
 use Rattle.contents.proofs.Fill.{saidOf, saying, tablesWith, filled, Unused}
 
 -- a row is due, and this holds of it
@@ -61,21 +61,21 @@ module _ (doc : List ℕ) (room : Room) (kind : ℕ) (rows : List ℕ) where
   Runs goal (Opens x name ∷ s) r o y t =
       OnRow (startOf rows r o name)
       (λ q.
-      Taken kind room (getD rows q 0) (saidOf x) y
+      Takes kind room (getD rows q 0) (saidOf x) y
       × New doc rows q x (after rows q x y) t
       × Runs goal s q true (after rows q x y) (tablesWith kind rows q x (after rows q x y) t))
   Runs goal (Closes name ∷ s) r o y t =
-      OnRow (endOf rows r o name) (λ q. Ended kind (getD rows q 0) y × Runs goal s q false y t)
+      OnRow (endOf rows r o name) (λ q. Shuts kind (getD rows q 0) y × Runs goal s q false y t)
 
   -- what a start tag's row has to pass, and an end tag's, with the signs s after it
   abbrev pub Opening : Goal → Placed → List (Sign Placed) → Tally → Tables → ℕ → Type 0
   Opening goal x s y t q =
-      Taken kind room (getD rows q 0) (saidOf x) y
+      Takes kind room (getD rows q 0) (saidOf x) y
       × New doc rows q x (after rows q x y) t
       × Runs goal s q true (after rows q x y) (tablesWith kind rows q x (after rows q x y) t)
 
   abbrev pub Closing : Goal → List (Sign Placed) → Tally → Tables → ℕ → Type 0
-  Closing goal s y t q = Ended kind (getD rows q 0) y × Runs goal s q false y t
+  Closing goal s y t q = Shuts kind (getD rows q 0) y × Runs goal s q false y t
 
   pub respelled : (goal : Goal) (r : ℕ) (o : Bool) (y : Tally) (t : Tables) {a b : List (Sign Placed)} → a ≡ b → Runs goal a r o y t → Runs goal b r o y t
   respelled goal r o y t e h = subst (λ (s : List (Sign Placed)). Runs goal s r o y t) e h
@@ -98,11 +98,11 @@ module _ (doc : List ℕ) (room : Room) (kind : ℕ) (rows : List ℕ) where
 
     pub runs-along : (kids : Trees Placed) (r : ℕ) (o : Bool) (y : Tally) (t : Tables) → Along rows r o kids → (rest : List (Sign Placed))
         → Runs goal (spell rows kids ++ rest) r o y t
-        → Passes kind room rows (saying kids) y
+        → (Passes kind room rows (saying kids) y × Heeds kind rows (saying kids) y)
         × Unused doc kind rows kids y t
         × Runs goal rest (rowAfter r kids) (openAfter o kids) (walked rows (saying kids) y) (filled kind rows kids y t)
-    unfolding Runs spell rowAfter openAfter saying Passes Unused walked filled
-    runs-along none r o y t a rest h = (tt, tt, h)
+    unfolding Runs spell rowAfter openAfter saying Passes Heeds Unused walked filled
+    runs-along none r o y t a rest h = ((tt, tt), tt, h)
     runs-along (element q x inner later) r o y t a rest h =
         let name = nameOf (getD rows q 0) in
         let l = due-within rows r o name q (a .0) in
@@ -119,17 +119,21 @@ module _ (doc : List ℕ) (room : Room) (kind : ℕ) (rows : List ℕ) where
         let h3 =
         row-of (endOf rows (rowAfter q inner) (openAfter true inner) name) (Closing goal (spell rows later ++ rest) y2 t2) q
         (closes-after Placed rows inner q true q refl l l (a .1)) (h2 .2) in
-        let h4 = runs-along later q false y2 t2 (a .2) rest (h3 .1) in
-        ((h1 .0, h2 .0, h3 .0, h4 .0), (h1 .1, h2 .1, h4 .1), h4 .2)
+        let h4 = runs-along later q false y2 t2 (a .2) rest (h3 .1) in (
+          ((h1 .0 .0, h2 .0 .0, h3 .0 .0, h4 .0 .0), (h1 .0 .1, h2 .0 .1, h3 .0 .1, h4 .0 .1)),
+          (h1 .1, h2 .1, h4 .1),
+          h4 .2,
+        )
 
     pub along-runs : (kids : Trees Placed) (r : ℕ) (o : Bool) (y : Tally) (t : Tables) → Along rows r o kids → (rest : List (Sign Placed))
         → Passes kind room rows (saying kids) y
+        → Heeds kind rows (saying kids) y
         → Unused doc kind rows kids y t
         → Runs goal rest (rowAfter r kids) (openAfter o kids) (walked rows (saying kids) y) (filled kind rows kids y t)
         → Runs goal (spell rows kids ++ rest) r o y t
-    unfolding Runs spell rowAfter openAfter saying Passes Unused walked filled
-    along-runs none r o y t a rest p u h = h
-    along-runs (element q x inner later) r o y t a rest p u h =
+    unfolding Runs spell rowAfter openAfter saying Passes Heeds Unused walked filled
+    along-runs none r o y t a rest p b u h = h
+    along-runs (element q x inner later) r o y t a rest p b u h =
         let name = nameOf (getD rows q 0) in
         let l = due-within rows r o name q (a .0) in
         let y1 = after rows q x y in
@@ -137,11 +141,11 @@ module _ (doc : List ℕ) (room : Room) (kind : ℕ) (rows : List ℕ) where
         let y2 = walked rows (saying inner) y1 in
         let t2 = filled kind rows inner y1 t1 in
         let behind = spell rows inner ++ (Closes name ∷ (spell rows later ++ rest)) in
-        let h4 = along-runs later q false y2 t2 (a .2) rest (p .3) (u .2) h in
+        let h4 = along-runs later q false y2 t2 (a .2) rest (p .3) (b .3) (u .2) h in
         let h3 : Runs goal (Closes name ∷ (spell rows later ++ rest)) (rowAfter q inner) (openAfter true inner) y2 t2 =
         row-on (endOf rows (rowAfter q inner) (openAfter true inner) name) (Closing goal (spell rows later ++ rest) y2 t2) q
-        (closes-after Placed rows inner q true q refl l l (a .1)) (p .2, h4) in
-        let h2 = along-runs inner q true y1 t1 (a .1) (Closes name ∷ (spell rows later ++ rest)) (p .1) (u .1) h3 in
+        (closes-after Placed rows inner q true q refl l l (a .1)) ((p .2, b .2), h4) in
+        let h2 = along-runs inner q true y1 t1 (a .1) (Closes name ∷ (spell rows later ++ rest)) (p .1) (b .1) (u .1) h3 in
         let h1 : Runs goal (Opens x name ∷ behind) r o y t =
-        row-on (startOf rows r o name) (Opening goal x behind y t) q (start-made rows r name q o (a .0)) (p .0, u .0, h2) in
+        row-on (startOf rows r o name) (Opening goal x behind y t) q (start-made rows r name q o (a .0)) ((p .0, b .0), u .0, h2) in
         respelled goal r o y t (sym (spell-on Placed rows q x inner later rest)) h1

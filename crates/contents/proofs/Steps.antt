@@ -1,7 +1,7 @@
 -- One tag: the reading state that goes with a tally takes a start tag where the walk takes it and an end tag where the walk ends it, and goes on to the state
 -- of the tally after it.
 -- Assumes nothing.
-use Prim.Native.Nat.{ℕ, _+_, _-_, _<_}
+use Prim.Native.Nat.{ℕ, _+_, _-_, _≤_, _<_}
 use mathlib.Core.Path.{_≡_, refl, sym, ap, _∙_}
 use mathlib.Core.List.{List}
 use mathlib.Core.Logic.{_⊎_, inl, inr, ⊎-elim}
@@ -10,7 +10,7 @@ use native.Mathlib.Omega.{arith}
 use lib.ListN.{length, getD}
 use lib.Dec.{leb, ltb, eqb}
 use borrow.Author.Tests.{eq-eqb, ne-eqb, le-ltb, lt-leb, eqb-true}
-use Rattle.lists.proofs.Cases.{bool-cases, by-cond, eqb-cases, zero-not-one, both-true}
+use Rattle.lists.proofs.Cases.{bool-cases, by-cond, eqb-cases, never, zero-not-one, both-true}
 use Rattle.characters.specs.Says.{says}
 use Rattle.trims.specs.Trim.{dropped}
 use Rattle.numbers.specs.Number.{numberOf}
@@ -27,21 +27,23 @@ use Rattle.items.specs.declared.Tag.{Tag}
 use Rattle.columns.specs.Columns.{formOf, collapsed, schemeOf, roleOf}
 use Rattle.guideline.specs.Kinds.{dtdVersion, dtdRelease, dtdMessage, kindAt, fixedFor, takesAnother}
 use Rattle.guideline.specs.declared.Demands.{Demands}
-use Rattle.rules.specs.Rules.{refused, periodFits, judgePeriodBy, judgePeriod, positionFits, judgePositionBy, judgePosition, judge}
+use Rattle.rules.specs.Rules.{refused, codeNo, periodFits, judgePeriodBy, judgePeriod, positionFits, judgePositionBy, judgePosition, judge}
 use Rattle.rules.specs.declared.Held.{Held}
 use Rattle.rules.specs.declared.Judged.{Judged}
 use Rattle.states.specs.Attributes.{attributesFit, there, agree, asksV, asksScheme, demandsAt, meets, dtdFits, noOthers, valueOf, schemeRefusal, least, alsoScheme, valueFixed, dtdFixed, judgeTag}
-use Rattle.states.specs.Moves.{heldOf, cutShort, tooMany, noRoom, halfOriginals, startJudged, atRow, oneSeries, oneInterval, oneOriginal, lastPos, covering, kept, entered, entryOf, closedAt, endRefusal}
+use Rattle.states.specs.Moves.{heldOf, cutShort, tooMany, noRoom, halfOriginals, againstOthers, besideOthers, startJudged, atRow, oneSeries, oneInterval, oneOriginal, lastPos, covering, kept, entered, entryOf, closedAt, lackRefusal, endRefusal}
+use Rattle.states.specs.Constraints.{noticed, against, lacking}
 use Rattle.states.specs.declared.State.{State}
+use Rattle.states.specs.declared.Seen.{Seen}
 use Rattle.states.specs.declared.Room.{Room}
-use Rattle.states.proofs.Judgements.{Passed, passed-judged, judged-passed, series-room, interval-room}
+use Rattle.states.proofs.Judgements.{Passed, passed-judged, judged-passed, beside-same, beside-taken, series-room, interval-room}
 use Rattle.states.proofs.Judgements.{one-more}
 use Rattle.trees.proofs.Made.{both}
 use Rattle.contents.specs.Said.{Absent, Given, TagSaid, bytes}
 use Rattle.contents.specs.Spelled.{valueGiven, dtdOfTag, saidOfTag}
 use Rattle.contents.specs.Legal.{periodBy, quartersOf, positionBy, positionOf, sayings, dtdAgrees, attributesAgree, fixedFits, rootFits, schemeFits, valueFits, elementFits}
-use Rattle.contents.proofs.Laid.{Layout}
-use Rattle.contents.proofs.Walk.{Tally, quartersIn, opened, Taken, Ended}
+use Rattle.contents.proofs.Laid.{Layout, codedRole}
+use Rattle.contents.proofs.Walk.{Tally, quartersIn, opened, Taken, Allowed, Takes, Shuts}
 use Rattle.contents.proofs.Fill.{stateOf}
 use Rattle.contents.proofs.Values.{asked-there, given-there, there-bytes}
 
@@ -196,6 +198,34 @@ judge-last : (form : ℕ) (h : Held) (l : ℕ) (cs : List ℕ) → (form ≡ 9 �
 unfolding judge
 judge-last form h l cs e = rw (ne-eqb form 9 e)
 
+-- ---- which code a value is
+
+judge-coded : (form : ℕ) (h : Held) (cs : List ℕ) → 32 ≤ form → judge form h cs .first ≡ codeNo form cs
+unfolding judge
+judge-coded form h cs l =
+    rw (
+      ne-eqb form 6 (λ e. omega (arith, e, l)),
+      ne-eqb form 7 (λ e. omega (arith, e, l)),
+      ne-eqb form 8 (λ e. omega (arith, e, l)),
+      ne-eqb form 9 (λ e. omega (arith, e, l)),
+    ) refl
+
+uncoded : (role : ℕ) → codedRole role ≡ false → (eqb role 7 ≡ false) × (eqb role 11 ≡ false)
+uncoded role f = by (eqb role 7) (eqb role 11) f
+  where
+    by : (a b : Bool) → cond a true b ≡ false → (a ≡ false) × (b ≡ false)
+    by true b e = never (sym e)
+    by false b e = (refl, e)
+
+-- of no other row it matters
+against-any : (z : Seen) (n role a b : ℕ) → codedRole role ≡ false → against z n role a ≡ against z n role b
+unfolding against
+against-any z n role a b f = let g = uncoded role f in rw (g .0, g .1) refl
+
+noticed-any : (z : Seen) (w a b : ℕ) → codedRole (roleOf w) ≡ false → noticed z w a ≡ noticed z w b
+unfolding noticed
+noticed-any z w a b f = let g = uncoded (roleOf w) f in rw (g .0, g .1) refl
+
 -- ---- the tests before the values
 
 taken-many : (x : State) (role kind : ℕ) → tooMany x role kind ≡ false → role ≡ 4 → takesAnother kind (x .intervals - x .first) ≡ true
@@ -281,6 +311,33 @@ module _ (kind k₀ r : ℕ) (o : Bool) (y : Tally) (w : ℕ) (u : TagSaid) wher
   unfolding judgedSaid alsoScheme
   value-kept a b = rw (ne-eqb (roleOf w) 1 a, ne-eqb (formOf w) 0 b) (refl, refl)
 
+  -- the code that is told is the one that the value says
+  module _ (coded : codedRole (roleOf w) ≡ true → 32 ≤ formOf w) where
+    code-first : codedRole (roleOf w) ≡ true → judgedSaid w held u .first ≡ codeNo (formOf w) (sayings w u)
+    code-first e =
+        let l = coded e in
+        value-kept (λ z. let f : false ≡ true = rw z at e in never f) (λ z. omega (arith, z, l)) .0 ∙ judge-coded (formOf w) held (sayings w u) l
+
+    noticed-first : noticed (y .seen) w (judgedSaid w held u .first) ≡ noticed (y .seen) w (codeNo (formOf w) (sayings w u))
+    noticed-first =
+        ⊎-elim
+        (λ e. ap (λ (c : ℕ). noticed (y .seen) w c) (code-first e))
+        (λ e. noticed-any (y .seen) w (judgedSaid w held u .first) (codeNo (formOf w) (sayings w u)) e)
+        (bool-cases (codedRole (roleOf w)))
+
+    against-first : against (y .seen) (y .series) (roleOf w) (judgedSaid w held u .first)
+        ≡ against (y .seen) (y .series) (roleOf w) (codeNo (formOf w) (sayings w u))
+    against-first =
+        ⊎-elim
+        (λ e. ap (λ (c : ℕ). against (y .seen) (y .series) (roleOf w) c) (code-first e))
+        (λ e. against-any (y .seen) (y .series) (roleOf w) (judgedSaid w held u .first) (codeNo (formOf w) (sayings w u)) e)
+        (bool-cases (codedRole (roleOf w)))
+
+    allowed-same : againstOthers (stateOf k₀ r o y) kind (roleOf w) (judgedSaid w held u .first)
+        ≡ cond (kindAt kind .constrained) (against (y .seen) (y .series) (roleOf w) (codeNo (formOf w) (sayings w u))) false
+    unfolding againstOthers stateOf
+    allowed-same = ap (λ (t : Bool). cond (kindAt kind .constrained) t false) against-first
+
   module _ (pos-row : formOf w ≡ 9 → (collapsed w ≡ true) × (roleOf w ≡ 1 → ⊥)) where
     values-fit : valuesFit kind w u (eqb (valueJudged .number) 0) ≡ true
         → (valuesFit kind w u (valueFits kind (y .period) w u) ≡ true)
@@ -319,29 +376,30 @@ record Alone (role : ℕ) : Type 0 where
   original : role ≡ 5 → ⊥
   pos : role ≡ 9 → ⊥
 
-module _ (kind k₀ r : ℕ) (o : Bool) (y : Tally) (q w : ℕ) (u : TagSaid) (j : Judged) (within : Bool) where
+module _ (kind k₀ r : ℕ) (o : Bool) (y : Tally) (q w : ℕ) (u : TagSaid) (j : Judged) (within : Bool)
+    (marks : noticed (y .seen) w (j .first) ≡ noticed (y .seen) w (codeNo (formOf w) (sayings w u))) where
   abbrev after : State
   after = entered (stateOf k₀ r o y) kind q w j within
 
   after-series : roleOf w ≡ 2 → (formOf w ≡ 6 → ⊥) → y .series < 4294967295 → after ≡ stateOf kind q within (opened w u y)
   unfolding entered atRow kept oneSeries stateOf
-  after-series e f l = rw (e, ne-eqb (formOf w) 6 f, one-more (y .series) l)
+  after-series e f l = rw (marks, e, ne-eqb (formOf w) 6 f, one-more (y .series) l)
 
   after-period : roleOf w ≡ 3 → (formOf w ≡ 6 → ⊥) → after ≡ stateOf kind q within (opened w u y)
   unfolding entered atRow kept lastPos stateOf
-  after-period e f = rw (e, ne-eqb (formOf w) 6 f)
+  after-period e f = rw (marks, e, ne-eqb (formOf w) 6 f)
 
   after-interval : roleOf w ≡ 4 → (formOf w ≡ 6 → ⊥) → y .intervals < 4294967295 → after ≡ stateOf kind q within (opened w u y)
   unfolding entered atRow kept oneInterval stateOf
-  after-interval e f l = rw (e, ne-eqb (formOf w) 6 f, one-more (y .intervals) l)
+  after-interval e f l = rw (marks, e, ne-eqb (formOf w) 6 f, one-more (y .intervals) l)
 
   after-original : roleOf w ≡ 5 → (formOf w ≡ 6 → ⊥) → y .originals < 4294967295 → after ≡ stateOf kind q within (opened w u y)
   unfolding entered atRow kept oneOriginal stateOf
-  after-original e f l = rw (e, ne-eqb (formOf w) 6 f, one-more (y .originals) l)
+  after-original e f l = rw (marks, e, ne-eqb (formOf w) 6 f, one-more (y .originals) l)
 
   after-pos : roleOf w ≡ 9 → (formOf w ≡ 6 → ⊥) → j .first ≡ positionOf u → after ≡ stateOf kind q within (opened w u y)
   unfolding entered atRow kept lastPos stateOf
-  after-pos e f l = rw (e, ne-eqb (formOf w) 6 f, l)
+  after-pos e f l = rw (marks, e, ne-eqb (formOf w) 6 f, l)
 
   after-covered : formOf w ≡ 6 → Alone (roleOf w)
       → (j .first ≡ periodBy (interval (says (bytes (u .v)))) .start) × (j .second ≡ periodBy (interval (says (bytes (u .v)))) .end)
@@ -349,6 +407,7 @@ module _ (kind k₀ r : ℕ) (o : Bool) (y : Tally) (q w : ℕ) (u : TagSaid) (j
   unfolding entered atRow kept covering stateOf
   after-covered e a l =
       rw (
+        marks,
         ne-eqb (roleOf w) 2 (a .series),
         ne-eqb (roleOf w) 3 (a .period),
         ne-eqb (roleOf w) 4 (a .interval),
@@ -362,7 +421,7 @@ module _ (kind k₀ r : ℕ) (o : Bool) (y : Tally) (q w : ℕ) (u : TagSaid) (j
   after-other : eqb (roleOf w) 2 ≡ false → eqb (roleOf w) 3 ≡ false → eqb (roleOf w) 4 ≡ false → eqb (roleOf w) 5 ≡ false → eqb (roleOf w) 9 ≡ false
       → eqb (formOf w) 6 ≡ false → after ≡ stateOf kind q within (opened w u y)
   unfolding entered atRow kept stateOf
-  after-other a b c d e f = rw (a, b, c, d, e, f)
+  after-other a b c d e f = rw (marks, a, b, c, d, e, f)
 
   after-opened : (formOf w ≡ 6 → Alone (roleOf w)) → (roleOf w ≡ 9 → j .first ≡ positionOf u)
       → (formOf w ≡ 6 → (j .first ≡ periodBy (interval (says (bytes (u .v)))) .start) × (j .second ≡ periodBy (interval (says (bytes (u .v)))) .end))
@@ -433,30 +492,36 @@ module _ (kind : ℕ) (rows : List ℕ) (p : ℕ) (L : Layout rows p) (room : Ro
     abbrev values : Judged
     values = judgedSaid row (heldOf (stateOf k₀ r o y) kind) said
 
-    passed-values : Passed (stateOf k₀ r o y) kind rows q tag empty room → verdict ≡ values
+    passed-values : Passed (stateOf k₀ r o y) kind rows q tag empty room → verdict ≡ besideOthers (stateOf k₀ r o y) kind (roleOf row) values
     passed-values c =
         passed-judged (stateOf k₀ r o y) kind rows q tag s empty room c ∙
-        tag-judged kind row tag (heldOf (stateOf k₀ r o y) kind) s (c .attributes)
+        ap (besideOthers (stateOf k₀ r o y) kind (roleOf row)) (tag-judged kind row tag (heldOf (stateOf k₀ r o y) kind) s (c .attributes))
 
-    pub judged-taken : verdict .number ≡ 0 → Taken kind room row said y × (cutShort empty rows q ≡ false)
+    -- what the rules between series make of it
+    allowed-there : againstOthers (stateOf k₀ r o y) kind (roleOf row) (values .first)
+        ≡ cond (kindAt kind .constrained) (against (y .seen) (y .series) (roleOf row) (codeNo (formOf row) (sayings row said))) false
+    allowed-there = allowed-same kind k₀ r o y row said (L .coded q inside)
+
+    pub judged-taken : verdict .number ≡ 0 → Takes kind room row said y × (cutShort empty rows q ≡ false)
     unfolding elementFits stateOf heldOf
     judged-taken h =
         let x = stateOf k₀ r o y in
         let c = judged-passed x kind rows q tag s empty room h in
-        let n : values .number ≡ 0 = ap (λ (j : Judged). j .number) (sym (passed-values c)) ∙ h in
+        let b = beside-taken x kind (roleOf row) values (ap (λ (j : Judged). j .number) (sym (passed-values c)) ∙ h) in
+        let n : values .number ≡ 0 = b .0 in
         let v = values-fit kind k₀ r o y row said (pos-row q inside) (sym (judged-values row (heldOf x kind) said) ∙ eq-eqb (values .number) 0 n) in
-        let a : attributesAgree kind row said ≡ true = sym (attributes-same kind row tag s) ∙ c .attributes in (
-          record {
-            fits = rw (a, v .0);
-            turn = v .1;
-            series = series-room x (roleOf row) room (c .free);
-            another = λ e. (taken-many x (roleOf row) kind (c .few) e, interval-room x (roleOf row) room (c .free) e);
-            originals = none-or-five x (roleOf row) (c .originals);
-          },
-          c .whole,
-        )
+        let a : attributesAgree kind row said ≡ true = sym (attributes-same kind row tag s) ∙ c .attributes in
+        let t : Taken kind room row said y =
+        record {
+          fits = rw (a, v .0);
+          turn = v .1;
+          series = series-room x (roleOf row) room (c .free);
+          another = λ e. (taken-many x (roleOf row) kind (c .few) e, interval-room x (roleOf row) room (c .free) e);
+          originals = none-or-five x (roleOf row) (c .originals);
+        } in
+        ((t, sym allowed-there ∙ b .1), c .whole)
 
-    module _ (t : Taken kind room row said y) (whole : cutShort empty rows q ≡ false) where
+    module _ (t : Taken kind room row said y) (ok : Allowed kind row said y) (whole : cutShort empty rows q ≡ false) where
       taken-fits : (attributesAgree kind row said ≡ true) × (valuesFit kind row said (valueFits kind (y .period) row said) ≡ true)
       unfolding elementFits
       taken-fits = both (attributesAgree kind row said) (valuesFit kind row said (valueFits kind (y .period) row said)) (t .fits)
@@ -473,6 +538,7 @@ module _ (kind : ℕ) (rows : List ℕ) (p : ℕ) (L : Layout rows p) (room : Ro
             attributes = attributes-same kind row tag s ∙ taken-fits .0;
             originals = whole-originals x (roleOf row) (t .originals);
           })
+          ∙ beside-same x kind (roleOf row) values (allowed-there ∙ ok)
 
       taken-value : valuesFit kind row said (eqb (valueJudged kind k₀ r o y row said .number) 0) ≡ true
       taken-value = fit-values kind k₀ r o y row said (pos-row q inside) (taken-fits .1) (t .turn)
@@ -511,7 +577,9 @@ module _ (kind : ℕ) (rows : List ℕ) (p : ℕ) (L : Layout rows p) (room : Ro
       pub entered-opened : y .series < 4294967295 → y .intervals < 4294967295 → y .originals < 4294967295 → (within : Bool)
           → entered (stateOf k₀ r o y) kind q row verdict within ≡ stateOf kind q within (opened row said y)
       entered-opened ls li lo within =
-          after-opened kind k₀ r o y q row said verdict within (λ e. covered-row q inside e .1) (λ e. taken-first (pos-role-form q inside e)) taken-period
+          after-opened kind k₀ r o y q row said verdict within
+          (ap (λ (j : Judged). noticed (y .seen) row (j .first)) taken-values ∙ noticed-first kind k₀ r o y row said (L .coded q inside))
+          (λ e. covered-row q inside e .1) (λ e. taken-first (pos-role-form q inside e)) taken-period
           ls li lo
 
       pub entry-same : entryOf (roleOf row) (verdict .first) ≡ entryOf (roleOf row) (positionOf said)
@@ -524,14 +592,33 @@ module _ (kind : ℕ) (rows : List ℕ) (p : ℕ) (L : Layout rows p) (room : Ro
 
 -- ---- an end tag
 
-module _ (kind : ℕ) (rows : List ℕ) (r : ℕ) (o : Bool) (y : Tally) (q : ℕ) where
-  pub ended-taken : endRefusal (stateOf kind r o y) rows q ≡ 0 → Ended kind (getD rows q 0) y
-  unfolding endRefusal stateOf
-  ended-taken h e = rw e at h
+lack-back : (a b : Bool) → _≡_ {A = ℕ} (cond a (cond b 8 0) 0) 0 → cond a b false ≡ false
+lack-back true true e = absurd (omega (arith, e))
+lack-back true false e = refl
+lack-back false b e = refl
 
-  pub taken-ended : Ended kind (getD rows q 0) y → endRefusal (stateOf kind r o y) rows q ≡ 0
-  unfolding endRefusal stateOf
-  taken-ended f = ⊎-elim (λ e. rw (e .1) (f (e .0))) (λ e. rw (e .1)) (eqb-cases (roleOf (getD rows q 0)) 3)
+lack-none : (a b : Bool) → cond a b false ≡ false → _≡_ {A = ℕ} (cond a (cond b 8 0) 0) 0
+lack-none true true e = never (sym e)
+lack-none true false e = refl
+lack-none false b e = refl
+
+module _ (kind : ℕ) (rows : List ℕ) (r : ℕ) (o : Bool) (y : Tally) (q : ℕ) where
+  pub ended-taken : endRefusal (stateOf kind r o y) rows q ≡ 0 → Shuts kind (getD rows q 0) y
+  unfolding endRefusal lackRefusal stateOf
+  ended-taken h = ((λ e. rw e at h), (λ e. lack-back (kindAt kind .constrained) (lacking (y .seen) (y .series)) (rw e at h)))
+
+  pub taken-ended : Shuts kind (getD rows q 0) y → endRefusal (stateOf kind r o y) rows q ≡ 0
+  unfolding endRefusal lackRefusal stateOf
+  taken-ended f =
+      ⊎-elim
+      (λ e. rw (e .1) (f .0 (e .0)))
+      (λ e.
+      rw (e .1)
+      (⊎-elim
+      (λ d. rw (d .1) (lack-none (kindAt kind .constrained) (lacking (y .seen) (y .series)) (f .1 (d .0))))
+      (λ d. rw (d .1))
+      (eqb-cases (roleOf (getD rows q 0)) 1)))
+      (eqb-cases (roleOf (getD rows q 0)) 3)
 
   pub closed-same : closedAt (stateOf kind r o y) q ≡ stateOf kind q false y
   unfolding closedAt stateOf

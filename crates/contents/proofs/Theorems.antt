@@ -45,6 +45,7 @@ use Rattle.contents.proofs.Values.{each-given}
 use Rattle.contents.proofs.Bridge.{Read, forth, back}
 use Rattle.contents.proofs.Tallies.{series-walked, intervals-walked, period-walked}
 use Rattle.contents.proofs.Rules.{Rules, passes-rules, rules-passes}
+use Rattle.contents.proofs.Heeded.{heeds-agree, agree-heeds}
 use Rattle.contents.proofs.Shown.{shows}
 use Rattle.contents.proofs.Unused.{unused-apart, apart-unused}
 
@@ -127,6 +128,7 @@ module _ (doc : List ℕ) (ns np na : ℕ) (shape : Shape) (nb : ℕ) (wide : 16
           conforms = conforms;
           elements = k .elements;
           series = k .series;
+          constraint = heeds-agree kind rows (l .period) (l .layout) (l .sighted) (saying kids) conforms (r .heeds);
           apart =
               unused-apart kind rows (l .period) (l .layout) (l .valued) doc ns np na kids (r .conforms) (r .stands) (each-given kind _ rows kids (k .elements)) (m .0)
               (r .unused);
@@ -192,6 +194,7 @@ module _ (doc : List ℕ) (ns np na : ℕ) (shape : Shape) (nb : ℕ) (wide : 16
         conforms = k .3;
         stands = k .4;
         passes = rules-passes kind room rows (l .period) (l .layout) (saying kids) conforms own;
+        heeds = agree-heeds kind rows (l .period) (l .layout) (l .sighted) (saying kids) conforms (subst (λ d. Legal kind d) (sym e) g .constraint);
         unused =
             apart-unused kind rows (l .period) (l .layout) (l .valued) doc ns np na kids (k .3) (k .4) (each-given kind _ rows kids (own .elements)) (m .0)
             (subst (λ d. Legal kind d) (sym e) g .apart);

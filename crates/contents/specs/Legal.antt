@@ -1,12 +1,12 @@
 -- What a legal document is: a content that meets every rule of the guideline, by its values alone. Elements stand one in another as a tree; an element is
 -- known by its row in the structure table of the kind.
-use Prim.Native.Nat.{ℕ, _-_, _≤_}
+use Prim.Native.Nat.{ℕ, _+_, _-_, _≤_}
 use mathlib.Core.Path.{_≡_}
 use mathlib.Core.List.{List, [], _∷_, _++_, map}
 use mathlib.Core.Logic.{_⊎_}
-use mathlib.Core.Bool.{Bool, true, false, cond, _&&_}
+use mathlib.Core.Bool.{Bool, true, false, cond, _&&_, not}
 use lib.ListN.{length, getD}
-use lib.Dec.{eqb}
+use lib.Dec.{eqb, leb, ltb}
 use Rattle.slices.specs.Same.{same}
 use Rattle.characters.specs.Says.{says}
 use Rattle.trims.specs.Trim.{dropped}
@@ -18,8 +18,8 @@ use Rattle.times.specs.Times.{interval}
 use Rattle.times.specs.Periods.{quarterHours}
 use Rattle.times.specs.declared.Interval.{Interval}
 use Rattle.times.specs.declared.Interval.the-variants.{Minutes, NotInterval}
-use Rattle.rules.specs.Rules.{judge, positionFits}
-use Rattle.columns.specs.Columns.{formOf, collapsed, schemeOf, roleOf, noForm, periodForm, posForm, noScheme, byList, rootRole, seriesRole, intervalRole, originalRole, seriesIdRole, posRole}
+use Rattle.rules.specs.Rules.{changeType, bearingType, typeNo, directionNo, judge, positionFits}
+use Rattle.columns.specs.Columns.{formOf, collapsed, schemeOf, roleOf, noForm, periodForm, posForm, inList, docStatusList, noScheme, byList, rootRole, seriesRole, intervalRole, originalRole, businessRole, seriesIdRole, posRole, directionRole}
 use Rattle.guideline.specs.Kinds.{dtdVersion, dtdRelease, dtdMessage, kindAt, fixedFor, isKind, withinMost, hasEnough}
 use Rattle.guideline.specs.Rows.{rowsOf}
 use Rattle.guideline.specs.declared.Demands.{Demands}
@@ -127,7 +127,7 @@ Each test rows (element r tag inner after) = (test (getD rows r 0) tag ≡ true)
 
 -- ---- the rules of a series
 
--- "Pos is at most N. Kind 1: 1, 2, 3 and so on. .. Kind 2 (curve A03): the first Pos is 1, later ones rise": each after the one before it
+-- "Pos is at most N. Kind 1: 1, 2, 3 and so on. .. Kind 2 (curve A03): the first Pos is 1, later ones rise"; kind 3 as kind 1: each after the one before it
 unfoldable pub inTurn : ℕ → ℕ → ℕ → List ℕ → Bool
 inTurn kind quarters last [] = true
 inTurn kind quarters last (p ∷ ps) = positionFits kind quarters last p && inTurn kind quarters p ps
@@ -146,6 +146,47 @@ pub record SeriesFits (kind quarters : ℕ) (rows : List ℕ) (c : Trees TagSaid
 unfoldable pub All : {A : Type 0} → (A → Type 0) → List A → Type 0
 All P [] = Unit {0}
 All P (x ∷ xs) = P x × All P xs
+
+-- ---- the rules between the series of a constraint (kind 3)
+
+-- which code an element of a series is, of which there is one; it is collapsed
+unfoldable pub codeIn : (List ℕ → ℕ) → List TagSaid → ℕ
+codeIn number [] = 0
+codeIn number (s ∷ ss) = number (says (dropped (bytes (s .v))))
+
+unfoldable pub businessIn : List ℕ → Trees TagSaid → ℕ
+businessIn rows s = codeIn typeNo (those (hasRole businessRole) rows s)
+
+unfoldable pub directionIn : List ℕ → Trees TagSaid → ℕ
+directionIn rows s = codeIn directionNo (those (hasRole directionRole) rows s)
+
+-- the Directions of the series of BusinessType A77
+unfoldable pub changeDirections : List ℕ → List (Trees TagSaid) → List ℕ
+changeDirections rows [] = []
+changeDirections rows (s ∷ ss) =
+    cond (eqb (businessIn rows s) changeType) (directionIn rows s ∷ changeDirections rows ss) (changeDirections rows ss)
+
+-- "one or two of BusinessType A77, two only with different Direction"
+unfoldable pub oneOrTwo : List ℕ → Bool
+oneOrTwo [] = false
+oneOrTwo (d ∷ []) = true
+oneOrTwo (d ∷ e ∷ []) = not (eqb e d)
+oneOrTwo (d ∷ e ∷ f ∷ ds) = false
+
+-- "at least one B59"
+unfoldable pub someBearing : List ℕ → List (Trees TagSaid) → Bool
+someBearing rows [] = false
+someBearing rows (s ∷ ss) = cond (eqb (businessIn rows s) bearingType) true (someBearing rows ss)
+
+-- a DocStatus is there
+unfoldable pub isWithdrawn : List ℕ → Trees TagSaid → Bool
+isWithdrawn rows c = ltb 0 (length (those (hasForm (inList + docStatusList)) rows c))
+
+-- "Without DocStatus, a document with series has one or two of BusinessType A77, .., and at least one B59. With DocStatus (A13) there is at most one series
+-- and the last rule isn't applied."
+unfoldable pub seriesAgree : List ℕ → Bool → List (Trees TagSaid) → Bool
+seriesAgree rows withdrawn ss =
+    cond withdrawn (leb (length ss) 1) (cond (eqb (length ss) 0) true (oneOrTwo (changeDirections rows ss) && someBearing rows ss))
 
 -- ---- the whole
 
@@ -169,6 +210,8 @@ pub record Legal (kind : ℕ) (c : Trees TagSaid) : Type 0 where
   pub conforms : Conforms (rowsOf kind) 0 c
   pub elements : Each (elementFits kind (periodOf (rowsOf kind) c)) (rowsOf kind) c
   pub series : All (SeriesFits kind (quartersOf (periodOf (rowsOf kind) c)) (rowsOf kind)) (inEach (hasRole seriesRole) (rowsOf kind) c)
+  -- and beside each other, where the kind's are those of one constraint
+  pub constraint : cond (kindAt kind .constrained) (seriesAgree (rowsOf kind) (isWithdrawn (rowsOf kind) c) (inEach (hasRole seriesRole) (rowsOf kind) c)) true ≡ true
   -- "TimeSeriesIdentification used before in this document" is refused
   pub apart : Apart (identifications (rowsOf kind) c)
 

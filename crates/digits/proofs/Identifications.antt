@@ -20,7 +20,7 @@ use Rattle.characters.proofs.Ascii.{char-printed, low-ascii}
 use Rattle.attributes.specs.Attribute.{quote, fit, valueNext, valueOver, value}
 use Rattle.attributes.specs.declared.Value.the-variants.{Long}
 use Rattle.forms.specs.Forms.{identification}
-use Rattle.rules.specs.Rules.{formRefusal, judge}
+use Rattle.rules.specs.Rules.{formRefusal, codeNo, judge}
 use Rattle.rules.specs.declared.Held.{Held}
 use Rattle.trims.proofs.Low.{by-test, char-low, char-size, char-near}
 use Rattle.digits.specs.Unseen.{Unseen}
@@ -189,5 +189,5 @@ put-example = record { before = record { legal = refl; bytes = refl }; after = r
 
 -- "Identifications: 0 to 35 characters", by the form of a TimeSeriesIdentification, which is 2
 pub put-judged : (h : Held) {a b : List ℕ} → PutFor a b → judge 2 h (says a) ≡ judge 2 h (says b)
-unfolding judge formRefusal identification
+unfolding judge formRefusal codeNo identification
 put-judged h r = rw (r .characters)

@@ -16,7 +16,7 @@ use Rattle.trims.specs.Trim.{space, dropLead, keptBefore, dropTrail, dropped}
 use Rattle.numbers.specs.Amount.{minus, unsigned, writtenAmount, thousandths, signed, amountOf}
 use Rattle.numbers.specs.declared.Amount.the-variants.{Thousandths, NotAmount}
 use Rattle.numbers.proofs.Blind.{blind}
-use Rattle.rules.specs.Rules.{amountBy, amount, formRefusal, judge}
+use Rattle.rules.specs.Rules.{amountBy, amount, formRefusal, codeNo, judge}
 use Rattle.rules.specs.declared.Held.{Held}
 use Rattle.numbers.specs.Alike.{Like, Alike, none, next}
 use Rattle.digits.proofs.Tests.{like-test, blind-space}
@@ -87,7 +87,7 @@ alike-amount {l} {m} r = by-form l ∙ blind r ∙ sym (by-form m)
 
 -- the form of an amount is 10
 pub alike-judged : {l m : List ℕ} (h : Held) → Alike l m → judge 10 h l ≡ judge 10 h m
-unfolding judge formRefusal amount
+unfolding judge formRefusal codeNo amount
 alike-judged {l} {m} h r = rw (alike-amount r)
 
 -- of a value as the guideline's row for an amount reads it: spaces dropped, and then what it says

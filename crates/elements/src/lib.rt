@@ -1,4 +1,4 @@
-// The elements of both kinds by number, so that the rest compares numbers and no names.
+// The elements of all kinds by number, so that the rest compares numbers and no names.
 use slices::is_same;
 ghost use mathlib.Core.Path.{_≡_};
 ghost use Prim.Native.Nat.{_+_, _≤_};
@@ -86,6 +86,17 @@ pub const CURVE_TYPE: usize = 38;
 
 pub const STATUS: usize = 39;
 
+// What NetworkConstraintDocument has besides.
+pub const NETWORK_CONSTRAINT_DOCUMENT: usize = 40;
+
+pub const DOC_STATUS: usize = 41;
+
+pub const NETWORK_CONSTRAINT_TIME_SERIES: usize = 42;
+
+pub const REQUESTING_GRID_OPERATOR: usize = 43;
+
+pub const GRID_ELEMENT: usize = 44;
+
 // The number of the entry at i in a row of names, where its n letters are the name: the two digits after them. Else `other`.
 fn pick(row: &[u8], i: usize, n: usize, name: &[u8], other: usize) -> usize
     requires { ⌜ i + n + 2 ≤ length (now row) ⌝ }
@@ -113,7 +124,7 @@ fn told(row: &[u8], n: usize, name: &[u8]) -> usize
     found
 }
 
-// The number of an element's name, 0 for a name that neither kind has. The names of each length stand in a row, that with the highest number first.
+// The number of an element's name, 0 for a name that no kind has. The names of each length stand in a row, that with the highest number first.
 // Ruled out: 0 for the last name of the table; the number of a name that only begins alike; a known name in other letter case.
 pub fn element_no(name: &[u8]) -> usize
     ensures { λ r. ⌜ r ≡ elementNo (now (name .entry)) ⌝ }
@@ -128,9 +139,9 @@ pub fn element_no(name: &[u8]) -> usize
         6 => told(b"Status39 Period26 InArea16", 6, name),
         7 => told(b"InParty18 OutArea17 Product15", 7, name),
         8 => told(b"Interval29 OutParty19", 8, name),
-        9 => told(b"CurveType38 Direction34", 9, name),
+        9 => told(b"DocStatus41 CurveType38 Direction34", 9, name),
         10 => told(b"Resolution28 SenderRole07", 10, name),
-        11 => told(b"Kostenblatt32 ProcessType05", 11, name),
+        11 => told(b"GridElement44 Kostenblatt32 ProcessType05", 11, name),
         12 => told(
             b"TimeInterval27 BusinessType14 ReceiverRole09 DocumentType04",
             12,
@@ -150,7 +161,7 @@ pub fn element_no(name: &[u8]) -> usize
         20 => told(b"SenderIdentification06", 20, name),
         21 => told(b"", 21, name),
         22 => told(
-            b"ReceiverIdentification08 DocumentIdentification02",
+            b"RequestingGridOperator43 ReceiverIdentification08 DocumentIdentification02",
             22,
             name,
         ),
@@ -164,9 +175,9 @@ pub fn element_no(name: &[u8]) -> usize
             24,
             name,
         ),
-        25 => told(b"", 25, name),
+        25 => told(b"NetworkConstraintDocument40", 25, name),
         26 => told(b"", 26, name),
-        27 => told(b"", 27, name),
+        27 => told(b"NetworkConstraintTimeSeries42", 27, name),
         28 => told(b"OriginalSenderIdentification21", 28, name),
         29 => told(b"", 29, name),
         30 => told(b"OriginalDocumentIdentification22", 30, name),

@@ -174,7 +174,7 @@ place-size r n =
 
 kind-size : (n : ℕ) → Short 50 (kindLine n)
 unfolding kindLine most
-kind-size n = by-cond (Short 50) (ltb 2 n) (omega (arith, around-size (text "Kind: ") n (text ", an unknown kind.\n"))) (omega (arith, row-size kindLines n))
+kind-size n = by-cond (Short 50) (ltb 3 n) (omega (arith, around-size (text "Kind: ") n (text ", an unknown kind.\n"))) (omega (arith, row-size kindLines n))
 
 series-size : (r n : ℕ) → Short 60 (seriesPart r n)
 unfolding seriesPart

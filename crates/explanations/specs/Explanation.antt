@@ -44,15 +44,16 @@ placeLine refusal place =
     (around (text "Length: the document has ") place (text " bytes.\n"))
     (around (text "Place: byte ") place (text " of the document, its first byte being byte 0.\n"))
 
--- "Beschaffungsanforderung 1.0, kind 1, and Kostenblatt 1.0, kind 2"; "Kind is that of a root start standing in an item before the faulty one, else 0."
+-- "Beschaffungsanforderung 1.0, kind 1, and Kostenblatt 1.0, kind 2"; K2: "NetworkConstraintDocument 1.1a, .. kind 3"; "Kind is that of a root start standing in an item before the faulty one, else 0."
 abbrev pub kindLines : List (List ℕ)
 kindLines =
     text "Kind: 0, no root yet.\n" ∷
     text "Kind: 1, Beschaffungsanforderung.\n" ∷
-    text "Kind: 2, Kostenblatt.\n" ∷ []
+    text "Kind: 2, Kostenblatt.\n" ∷
+    text "Kind: 3, NetworkConstraintDocument.\n" ∷ []
 
 unfoldable pub kindLine : ℕ → List ℕ
-kindLine kind = cond (ltb 2 kind) (around (text "Kind: ") kind (text ", an unknown kind.\n")) (getD kindLines kind [])
+kindLine kind = cond (ltb 3 kind) (around (text "Kind: ") kind (text ", an unknown kind.\n")) (getD kindLines kind [])
 
 -- "Series and intervals count their start tags in items before the faulty one. On acceptance they are those of the whole document."
 unfoldable pub seriesPart : ℕ → ℕ → List ℕ

@@ -120,6 +120,7 @@ fn add_kind(out: &mut [u8], at: usize, kind: u32) -> usize
         0 => add_text(out, at, b"Kind: 0, no root yet.\n"),
         1 => add_text(out, at, b"Kind: 1, Beschaffungsanforderung.\n"),
         2 => add_text(out, at, b"Kind: 2, Kostenblatt.\n"),
+        3 => add_text(out, at, b"Kind: 3, NetworkConstraintDocument.\n"),
         _ => add_around(out, at, b"Kind: ", kind, b", an unknown kind.\n"),
     }
 }

@@ -16,6 +16,10 @@ identification l = leb (length l) 35
 unfoldable pub marketPartner : List ℕ → Bool
 marketPartner l = held (replicate 13 digit) l
 
+-- K2: "its object is ResourceObject, 0 to 36 characters"; GridElement has the same type
+unfoldable pub gridElement : List ℕ → Bool
+gridElement l = leb (length l) 36
+
 -- "ResourceObject: A, B or C, nine of A-Z or 0-9, one digit"
 unfoldable pub resourceObject : List ℕ → Bool
 resourceObject l = held (firstThree ∷ replicate 9 capitalOrDigit ++ digit ∷ []) l

@@ -4,13 +4,20 @@ use pictures::fits;
 use pictures::is_said;
 ghost use mathlib.Core.Path.{_≡_};
 ghost use Rattle.characters.specs.Says.{says};
-ghost use Rattle.forms.specs.Forms.{identification, marketPartner, resourceObject, party, quarterHour};
+ghost use Rattle.forms.specs.Forms.{identification, gridElement, marketPartner, resourceObject, party, quarterHour};
 
 // Ruled out: false for twenty `ä`, whose bytes are forty; false for an empty value; true for 36 characters.
 pub fn is_identification(v: &[u8]) -> bool
     ensures { λ r. ⌜ r ≡ identification (says (now (v .entry))) ⌝ }
 {
     count_chars(v) <= 35
+}
+
+// Ruled out: true for 37 characters; false for 36 `ä`, whose bytes are 72; false for an empty value.
+pub fn is_grid_element(v: &[u8]) -> bool
+    ensures { λ r. ⌜ r ≡ gridElement (says (now (v .entry))) ⌝ }
+{
+    count_chars(v) <= 36
 }
 
 // Ruled out: true for twelve digits, for fourteen, or with a space at an end.

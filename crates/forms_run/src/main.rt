@@ -1,6 +1,6 @@
 // Runs the vectors of the forms of values. A line of standard input is a value; printed of it, with a space between:
 //   leading spaces and bytes left where spaces are dropped; as it stands: identification, market partner, ResourceObject, party, fixed
-//   version (1 or 0); with spaces dropped: quarter hour (1 or 0), version and Pos (0 for none), amount in thousandths (`x` for none);
+//   version of kind 1, grid element, and the three fixed values of kind 3 (1 or 0); with spaces dropped: quarter hour (1 or 0), version and Pos (0 for none), amount in thousandths (`x` for none);
 //   as it stands and with spaces dropped: the numbers of the code lists that have it, each after a comma
 use numbers::Amount;
 use numbers::Number;
@@ -46,7 +46,7 @@ fn print_amount(v: &[u8]) {
 fn print_lists(v: &[u8]) {
     lines::print_text(b" ");
     let mut k = 0;
-    while k < 20 {
+    while k < 26 {
         if codes::is_listed(k, v) {
             lines::print_text(b",");
             lines::print_number(k as u64);
@@ -61,6 +61,10 @@ fn print_forms(v: &[u8]) {
     print_flag(forms::is_resource_object(v));
     print_flag(forms::is_party(v));
     print_flag(guideline::is_fixed(1, guideline::DTD_MESSAGE, v));
+    print_flag(forms::is_grid_element(v));
+    print_flag(guideline::is_fixed(3, guideline::DTD_VERSION, v));
+    print_flag(guideline::is_fixed(3, guideline::DTD_RELEASE, v));
+    print_flag(guideline::is_fixed(3, guideline::DTD_MESSAGE, v));
 }
 
 fn print_numbers(v: &[u8]) {

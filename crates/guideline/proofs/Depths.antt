@@ -14,7 +14,7 @@ use Rattle.structure.specs.Rows.{nameOf, parentOf, repeated}
 use Rattle.structure.specs.Depth.{heightIn}
 use Rattle.structure.proofs.Depths.{Deep}
 use Rattle.guideline.specs.Kinds.{isKind}
-use Rattle.guideline.specs.Rows.{beschaffungsanforderung, kostenblatt, rowsOf}
+use Rattle.guideline.specs.Rows.{beschaffungsanforderung, kostenblatt, networkConstraintDocument, rowsOf}
 use Rattle.guideline.proofs.Each.{eachRow, row-of, of-kind}
 
 module _ (t : List ℕ) where
@@ -48,5 +48,5 @@ module _ (t : List ℕ) where
       }
 
 pub deep : (kind : ℕ) → isKind kind ≡ true → Deep (rowsOf kind)
-unfolding heightIn nameOf parentOf repeated rowsOf beschaffungsanforderung kostenblatt elementNo numberIn names same
+unfolding heightIn nameOf parentOf repeated rowsOf beschaffungsanforderung kostenblatt networkConstraintDocument elementNo numberIn names same
 deep kind known = deep-by (rowsOf kind) (of-kind (λ k. deepTest (rowsOf k)) refl kind known)

@@ -13,19 +13,24 @@ use Rattle.lists.proofs.Cases.{bool-cases, both-true, eqb-cases, never}
 use Rattle.slices.specs.Same.{same}
 use Rattle.elements.specs.Names.{names, numberIn, elementNo}
 use Rattle.columns.specs.Columns.{roleOf}
-use Rattle.guideline.specs.Kinds.{noKind, kindOne, kindTwo, kindAt, isKind, kindOf}
-use Rattle.guideline.specs.Rows.{beschaffungsanforderung, kostenblatt, rowsOf, everyRow, rowsIn}
+use Rattle.guideline.specs.Kinds.{noKind, kindOne, kindTwo, kindThree, kindAt, isKind, kindOf}
+use Rattle.guideline.specs.Rows.{beschaffungsanforderung, kostenblatt, networkConstraintDocument, rowsOf, everyRow, rowsIn}
 
 -- a test of each kind
 abbrev pub eachKind : (ℕ → Bool) → Bool
-eachKind test = cond (test 1) (test 2) false
+eachKind test = cond (test 1) (cond (test 2) (test 3) false) false
 
 pub of-kind : (test : ℕ → Bool) → eachKind test ≡ true → (k : ℕ) → isKind k ≡ true → test k ≡ true
 unfolding isKind
 of-kind test t k known =
     ⊎-elim
     (λ (y : (k ≡ 1) × (eqb k 1 ≡ true)). rw (y .0) (both-true (test 1) t .0))
-    (λ (y : (k ≡ 1 → ⊥) × (eqb k 1 ≡ false)). rw (eqb-true k 2 (rw (y .1) at known)) (both-true (test 1) t .1))
+    (λ (y : (k ≡ 1 → ⊥) × (eqb k 1 ≡ false)).
+    let u = both-true (test 2) (both-true (test 1) t .1) in
+    ⊎-elim
+    (λ (z : (k ≡ 2) × (eqb k 2 ≡ true)). rw (z .0) (u .0))
+    (λ (z : (k ≡ 2 → ⊥) × (eqb k 2 ≡ false)). rw (eqb-true k 3 (rw (y .1, z .1) at known)) (u .1))
+    (eqb-cases k 2))
     (eqb-cases k 1)
 
 -- a number that is no kind has no rows
@@ -34,7 +39,11 @@ unfolding isKind rowsOf
 no-rows k e =
     ⊎-elim
     (λ (y : eqb k 1 ≡ true). let z : _≡_ {A = Bool} true false = rw y at e in never (ap (λ (b : Bool). cond b false true) z))
-    (λ (y : eqb k 1 ≡ false). let z : eqb k 2 ≡ false = rw y at e in rw (y, z) refl)
+    (λ (y : eqb k 1 ≡ false).
+    ⊎-elim
+    (λ (z : eqb k 2 ≡ true). let u : _≡_ {A = Bool} true false = rw (y, z) at e in never (ap (λ (b : Bool). cond b false true) u))
+    (λ (z : eqb k 2 ≡ false). let u : eqb k 3 ≡ false = rw (y, z) at e in rw (y, z, u) refl)
+    (bool-cases (eqb k 2)))
     (bool-cases (eqb k 1))
 
 -- a test of the rows of each kind, and of no rows
@@ -63,20 +72,28 @@ kind-told name =
     (λ (y : eqb name (kindOne .root) ≡ false).
     ⊎-elim
     (λ (z : eqb name (kindTwo .root) ≡ true). inr (rw (y, z) refl))
-    (λ (z : eqb name (kindTwo .root) ≡ false). inl (rw (y, z) refl))
+    (λ (z : eqb name (kindTwo .root) ≡ false).
+    ⊎-elim
+    (λ (u : eqb name (kindThree .root) ≡ true). inr (rw (y, z, u) refl))
+    (λ (u : eqb name (kindThree .root) ≡ false). inl (rw (y, z, u) refl))
+    (bool-cases (eqb name (kindThree .root))))
     (bool-cases (eqb name (kindTwo .root))))
     (bool-cases (eqb name (kindOne .root)))
 
 -- of the rows of all kinds those of a kind are its own
 pub rows-in : (k : ℕ) → rowsIn everyRow k ≡ rowsOf k
-unfolding rowsIn everyRow rowsOf kindAt kindOne kindTwo noKind beschaffungsanforderung kostenblatt elementNo numberIn names same
+unfolding rowsIn everyRow rowsOf kindAt kindOne kindTwo kindThree noKind beschaffungsanforderung kostenblatt networkConstraintDocument elementNo numberIn names same
 rows-in k =
     ⊎-elim
     (λ (y : (k ≡ 1) × (eqb k 1 ≡ true)). rw (y .0) refl)
     (λ (y : (k ≡ 1 → ⊥) × (eqb k 1 ≡ false)).
     ⊎-elim
     (λ (z : (k ≡ 2) × (eqb k 2 ≡ true)). rw (z .0) refl)
-    (λ (z : (k ≡ 2 → ⊥) × (eqb k 2 ≡ false)). rw (y .1, z .1) refl)
+    (λ (z : (k ≡ 2 → ⊥) × (eqb k 2 ≡ false)).
+    ⊎-elim
+    (λ (u : (k ≡ 3) × (eqb k 3 ≡ true)). rw (u .0) refl)
+    (λ (u : (k ≡ 3 → ⊥) × (eqb k 3 ≡ false)). rw (y .1, z .1, u .1) refl)
+    (eqb-cases k 3))
     (eqb-cases k 2))
     (eqb-cases k 1)
 

@@ -9,7 +9,7 @@ use lib.ListN.{length}
 use Rattle.slices.specs.Same.{same}
 use Rattle.elements.specs.Names.{names, numberIn, elementNo}
 use Rattle.structure.specs.Rows.{nameOf}
-use Rattle.guideline.specs.Rows.{beschaffungsanforderung, kostenblatt, rowsOf}
+use Rattle.guideline.specs.Rows.{beschaffungsanforderung, kostenblatt, networkConstraintDocument, rowsOf}
 use Rattle.guideline.proofs.Each.{eachKind}
 
 abbrev eachNamed : List ℕ → Bool
@@ -22,5 +22,5 @@ rowsNamed [] = false
 rowsNamed (w ∷ ws) = eachNamed ws
 
 pub tables-named : eachKind (λ k. rowsNamed (rowsOf k)) ≡ true
-unfolding rowsOf beschaffungsanforderung kostenblatt elementNo numberIn names same nameOf
+unfolding rowsOf beschaffungsanforderung kostenblatt networkConstraintDocument elementNo numberIn names same nameOf
 tables-named = refl

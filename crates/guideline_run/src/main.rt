@@ -1,4 +1,4 @@
-// Prints the rows of both kinds, a line each: row, number of the name, parent, whether it has to come, whether it may come again, form of `v`,
+// Prints the rows of all kinds, a line each: row, number of the name, parent, whether it has to come, whether it may come again, form of `v`,
 // whether spaces are dropped, code list of codingScheme, role. Then for each kind whether a Period with 0, 1, 91, 92, 99, 100 Intervals may end, and
 // whether it takes another; the kind that each number tells as a root's name; and for each line of standard input its number as a name.
 
@@ -89,8 +89,10 @@ fn main() {
     let rows = guideline::every_row();
     show_rows(guideline::rows_of(&rows, 1));
     show_rows(guideline::rows_of(&rows, 2));
+    show_rows(guideline::rows_of(&rows, 3));
     show_kind(1);
     show_kind(2);
+    show_kind(3);
     show_roots();
     let mut buf = lines::input_buffer();
     let n = lines::read_input(&mut buf);

@@ -100,10 +100,10 @@ module _ (doc : List ℕ) (ns np na : ℕ) (shape : Shape) (nb : ℕ) where
       by-buffer (λ (o : Outcome). o .answer .refusal ≡ 0 → o .answer .place ≡ length doc) (λ h e. absurd (omega arith))
       (λ h e. sheet-fine doc ns np na .accepted e)
 
-  pub counts-within : (outcome .answer .kind ≤ 2) × (outcome .answer .series ≤ length doc) × (outcome .answer .intervals ≤ length doc)
+  pub counts-within : (outcome .answer .kind ≤ 3) × (outcome .answer .series ≤ length doc) × (outcome .answer .intervals ≤ length doc)
   unfolding noted unnoted told answerOf refusedAt begun
   counts-within =
-      by-buffer (λ (o : Outcome). (o .answer .kind ≤ 2) × (o .answer .series ≤ length doc) × (o .answer .intervals ≤ length doc))
+      by-buffer (λ (o : Outcome). (o .answer .kind ≤ 3) × (o .answer .series ≤ length doc) × (o .answer .intervals ≤ length doc))
       (λ h. (omega arith, omega arith, omega arith))
       (λ h. let f = sheet-fine doc ns np na in (f .kinds, f .series, f .intervals))
 
@@ -149,7 +149,7 @@ module _ (doc : List ℕ) (ns np na : ℕ) (shape : Shape) (nb : ℕ) where
   record Small : Type 0 where
     refusals : found .refusal ≤ 9
     places : found .place < 2 ^ 21
-    kinds : found .kind ≤ 2
+    kinds : found .kind ≤ 3
     series : found .series < 2 ^ 21
     intervals : found .intervals < 2 ^ 21
     depths : found .depth ≤ 16

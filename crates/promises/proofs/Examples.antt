@@ -1,9 +1,8 @@
--- The table of examples and the accepted Kostenblatt, by computation: every definition on the way is unfolded. Assumes nothing.
+-- The table of examples and the accepted documents, by computation: every definition on the way is unfolded. Assumes nothing.
 use Prim.Native.Nat.{ℕ, _≤_}
-use mathlib.Core.List.{[], _∷_}
+use mathlib.Core.List.{List, [], _∷_}
 use mathlib.Core.Path.{_≡_, refl, ap}
 use native.Mathlib.Omega.{arith}
-use lib.ListN.{length}
 use Rattle.slices.specs.Bytes.{byte}
 use Rattle.slices.specs.Run.{run}
 use Rattle.slices.specs.Same.{same, begins}
@@ -25,21 +24,22 @@ use Rattle.numbers.specs.Digits.{digits, numberFrom, nothingLeft as nothingAfte
 use Rattle.numbers.specs.Amount.{minus, unsigned, fractionForm, unsignedForm, writtenAmount, filled, thousandths, signed, amountOf}
 use Rattle.numbers.specs.Number.{numberForm, atMostNine, numberWithin, numberOf as countOf}
 use Rattle.codes.specs.Lists.{lists, codesOf, listed}
-use Rattle.forms.specs.Forms.{identification, marketPartner, resourceObject, quarterHour}
+use Rattle.forms.specs.Forms.{identification, gridElement, marketPartner, resourceObject, quarterHour}
 use Rattle.times.specs.Calendar.{leap, monthDays, realDate, daysBefore, leapDay, dayNumber, dayOf}
 use Rattle.times.specs.Times.{minuteOn, minuteAt, isMinute, dateTime, between, interval}
 use Rattle.times.specs.Sundays.{changes, marchSunday, octoberSunday}
 use Rattle.times.specs.Midnight.{yearOf, inSummer, startOfDay}
 use Rattle.times.specs.Periods.{costPeriod, quarterHours, deliveryDay, dayPeriod}
-use Rattle.rules.specs.Rules.{versionBy, isVersion, amountBy, amount, judgeIntervalBy, judgeInterval, positionFits, judgePositionBy, judgePosition, judge, unless, formRefusal, periodFits, judgePeriodBy, judgePeriod}
+use Rattle.rules.specs.Rules.{versionBy, isVersion, amountBy, amount, judgeIntervalBy, judgeInterval, positionFits, judgePositionBy, judgePosition, judge, unless, formRefusal, typeNo, directionNo, codeNo, periodFits, judgePeriodBy, judgePeriod}
 use Rattle.elements.specs.Names.{names, numberIn, elementNo}
 use Rattle.structure.specs.Rows.{nameOf, parentOf, required, repeated, nextIn, endsIn, startOf, endAt, endOf, endsAtOnce, closesDocument, overOf}
 use Rattle.structure.specs.Depth.{heightIn, depthOf}
 use Rattle.columns.specs.Columns.{collapsed, formOf, schemeOf, roleOf}
-use Rattle.guideline.specs.Kinds.{noDemands, messageAlone, noKind, kindOne, kindTwo, kindAt, fixedOne, fixedTwo, fixedFor, withinMost, takesAnother, kindOf, hasEnough}
-use Rattle.guideline.specs.Rows.{beschaffungsanforderung, kostenblatt, rowsOf}
+use Rattle.guideline.specs.Kinds.{noDemands, messageAlone, versionAndRelease, noKind, kindOne, kindTwo, kindThree, kindAt, fixedOne, fixedTwo, fixedThree, fixedFor, withinMost, takesAnother, kindOf, hasEnough}
+use Rattle.guideline.specs.Rows.{beschaffungsanforderung, kostenblatt, networkConstraintDocument, rowsOf}
 use Rattle.states.specs.Attributes.{valueOf, schemeRefusal, least, alsoScheme, there, agree, asksV, asksScheme, demandsAt, meets, dtdFits, noOthers, attributesFit, valueFixed, dtdFixed, judgeTag}
-use Rattle.states.specs.Moves.{oneMore, oneSeries, oneInterval, oneOriginal, lastPos, covering, closedAt, endRefusal, afterEndAt as tagEnded, afterEnd, begun, heldOf, cutShort, tooMany, noRoom, halfOriginals, valuesJudged, judgedAt, startJudged, atRow, kept, entered, entryOf, startedBy, startedAt, started, countRefusal, moved, rootKind, kindTold, step}
+use Rattle.states.specs.Constraints.{noneSeen, withdrawing, changing, unchanging, directedTo, typed, directed, noticed, against, lacking}
+use Rattle.states.specs.Moves.{oneMore, oneSeries, oneInterval, oneOriginal, lastPos, covering, closedAt, lackRefusal, endRefusal, afterEndAt as tagEnded, afterEnd, begun, heldOf, cutShort, tooMany, noRoom, halfOriginals, againstOthers, besideOthers, valuesJudged, judgedAt, startJudged, atRow, kept, entered, entryOf, startedBy, startedAt, started, countRefusal, moved, rootKind, kindTold, step}
 use Rattle.notes.specs.Note.{groupsIn, flat, wrote, left}
 use Rattle.notes.specs.declared.Shape.the-variants.{Old}
 use Rattle.reader.specs.Items.{itemsAfter, itemsFrom}
@@ -49,7 +49,7 @@ use Rattle.reader.specs.Reading.{acceptedAt, blank, roomOf, refusedAt, endedAt,
 use Rattle.reader.specs.Answer.{Outcome, noteFor, answerOf, told, noted, readOf}
 use mathlib.Core.Bool.{true}
 use Rattle.promises.specs.Examples.{examples, allPass}
-use Rattle.promises.specs.Sheet.{sheet, sheetOutcome, twiceSheet, twiceAnswer}
+use Rattle.promises.specs.Sheet.{sheet, sheetOutcome, twiceSheet, twiceAnswer, constraintSheet, constraintOutcome, withdrawnSheet, withdrawnOutcome}
 use Rattle.slices.specs.declared.Span.{Span}
 use Rattle.blindness.specs.Readable.{tagNamed}
 use Rattle.blindness.specs.Sources.{valueAt}
@@ -70,25 +70,26 @@ secondId = record { start = 955; len = 2 }
 
 computed : (allPass examples ≡ true) × (readOf sheet 25 4 4 Old 16 ≡ sheetOutcome)
     × (readOf twiceSheet 25 4 4 Old 16 .answer ≡ twiceAnswer) × (identificationsIn sheet ≡ firstId ∷ secondId ∷ [])
+    × (readOf constraintSheet 25 4 4 Old 16 ≡ constraintOutcome) × (readOf withdrawnSheet 0 0 0 Old 16 ≡ withdrawnOutcome)
 unfolding byte run same begins walk seqLen control single charAt saidBy saidAt saysAfter says nameStart nameByte white quote fit valueNext valueOver
     value openingFrom opening attributeEnd attributeQuote attributeName attribute pieceAfter piece partOf absent dtdName noDtd withDtd noneKnown anotherKnown
     notedKnown onto endsAfter ends keptOf named twice endClose endName endTag tagOf tagItem startTag item markLen beginAfter begin capital
     capitalOrDigit firstThree digit takes fitsOf shownNumber numberAt space dropLead keepEnd dropTrail dropped digits numberFrom nothingAfter
     onlyDigits minus unsigned fractionForm unsignedForm writtenAmount filled thousandths signed amountOf numberForm atMostNine numberWithin countOf
-    lists codesOf listed held identification marketPartner resourceObject quarterHour leap monthDays realDate daysBefore leapDay
+    lists codesOf listed held identification gridElement marketPartner resourceObject quarterHour leap monthDays realDate daysBefore leapDay
     dayNumber dayOf minuteOn minuteAt isMinute dateTime between interval costPeriod quarterHours changes marchSunday
     octoberSunday yearOf inSummer startOfDay deliveryDay dayPeriod versionBy isVersion amountBy
-    amount judgeIntervalBy judgeInterval positionFits judgePositionBy judgePosition judge unless formRefusal periodFits judgePeriodBy
+    amount judgeIntervalBy judgeInterval positionFits judgePositionBy judgePosition judge unless formRefusal typeNo directionNo codeNo periodFits judgePeriodBy
     judgePeriod names numberIn elementNo nameOf parentOf required repeated nextIn endsIn startOf endAt endOf endsAtOnce closesDocument overOf
-    collapsed formOf schemeOf roleOf noDemands messageAlone noKind kindOne kindTwo kindAt fixedOne fixedTwo fixedFor withinMost takesAnother kindOf hasEnough beschaffungsanforderung kostenblatt rowsOf valueOf schemeRefusal least
-    alsoScheme there agree asksV asksScheme demandsAt meets dtdFits noOthers attributesFit valueFixed dtdFixed judgeTag oneMore oneSeries oneInterval oneOriginal lastPos covering closedAt
-    endRefusal tagEnded afterEnd begun heldOf cutShort tooMany noRoom halfOriginals valuesJudged judgedAt startJudged atRow kept entered entryOf
+    collapsed formOf schemeOf roleOf noDemands messageAlone versionAndRelease noKind kindOne kindTwo kindThree kindAt fixedOne fixedTwo fixedThree fixedFor withinMost takesAnother kindOf hasEnough beschaffungsanforderung kostenblatt networkConstraintDocument rowsOf valueOf schemeRefusal least
+    alsoScheme there agree asksV asksScheme demandsAt meets dtdFits noOthers attributesFit valueFixed dtdFixed judgeTag noneSeen withdrawing changing unchanging directedTo typed directed noticed against lacking oneMore oneSeries oneInterval oneOriginal lastPos covering closedAt
+    lackRefusal endRefusal tagEnded afterEnd begun heldOf cutShort tooMany noRoom halfOriginals againstOthers besideOthers valuesJudged judgedAt startJudged atRow kept entered entryOf
     startedBy startedAt started countRefusal moved rootKind kindTold step groupsIn flat wrote left itemsAfter itemsFrom quoted
     withView view thousandthsOf used usedIn usedWith spanOf broughtBy fieldAfter seriesWith positionsWith
     amountsWith seriesAfter positionsAfter amountsAfter usedBefore acceptedAt blank roomOf refusedAt
     depthOf heightIn endedAt withoutUsed stepOf tablesAfter readItems roomIn itemsRead readAfter readInto orBlank readSheet noteFor answerOf told noted readOf
     identificationsIn valuesNamedAfter valuesNamed tagNamed valueAt
-computed = (refl, refl, refl, refl)
+computed = (refl, refl, refl, refl, refl, refl)
 
 -- "P1 to P12 form a single table with a single proved statement."
 pub examples-pass : allPass examples ≡ true
@@ -97,15 +98,6 @@ examples-pass = computed .0
 pub sheet-read : readOf sheet 25 4 4 Old 16 ≡ sheetOutcome
 sheet-read = computed .1
 
-sheet-accepted : readOf sheet 25 4 4 Old 16 .answer .refusal ≡ 0
-sheet-accepted = ap (λ (o : Outcome). o .answer .refusal) sheet-read
-
-sheet-short : length sheet ≤ 1048576
-sheet-short =
-    let p : readOf sheet 25 4 4 Old 16 .answer .place ≡ 1387 = ap (λ (o : Outcome). o .answer .place) sheet-read in
-    let l = accepted-whole sheet 25 4 4 Old 16 sheet-accepted in
-    omega (arith, p, l)
-
 -- by a rule that is not one-to-one the answer is another
 pub twice-read : readOf twiceSheet 25 4 4 Old 16 .answer ≡ twiceAnswer
 twice-read = computed .2
@@ -113,6 +105,29 @@ twice-read = computed .2
 pub sheet-ids : identificationsIn sheet ≡ firstId ∷ secondId ∷ []
 sheet-ids = computed .3
 
--- it spells a legal content
+pub constraint-read : readOf constraintSheet 25 4 4 Old 16 ≡ constraintOutcome
+constraint-read = computed .4
+
+pub withdrawn-read : readOf withdrawnSheet 0 0 0 Old 16 ≡ withdrawnOutcome
+withdrawn-read = computed .5
+
+-- a document that is accepted, and is told to be no longer than a document may be, spells a legal content
+content-of : (doc : List ℕ) (ns np na : ℕ) → readOf doc ns np na Old 16 .answer .refusal ≡ 0 → readOf doc ns np na Old 16 .answer .place ≤ 1048576
+    → (kind : ℕ) × (c : Trees TagSaid) × Spells doc kind c × Legal kind c × HasRoom (roomOf ns np na) kind c
+content-of doc ns np na ok short = let l = accepted-whole doc ns np na Old 16 ok in accepted-legal doc ns np na Old 16 (omega arith) (omega (arith, short, l)) ok
+
+abbrev refusalIn : Outcome → ℕ
+refusalIn o = o .answer .refusal
+
+abbrev placeIn : Outcome → ℕ
+placeIn o = o .answer .place
+
 pub sheet-content : (kind : ℕ) × (c : Trees TagSaid) × Spells sheet kind c × Legal kind c × HasRoom (roomOf 25 4 4) kind c
-sheet-content = accepted-legal sheet 25 4 4 Old 16 (omega arith) sheet-short sheet-accepted
+sheet-content = let p = ap placeIn sheet-read in content-of sheet 25 4 4 (ap refusalIn sheet-read) (omega (arith, p))
+
+-- of kind 3 with series and with none
+pub constraint-content : (kind : ℕ) × (c : Trees TagSaid) × Spells constraintSheet kind c × Legal kind c × HasRoom (roomOf 25 4 4) kind c
+constraint-content = let p = ap placeIn constraint-read in content-of constraintSheet 25 4 4 (ap refusalIn constraint-read) (omega (arith, p))
+
+pub withdrawn-content : (kind : ℕ) × (c : Trees TagSaid) × Spells withdrawnSheet kind c × Legal kind c × HasRoom (roomOf 0 0 0) kind c
+withdrawn-content = let p = ap placeIn withdrawn-read in content-of withdrawnSheet 0 0 0 (ap refusalIn withdrawn-read) (omega (arith, p))

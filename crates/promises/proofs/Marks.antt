@@ -18,7 +18,7 @@ use Rattle.structure.specs.declared.Due.the-variants.{Row, NotDue}
 use Rattle.structure.proofs.Means.{start-means, end-means}
 use Rattle.columns.specs.Columns.{roleOf, seriesRole, intervalRole, objectRole, businessRole, seriesIdRole, posRole, qtyRole, directionRole, areaRole}
 use Rattle.guideline.specs.Kinds.{isKind, seriesElement}
-use Rattle.guideline.specs.Rows.{beschaffungsanforderung, kostenblatt, rowsOf}
+use Rattle.guideline.specs.Rows.{beschaffungsanforderung, kostenblatt, networkConstraintDocument, rowsOf}
 use Rattle.guideline.proofs.Each.{eachRow, row-of, of-kind, rowWith}
 use Rattle.guideline.proofs.Roots.{no-start, no-end}
 use Rattle.promises.specs.Items.{intervalElement}
@@ -198,7 +198,7 @@ pub record Table (kind : ℕ) : Type 0 where
   pub interval-named : Named (rowsOf kind) intervalRole intervalElement
 
 pub table : (kind : ℕ) → isKind kind ≡ true → Table kind
-unfolding rowsOf beschaffungsanforderung kostenblatt elementNo numberIn names same parentOf roleOf nameOf seriesElement intervalElement
+unfolding rowsOf beschaffungsanforderung kostenblatt networkConstraintDocument elementNo numberIn names same parentOf roleOf nameOf seriesElement intervalElement
 table kind known =
     record {
       rooted = rooted-by (rowsOf kind) (of-kind (λ k. rootedTest (rowsOf k)) refl kind known);

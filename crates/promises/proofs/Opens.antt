@@ -25,6 +25,7 @@ use Rattle.items.specs.declared.Tag.{Tag}
 use Rattle.items.specs.declared.Item.{Item}
 use Rattle.items.specs.declared.Item.the-variants.{Start, Empty, End, Text, Comment, Unreadable}
 use Rattle.rules.specs.declared.Judged.{Judged}
+use Rattle.states.specs.Constraints.{noticed}
 use Rattle.states.specs.Moves.{atRow, entered, startJudged, startedBy, startedAt, started, closedAt, endRefusal, afterEndAt, afterEnd, moved, rootKind, kindTold, step}
 use Rattle.states.specs.declared.State.{State}
 use Rattle.states.specs.declared.Room.{Room}
@@ -95,7 +96,7 @@ module _ (x : State) (kind : ℕ) where
   entered-depth : (r : ℕ) (j : Judged) (within : Bool) → depthAt (entered x kind r (getD rows r 0) j within) ≡ depthOf rows r within
   unfolding entered atRow
   entered-depth r j within =
-      let k = kept-keeps (atRow x kind r within) (getD rows r 0) j in
+      let k = kept-keeps (atRow x kind r within (noticed (x .seen) (getD rows r 0) (j .first))) (getD rows r 0) j in
       rw (k .kind, k .row, k .inside) refl
 
   module _ (w : (kind ≡ x .kind) ⊎ (x .kind ≡ 0)) (f : x .kind ≡ 0 → x .row ≡ 0) (t : Tag) (s : List ℕ) (room : Room) where

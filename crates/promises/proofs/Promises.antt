@@ -37,10 +37,10 @@ use Rattle.promises.specs.Rows.{ZeroPast, InRoom, Sized}
 use Rattle.guideline.specs.Kinds.{seriesElement}
 use Rattle.promises.specs.Items.{before, starts, kindIn, intervalElement, itemsIn, PlaceOf, startTags, endTags, openBefore}
 use Rattle.promises.specs.Examples.{examples, allPass}
-use Rattle.promises.specs.Sheet.{sheet, sheetOutcome, renamedSheet, twiceSheet, twiceAnswer}
+use Rattle.promises.specs.Sheet.{sheet, sheetOutcome, renamedSheet, twiceSheet, twiceAnswer, constraintSheet, constraintOutcome, withdrawnSheet, withdrawnOutcome}
 use Rattle.promises.proofs.Answers.{ten-is, ten-only, long-is, long-only, refusal-clears, refusal-known, place-within, place-told, accepted-whole, counts-within, cells-past, rows-kept, counts-told, note-told, open-told}
 use Rattle.promises.proofs.Faces.{two-calls, two-replies, renamed-runs, renamed-calls, renamed-replies}
-use Rattle.promises.proofs.Examples.{examples-pass, sheet-read, sheet-content, twice-read}
+use Rattle.promises.proofs.Examples.{examples-pass, sheet-read, sheet-content, twice-read, constraint-read, withdrawn-read, constraint-content, withdrawn-content}
 use Rattle.promises.proofs.Renamings.{sheet-renamed, renamed-read, sheet-twice}
 
 -- "P1 to P12 form a single table with a single proved statement."
@@ -51,6 +51,10 @@ the-examples = examples-pass
 -- first series and pretends after it .., one that invents counts": a document that is accepted, with two series
 pub a-sheet : readOf sheet 25 4 4 Old 16 ≡ sheetOutcome
 a-sheet = sheet-read
+
+-- and of K2's kind: with two series, and with none and a DocStatus
+pub a-constraint : (readOf constraintSheet 25 4 4 Old 16 ≡ constraintOutcome) × (readOf withdrawnSheet 0 0 0 Old 16 ≡ withdrawnOutcome)
+a-constraint = (constraint-read, withdrawn-read)
 
 module _ (doc : List ℕ) (ns np na : ℕ) (shape : Shape) (nb : ℕ) where
   -- a document, the lengths of the series, position and amount tables, the shape that the caller picks, and the length of the note buffer
@@ -99,8 +103,8 @@ module _ (doc : List ℕ) (ns np na : ℕ) (shape : Shape) (nb : ℕ) where
       × (outcome .answer .intervals ≡ starts intervalElement (before (outcome .answer .place) (itemsIn doc)))
   counts-of-start-tags = counts-told doc ns np na shape nb
 
-  -- "Two document kinds"; and no count is longer than the document
-  pub counts-in-document : (outcome .answer .kind ≤ 2) × (outcome .answer .series ≤ length doc) × (outcome .answer .intervals ≤ length doc)
+  -- "Two document kinds", and with K2 three; and no count is longer than the document
+  pub counts-in-document : (outcome .answer .kind ≤ 3) × (outcome .answer .series ≤ length doc) × (outcome .answer .intervals ≤ length doc)
   counts-in-document = counts-within doc ns np na shape nb
 
   -- "The note is five numbers: refusal, place, kind, series, intervals."; "A new note begins with the number 100, then the old five, then the count of elements open
@@ -135,6 +139,10 @@ module _ (doc : List ℕ) (ns np na : ℕ) (shape : Shape) (nb : ℕ) where
 -- and there is one: the content of the sheet above
 pub a-content : (kind : ℕ) × (c : Trees TagSaid) × Spells sheet kind c × Legal kind c × HasRoom (roomOf 25 4 4) kind c
 a-content = sheet-content
+
+pub a-constraint-content : ((kind : ℕ) × (c : Trees TagSaid) × Spells constraintSheet kind c × Legal kind c × HasRoom (roomOf 25 4 4) kind c)
+    × ((kind : ℕ) × (c : Trees TagSaid) × Spells withdrawnSheet kind c × Legal kind c × HasRoom (roomOf 0 0 0) kind c)
+a-constraint-content = (constraint-content, withdrawn-content)
 
 -- a document spells one legal content at most, so that its content is unambiguous
 pub content-alone : (doc : List ℕ) (kind other : ℕ) (c d : Trees TagSaid) → Spells doc kind c → Spells doc other d → Legal kind c → Legal other d

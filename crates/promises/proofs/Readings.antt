@@ -58,7 +58,7 @@ module _ (doc : List ℕ) (room : Room) (ns np na : ℕ) where
     pub quarters : (o .found .refusal ≡ 0 → ⊥) → o .found .quarters ≡ 0
     pub depths : o .found .depth ≤ 16
     pub shut : o .found .refusal ≡ 0 → o .found .depth ≡ 0
-    pub kinds : o .found .kind ≤ 2
+    pub kinds : o .found .kind ≤ 3
     pub series : o .found .series ≤ length doc
     pub intervals : o .found .intervals ≤ length doc
     pub series-room : o .found .series ≤ room .series

@@ -26,7 +26,8 @@ use Rattle.rules.specs.declared.Judged.{Judged}
 use Rattle.items.specs.declared.Tag.{Tag}
 use Rattle.slices.specs.declared.Span.{Span}
 use Rattle.states.specs.Attributes.{attributesFit, valueOf, schemeRefusal, least, alsoScheme, dtdFixed, judgeTag}
-use Rattle.states.specs.Moves.{heldOf, cutShort, tooMany, noRoom, halfOriginals, valuesJudged, judgedAt, startJudged, countRefusal, endRefusal}
+use Rattle.states.specs.Moves.{heldOf, cutShort, tooMany, noRoom, halfOriginals, againstOthers, besideOthers, valuesJudged, judgedAt, startJudged, countRefusal, lackRefusal, endRefusal}
+use Rattle.states.specs.Constraints.{lacking}
 use Rattle.states.specs.declared.State.{State}
 use Rattle.states.specs.declared.Room.{Room}
 
@@ -62,7 +63,8 @@ form-given form cs =
     (by-cond Given (eqb form 10) (unless-given 6 _ refl)
     (by-cond Given (eqb form 11) (unless-given 6 _ refl)
     (by-cond Given (eqb form 12) (unless-given 6 _ refl)
-    (by-cond Given (leb 32 form) (unless-given 7 _ refl) refl))))))))
+    (by-cond Given (eqb form 13) (unless-given 6 _ refl)
+    (by-cond Given (leb 32 form) (unless-given 7 _ refl) refl)))))))))
 
 period-given : (kind : ℕ) (i : Interval) → GivenBy (judgePeriodBy kind i)
 unfolding judgePeriodBy
@@ -107,6 +109,10 @@ tag-given w t h s =
     (least-given (judge (formOf w) h (says (valueOf w (t .v) s)) .number) (schemeRefusal w (t .coding) s)
     (judge-given (formOf w) h (says (valueOf w (t .v) s))) (scheme-given w (t .coding) s)))
 
+beside-given : (x : State) (kind role : ℕ) (j : Judged) → GivenBy j → GivenBy (besideOthers x kind role j)
+unfolding besideOthers
+beside-given x kind role j g = by-cond GivenBy (eqb (j .number) 0) (by-cond GivenBy (againstOthers x kind role (j .first)) refl g) g
+
 module _ (x : State) (kind : ℕ) (rows : List ℕ) (r : ℕ) (t : Tag) (s : List ℕ) (empty : Bool) (room : Room) where
   pub start-given : Given (startJudged x kind rows r t s empty room .number)
   unfolding startJudged judgedAt valuesJudged
@@ -115,12 +121,13 @@ module _ (x : State) (kind : ℕ) (rows : List ℕ) (r : ℕ) (t : Tag) (s : Lis
       by-cond GivenBy (cutShort empty rows r) refl
       (by-cond GivenBy (tooMany x (roleOf w) kind) refl
       (by-cond GivenBy (noRoom x (roleOf w) room) refl
-      (by-cond GivenBy (attributesFit kind w t) (by-cond GivenBy (halfOriginals x (roleOf w)) refl (tag-given w t (heldOf x kind) s)) refl)))
+      (by-cond GivenBy (attributesFit kind w t) (by-cond GivenBy (halfOriginals x (roleOf w)) refl (beside-given x kind (roleOf w) _ (tag-given w t (heldOf x kind) s))) refl)))
 
 pub end-given : (x : State) (rows : List ℕ) (r : ℕ) → Given (endRefusal x rows r)
-unfolding endRefusal countRefusal
+unfolding endRefusal countRefusal lackRefusal
 end-given x rows r =
     let n = x .intervals - x .first in
     by-cond Given (eqb (roleOf (getD rows r 0)) 3)
     (by-cond Given (hasEnough (x .kind) n) (by-cond Given (kindAt (x .kind) .full) (by-cond Given (eqb n (x .quarters)) refl refl) refl) refl)
-    refl
+    (by-cond Given (eqb (roleOf (getD rows r 0)) 1)
+    (by-cond Given (kindAt (x .kind) .constrained) (by-cond Given (lacking (x .seen) (x .series)) refl refl) refl) refl)

@@ -14,7 +14,7 @@ use Rattle.structure.specs.Rows.{nameOf, startOf, endOf}
 use Rattle.structure.specs.declared.Due.{Due}
 use Rattle.structure.specs.declared.Due.the-variants.{Row, NotDue}
 use Rattle.columns.specs.Columns.{formOf, roleOf}
-use Rattle.guideline.specs.Kinds.{kindOne, kindTwo, kindOf, seriesElement}
+use Rattle.guideline.specs.Kinds.{kindOne, kindTwo, kindThree, kindOf, seriesElement}
 use Rattle.guideline.specs.Rows.{rowsOf}
 use Rattle.guideline.proofs.Each.{kind-some}
 use Rattle.items.specs.declared.Tag.{Tag}
@@ -22,6 +22,7 @@ use Rattle.items.specs.declared.Item.{Item}
 use Rattle.items.specs.declared.Item.the-variants.{Start, Empty, End, Text, Comment, Unreadable}
 use Rattle.rules.specs.declared.Judged.{Judged}
 use Rattle.states.specs.Moves.{oneMore, atRow, oneSeries, oneInterval, oneOriginal, lastPos, covering, kept, entered, startJudged, startedBy, startedAt, started, closedAt, endRefusal, afterEndAt, afterEnd, moved, rootKind, kindTold, step}
+use Rattle.states.specs.Constraints.{noticed}
 use Rattle.states.specs.declared.State.{State}
 use Rattle.states.specs.declared.Room.{Room}
 use Rattle.states.specs.declared.Step.{Step}
@@ -84,7 +85,7 @@ none-series : (k n : ℕ) → raised 0 (seriesElement k) n ≡ n
 unfolding seriesElement elementNo numberIn names same
 none-series k n =
     let z : eqb 0 (seriesElement k) ≡ false =
-    by-cond (λ (m : ℕ). eqb 0 m ≡ false) (eqb k 1) refl (by-cond (λ (m : ℕ). eqb 0 m ≡ false) (eqb k 2) refl refl) in
+    by-cond (λ (m : ℕ). eqb 0 m ≡ false) (eqb k 1) refl (by-cond (λ (m : ℕ). eqb 0 m ≡ false) (eqb k 2) refl (by-cond (λ (m : ℕ). eqb 0 m ≡ false) (eqb k 3) refl refl)) in
     rw z refl
 
 none-interval : (n : ℕ) → raised 0 intervalElement n ≡ n
@@ -92,7 +93,7 @@ unfolding intervalElement elementNo numberIn names same
 none-interval n = refl
 
 none-kind : (kind : ℕ) → kind ≡ kindAfter 0 kind
-unfolding kindOf kindOne kindTwo elementNo numberIn names same
+unfolding kindOf kindOne kindTwo kindThree elementNo numberIn names same
 none-kind kind = ⊎-elim (λ y. rw (y .1) (y .0)) (λ y. rw (y .1) refl) (eqb-cases kind 0)
 
 unraised : (x y : State) → y .kind ≡ x .kind → y .series ≡ x .series → y .intervals ≡ x .intervals → Raised 0 x y
@@ -110,7 +111,7 @@ module _ (x : State) (kind : ℕ) where
       let known = due-known kind (x .row) (x .inside) name r e in
       let tab = table kind known in
       let w = getD rows r 0 in
-      let p = atRow x kind r within in
+      let p = atRow x kind r within (noticed (x .seen) w (j .first)) in
       let k = kept-keeps p w j in
       let inside : r < length rows = due-within rows (tab .rooted) (x .row) name r (x .inside) e in
       let n : nameOf w ≡ name = due-named rows (tab .rooted) (x .row) name r (x .inside) e in
@@ -151,7 +152,7 @@ module _ (x : State) (kind : ℕ) where
   moved-raises (Unreadable p) s room told = tt
 
 root-is : (item : Item) (s : List ℕ) → rootKind item s ≡ kindOf (startedIn item s)
-unfolding rootKind startedIn kindOf kindOne kindTwo elementNo numberIn names same
+unfolding rootKind startedIn kindOf kindOne kindTwo kindThree elementNo numberIn names same
 root-is (Start t) s = refl
 root-is (Empty t) s = refl
 root-is (End n e) s = refl

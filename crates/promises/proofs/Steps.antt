@@ -15,7 +15,7 @@ use Rattle.structure.specs.Rows.{startOf, endOf}
 use Rattle.structure.specs.declared.Due.{Due}
 use Rattle.structure.specs.declared.Due.the-variants.{Row, NotDue}
 use Rattle.columns.specs.Columns.{formOf, roleOf, seriesRole, intervalRole, objectRole, businessRole, seriesIdRole, posRole, qtyRole, directionRole, areaRole}
-use Rattle.guideline.specs.Kinds.{kindOne, kindTwo, isKind, kindOf}
+use Rattle.guideline.specs.Kinds.{kindOne, kindTwo, kindThree, isKind, kindOf}
 use Rattle.guideline.specs.Rows.{rowsOf}
 use Rattle.guideline.proofs.Each.{kind-some, rowWith}
 use Rattle.items.specs.declared.Tag.{Tag}
@@ -23,6 +23,7 @@ use Rattle.items.specs.declared.Item.{Item}
 use Rattle.items.specs.declared.Item.the-variants.{Start, Empty, End, Text, Comment, Unreadable}
 use Rattle.rules.specs.declared.Judged.{Judged}
 use Rattle.states.specs.Moves.{oneMore, begun, atRow, oneSeries, oneInterval, oneOriginal, lastPos, covering, kept, entered, entryOf, startJudged, startedBy, startedAt, started, closedAt, endRefusal, afterEndAt, afterEnd, moved, rootKind, kindTold, step}
+use Rattle.states.specs.Constraints.{noticed}
 use Rattle.states.specs.declared.State.{State}
 use Rattle.states.specs.declared.Room.{Room}
 use Rattle.states.specs.declared.Entry.{Entry}
@@ -39,7 +40,7 @@ Past role kind row = (isKind kind ≡ true) × (rowWith role (rowsOf kind) ≤ r
 
 -- where a series has started, one is counted, and so with an Interval; before the root there is no kind
 pub record Sound (x : State) : Type 0 where
-  pub kinds : x .kind ≤ 2
+  pub kinds : x .kind ≤ 3
   pub series : Past seriesRole (x .kind) (x .row) → 1 ≤ x .series
   pub intervals : Past intervalRole (x .kind) (x .row) → 1 ≤ x .intervals
   pub outside : x .kind ≡ 0 → x .row ≡ 0
@@ -174,7 +175,7 @@ entry-fits y role p f g =
 -- what is known of a state before an item that tells the kind
 pub record Before (x : State) (kind : ℕ) : Type 0 where
   pub sound : Sound x
-  pub kinds : kind ≤ 2
+  pub kinds : kind ≤ 3
   pub series : Past seriesRole kind (x .row) → 1 ≤ x .series
   pub intervals : Past intervalRole kind (x .row) → 1 ≤ x .intervals
 
@@ -190,7 +191,7 @@ module _ (x : State) (kind : ℕ) (b : Before x kind) where
       let known = due-known kind (x .row) (x .inside) name r e in
       let tab = table kind known in
       let w = getD rows r 0 in
-      let p = atRow x kind r within in
+      let p = atRow x kind r within (noticed (x .seen) w (j .first)) in
       let y = kept p w j in
       let k = kept-keeps p w j in
       let inside : r < length rows = due-within rows (tab .rooted) (x .row) name r (x .inside) e in
@@ -283,12 +284,13 @@ module _ (x : State) (kind : ℕ) (b : Before x kind) where
   moved-rises (Comment e) s room = still room
   moved-rises (Unreadable p) s room = (λ z. omega arith, refl)
 
-kind-small : (n : ℕ) → kindOf n ≤ 2
+kind-small : (n : ℕ) → kindOf n ≤ 3
 unfolding kindOf
 kind-small n =
-    by-cond (λ (k : ℕ). k ≤ 2) (eqb n (kindOne .root)) (omega arith) (by-cond (λ (k : ℕ). k ≤ 2) (eqb n (kindTwo .root)) (omega arith) (omega arith))
+    by-cond (λ (k : ℕ). k ≤ 3) (eqb n (kindOne .root)) (omega arith)
+    (by-cond (λ (k : ℕ). k ≤ 3) (eqb n (kindTwo .root)) (omega arith) (by-cond (λ (k : ℕ). k ≤ 3) (eqb n (kindThree .root)) (omega arith) (omega arith)))
 
-root-small : (item : Item) (s : List ℕ) → rootKind item s ≤ 2
+root-small : (item : Item) (s : List ℕ) → rootKind item s ≤ 3
 unfolding rootKind
 root-small (Start t) s = kind-small (elementNo (partOf s 1 (t .name)))
 root-small (Empty t) s = kind-small (elementNo (partOf s 1 (t .name)))

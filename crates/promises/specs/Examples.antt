@@ -46,6 +46,11 @@ examples =
     -- P1 and P4 in the new shape of K9: nothing is open in the one, the root in the other
     newNoteOf [] (0x64 ∷ 0x03 ∷ 0x00 ∷ 0x00 ∷ 0x00 ∷ 0x00 ∷ 0x00 ∷ []) ∷
     newNoteOf (text "<Kostenblatt DtdBDEWNachrichtenVersion=\"1.0\">") (0x64 ∷ 0x03 ∷ 0x2D ∷ 0x02 ∷ 0x00 ∷ 0x00 ∷ 0x01 ∷ []) ∷
+    -- K2: the start of a NetworkConstraintDocument; without DtdRelease, and with another DtdBDEWNachrichtenVersion
+    document (text "<NetworkConstraintDocument DtdVersion=\"4\" DtdRelease=\"1\">") 3 57 (0x03 ∷ 0x39 ∷ 0x03 ∷ 0x00 ∷ 0x00 ∷ []) ∷
+    document (text "<NetworkConstraintDocument DtdVersion=\"4\">") 5 0 (0x05 ∷ 0x00 ∷ 0x00 ∷ 0x00 ∷ 0x00 ∷ []) ∷
+    document (text "<NetworkConstraintDocument DtdVersion=\"4\" DtdRelease=\"1\" DtdBDEWNachrichtenVersion=\"1.0\">") 6 0
+    (0x06 ∷ 0x00 ∷ 0x00 ∷ 0x00 ∷ 0x00 ∷ []) ∷
     -- P6, P7, P8
     amount (text "-0") (pos 0) ∷
     amount (text "-0.001") (negsuc 0) ∷

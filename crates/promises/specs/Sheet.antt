@@ -1,4 +1,4 @@
--- A Kostenblatt of two series that is accepted, with the answer, the tables and the note in full; and the same with other identifications.
+-- Documents that are accepted, with the answer, the tables and the note in full: a Kostenblatt of two series, and the same with other identifications.
 use Prim.Native.Nat.{ℕ}
 use mathlib.Core.List.{List, [], _∷_, _++_}
 use lib.IntN.{pos, negsuc}
@@ -60,3 +60,55 @@ sheetOutcome =
 -- "9: TimeSeriesIdentification used before in this document", at the second one
 abbrev pub twiceAnswer : Answer
 twiceAnswer = record { refusal = 9; place = 926; kind = 2; series = 2; intervals = 1; quarters = 0; note = 6 }
+
+-- A NetworkConstraintDocument of two series, an A77 and a B59, and one that withdraws and has none.
+abbrev pub constraintHead : List ℕ
+constraintHead =
+    text "<NetworkConstraintDocument DtdVersion=\"4\" DtdRelease=\"1\">" ++
+    text "<DocumentIdentification v=\"D\"/><DocumentVersion v=\"1\"/><DocumentType v=\"B15\"/><ProcessType v=\"A14\"/>" ++
+    text "<SenderIdentification v=\"9900000000001\" codingScheme=\"A10\"/><SenderRole v=\"A18\"/>" ++
+    text "<ReceiverIdentification v=\"9900000000002\" codingScheme=\"A10\"/><ReceiverRole v=\"A39\"/>" ++
+    text "<DocumentDateTime v=\"2024-01-01T00:00:00Z\"/><TimePeriodCovered v=\"2024-01-01T00:00Z/2024-01-01T00:30Z\"/>"
+
+abbrev pub constraintSheet : List ℕ
+constraintSheet =
+    constraintHead ++
+    text "<NetworkConstraintTimeSeries><TimeSeriesIdentification v=\"S1\"/><BusinessType v=\" A77 \"/><Direction v=\" A02 \"/>" ++
+    text "<ConnectingArea v=\"10YDE-EON------1\" codingScheme=\"A01\"/><ResourceObject v=\"\" codingScheme=\"Z01\"/><MeasurementUnit v=\"MAW\"/>" ++
+    text "<Period><TimeInterval v=\"2024-01-01T00:00Z/2024-01-01T00:30Z\"/><Resolution v=\"PT15M\"/>" ++
+    text "<Interval><Pos v=\"1\"/><Qty v=\"1.5\"/></Interval></Period></NetworkConstraintTimeSeries>" ++
+    text "<NetworkConstraintTimeSeries><TimeSeriesIdentification v=\"S2\"/><BusinessType v=\"B59\"/><Direction v=\"A01\"/>" ++
+    text "<ConnectingArea v=\"10YDE-EON------1\" codingScheme=\"A01\"/><ResourceObject v=\"A1234567890\" codingScheme=\"NDE\"/>" ++
+    text "<GridElement v=\"E\" codingScheme=\"Z01\"/><MeasurementUnit v=\"C62\"/>" ++
+    text "<Period><TimeInterval v=\"2024-01-01T00:00Z/2024-01-01T00:30Z\"/><Resolution v=\"PT15M\"/>" ++
+    text "<Interval><Pos v=\"1\"/><Qty v=\"0.5\"/></Interval><Interval><Pos v=\"2\"/><Qty v=\"1\"/></Interval></Period></NetworkConstraintTimeSeries>" ++
+    text "</NetworkConstraintDocument>"
+
+abbrev pub withdrawnSheet : List ℕ
+withdrawnSheet = constraintHead ++ text "<DocStatus v=\"A13\"/></NetworkConstraintDocument>"
+
+-- In tables of 25, 4 and 4 cells, as above.
+abbrev pub constraintOutcome : Outcome
+constraintOutcome =
+    record {
+      answer = record { refusal = 0; place = 1358; kind = 3; series = 2; intervals = 3; quarters = 2; note = 6 };
+      tables =
+          record {
+            series =
+                485 ∷ 2 ∷ 613 ∷ 0 ∷ 508 ∷ 3 ∷ 530 ∷ 3 ∷ 556 ∷ 16 ∷ 0 ∷ 1 ∷
+                891 ∷ 2 ∷ 1015 ∷ 11 ∷ 913 ∷ 3 ∷ 933 ∷ 3 ∷ 958 ∷ 16 ∷ 1 ∷ 2 ∷
+                0 ∷ [];
+            positions = 1 ∷ 1 ∷ 2 ∷ 0 ∷ [];
+            amounts = pos 1500 ∷ pos 500 ∷ pos 1000 ∷ pos 0 ∷ [];
+          };
+      note = 0x00 ∷ 0xCE ∷ 0x0A ∷ 0x03 ∷ 0x02 ∷ 0x03 ∷ 0 ∷ 0 ∷ 0 ∷ 0 ∷ 0 ∷ 0 ∷ 0 ∷ 0 ∷ 0 ∷ 0 ∷ [];
+    }
+
+-- In tables of no cells.
+abbrev pub withdrawnOutcome : Outcome
+withdrawnOutcome =
+    record {
+      answer = record { refusal = 0; place = 475; kind = 3; series = 0; intervals = 0; quarters = 2; note = 6 };
+      tables = record { series = []; positions = []; amounts = [] };
+      note = 0x00 ∷ 0xDB ∷ 0x03 ∷ 0x03 ∷ 0x00 ∷ 0x00 ∷ 0 ∷ 0 ∷ 0 ∷ 0 ∷ 0 ∷ 0 ∷ 0 ∷ 0 ∷ 0 ∷ 0 ∷ [];
+    }

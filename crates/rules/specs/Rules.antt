@@ -4,6 +4,8 @@ use Prim.Native.Nat.{ℕ, _+_, _-_}
 use mathlib.Core.List.{List}
 use mathlib.Core.Bool.{Bool, true, false, cond}
 use lib.Dec.{leb, ltb, eqb}
+use Rattle.slices.specs.Same.{same}
+use Rattle.slices.specs.Text.{text}
 use Rattle.columns.specs.Columns.{
   identificationForm,
   seriesIdForm,
@@ -17,11 +19,14 @@ use Rattle.columns.specs.Columns.{
   amountForm,
   objectForm,
   partyForm,
+  gridElementForm,
   inList,
+  businessTypeThreeList,
+  directionList,
 }
 use Rattle.guideline.specs.Kinds.{kindAt}
 use Rattle.codes.specs.Lists.{listed, codesOf}
-use Rattle.forms.specs.Forms.{identification, marketPartner, resourceObject, party, quarterHour}
+use Rattle.forms.specs.Forms.{identification, gridElement, marketPartner, resourceObject, party, quarterHour}
 use Rattle.numbers.specs.Number.{numberOf}
 use Rattle.numbers.specs.Amount.{amountOf}
 use Rattle.numbers.specs.declared.Number.{Number}
@@ -64,7 +69,35 @@ formRefusal form cs =
     (cond (eqb form amountForm) (unless 6 (amount cs))
     (cond (eqb form objectForm) (unless 6 (resourceObject cs))
     (cond (eqb form partyForm) (unless 6 (party cs))
-    (cond (leb inList form) (unless 7 (listed (codesOf (form - inList)) cs)) 0))))))))
+    (cond (eqb form gridElementForm) (unless 6 (gridElement cs))
+    (cond (leb inList form) (unless 7 (listed (codesOf (form - inList)) cs)) 0)))))))))
+
+-- ---- which code a value is, where later values are held against it; 0 for any other value
+
+-- of kind 3's BusinessType: A77, by which the output may be changed, and B59, by which a resource bears on the network element
+abbrev pub changeType : ℕ
+changeType = 1
+
+abbrev pub bearingType : ℕ
+bearingType = 2
+
+unfoldable pub typeNo : List ℕ → ℕ
+typeNo cs = cond (same (text "A77") cs) changeType (cond (same (text "B59") cs) bearingType 0)
+
+-- of Direction: A01, up, and A02, down
+abbrev pub upward : ℕ
+upward = 1
+
+abbrev pub downward : ℕ
+downward = 2
+
+unfoldable pub directionNo : List ℕ → ℕ
+directionNo cs = cond (same (text "A01") cs) upward (cond (same (text "A02") cs) downward 0)
+
+unfoldable pub codeNo : ℕ → List ℕ → ℕ
+codeNo form cs = cond (eqb form (inList + businessTypeThreeList)) (typeNo cs) (cond (eqb form (inList + directionList)) (directionNo cs) 0)
+
+-- ---- a value beside those before it
 
 -- the number alone, 0 for a value that is taken
 abbrev pub refused : ℕ → Judged
@@ -92,7 +125,7 @@ judgeIntervalBy from to NotInterval = refused 6
 unfoldable pub judgeInterval : ℕ → ℕ → List ℕ → Judged
 judgeInterval from to cs = judgeIntervalBy from to (interval cs)
 
--- "Pos is at most N. Kind 1: 1, 2, 3 and so on. .. Kind 2 (curve A03): the first Pos is 1, later ones rise"
+-- "Pos is at most N. Kind 1: 1, 2, 3 and so on. .. Kind 2 (curve A03): the first Pos is 1, later ones rise"; kind 3 as kind 1
 unfoldable pub positionFits : ℕ → ℕ → ℕ → ℕ → Bool
 positionFits kind quarters last p =
     cond (ltb quarters p) false
@@ -107,11 +140,11 @@ judgePositionBy kind quarters last NotNumber = refused 6
 unfoldable pub judgePosition : ℕ → ℕ → ℕ → List ℕ → Judged
 judgePosition kind quarters last cs = judgePositionBy kind quarters last (numberOf cs 5)
 
--- a value by its form: TimePeriodCovered, TimeInterval, Resolution ("any other is refusal 8"), Pos, and those with a form alone
+-- a value by its form: TimePeriodCovered, TimeInterval, Resolution ("any other is refusal 8"), Pos, and those with a form alone, of which it is told which code they are
 unfoldable pub judge : ℕ → Held → List ℕ → Judged
 judge form h cs =
     cond (eqb form periodForm) (judgePeriod (h .kind) cs)
     (cond (eqb form intervalForm) (judgeInterval (h .from) (h .to) cs)
     (cond (eqb form resolutionForm) (refused (unless 8 (quarterHour cs)))
     (cond (eqb form posForm) (judgePosition (h .kind) (h .quarters) (h .last) cs)
-    (refused (formRefusal form cs)))))
+    (record { number = formRefusal form cs; first = codeNo form cs; second = 0 }))))

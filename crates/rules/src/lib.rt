@@ -1,7 +1,10 @@
 // What a row of the guideline asks of a value: its form or code list, and the values that it is held against.
 use codes::is_listed;
 use columns::AMOUNT_FORM;
+use columns::BUSINESS_TYPE_THREE_LIST;
 use columns::DATE_TIME_FORM;
+use columns::DIRECTION_LIST;
+use columns::GRID_ELEMENT_FORM;
 use columns::IDENTIFICATION_FORM;
 use columns::IN_LIST;
 use columns::INTERVAL_FORM;
@@ -13,6 +16,7 @@ use columns::POS_FORM;
 use columns::RESOLUTION_FORM;
 use columns::SERIES_ID_FORM;
 use columns::VERSION_FORM;
+use forms::is_grid_element;
 use forms::is_identification;
 use forms::is_market_partner;
 use forms::is_party;
@@ -23,6 +27,7 @@ use numbers::Amount;
 use numbers::Number;
 use numbers::amount_of;
 use numbers::number_of;
+use pictures::is_said;
 use times::Interval;
 use times::interval_of;
 use times::is_cost_period;
@@ -32,7 +37,7 @@ ghost use mathlib.Core.Path.{_≡_};
 ghost use Prim.Native.Nat.{_+_};
 ghost use lib.Dec.{eqb};
 ghost use Rattle.characters.specs.Says.{says};
-ghost use Rattle.rules.specs.Rules.{unless, isVersion, amount, formRefusal, periodFits, positionFits, judgePeriod, judgeInterval, judgePosition, judge};
+ghost use Rattle.rules.specs.Rules.{unless, isVersion, amount, formRefusal, typeNo, directionNo, codeNo, periodFits, positionFits, judgePeriod, judgeInterval, judgePosition, judge};
 
 // What a value is held against: the kind; TimePeriodCovered, in minutes, and its quarter hours; the last Pos, 0 before the first.
 pub struct Held {
@@ -43,12 +48,21 @@ pub struct Held {
     pub last: u32,
 }
 
-// The refusal's number, 0 for none, and what the value says: the two minutes of an interval, or a Pos.
+// The refusal's number, 0 for none, and what the value says: the two minutes of an interval, a Pos, or which code it is where later values are held against it.
 pub struct Judged {
     pub number: u32,
     pub first: u32,
     pub second: u32,
 }
+
+// Codes of kind 3's BusinessType, A77 and B59, and of Direction, A01 and A02.
+pub const CHANGE_TYPE: u32 = 1;
+
+pub const BEARING_TYPE: u32 = 2;
+
+pub const UPWARD: u32 = 1;
+
+pub const DOWNWARD: u32 = 2;
 
 fn refused_unless(number: u32, fits: bool) -> u32
     ensures { λ r. ⌜ r ≡ unless number fits ⌝ }
@@ -102,8 +116,48 @@ fn form_refusal(form: usize, v: &[u8]) -> u32
     if form == PARTY_FORM {
         return refused_unless(6, is_party(v));
     }
+    if form == GRID_ELEMENT_FORM {
+        return refused_unless(6, is_grid_element(v));
+    }
     if IN_LIST <= form {
         return refused_unless(7, is_listed(form - IN_LIST, v));
+    }
+    0
+}
+
+fn type_no(v: &[u8]) -> u32
+    ensures { λ r. ⌜ r ≡ typeNo (says (now (v .entry))) ⌝ }
+{
+    if is_said(b"A77", v) {
+        return CHANGE_TYPE;
+    }
+    if is_said(b"B59", v) {
+        return BEARING_TYPE;
+    }
+    0
+}
+
+fn direction_no(v: &[u8]) -> u32
+    ensures { λ r. ⌜ r ≡ directionNo (says (now (v .entry))) ⌝ }
+{
+    if is_said(b"A01", v) {
+        return UPWARD;
+    }
+    if is_said(b"A02", v) {
+        return DOWNWARD;
+    }
+    0
+}
+
+// Which code a value is, where later values are held against it.
+fn code_no(form: usize, v: &[u8]) -> u32
+    ensures { λ r. ⌜ r ≡ codeNo form (says (now (v .entry))) ⌝ }
+{
+    if form == IN_LIST + BUSINESS_TYPE_THREE_LIST {
+        return type_no(v);
+    }
+    if form == IN_LIST + DIRECTION_LIST {
+        return direction_no(v);
     }
     0
 }
@@ -241,7 +295,7 @@ pub fn judge_value(form: usize, v: &[u8], h: Held) -> Judged
     }
     Judged {
         number: form_refusal(form, v),
-        first: 0,
+        first: code_no(form, v),
         second: 0,
     }
 }

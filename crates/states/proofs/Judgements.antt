@@ -4,14 +4,17 @@ use mathlib.Core.Path.{_≡_, refl}
 use mathlib.Core.List.{List}
 use mathlib.Core.Bool.{Bool, true, false, cond}
 use native.Mathlib.Omega.{arith}
+use mathlib.Core.Logic.{⊎-elim}
+use lib.Dec.{eqb}
 use lib.ListN.{getD}
 use borrow.Author.Tests.{leb-false, lt-ltb}
+use Rattle.lists.proofs.Cases.{by-cond, eqb-cases}
 use Rattle.items.specs.declared.Tag.{Tag}
 use Rattle.columns.specs.Columns.{roleOf}
 use Rattle.rules.specs.Rules.{refused}
 use Rattle.rules.specs.declared.Judged.{Judged}
 use Rattle.states.specs.Attributes.{attributesFit, judgeTag}
-use Rattle.states.specs.Moves.{oneMore, cutShort, tooMany, noRoom, halfOriginals, heldOf, valuesJudged, judgedAt, startJudged}
+use Rattle.states.specs.Moves.{oneMore, cutShort, tooMany, noRoom, halfOriginals, againstOthers, besideOthers, heldOf, valuesJudged, judgedAt, startJudged}
 use Rattle.states.specs.declared.State.{State}
 use Rattle.states.specs.declared.Room.{Room}
 
@@ -28,7 +31,8 @@ pub record Passed (x : State) (kind : ℕ) (rows : List ℕ) (q : ℕ) (t : Tag)
   pub originals : halfOriginals x (roleOf (getD rows q 0)) ≡ false
 
 module _ (x : State) (kind : ℕ) (rows : List ℕ) (q : ℕ) (t : Tag) (s : List ℕ) (empty : Bool) (room : Room) where
-  pub passed-judged : Passed x kind rows q t empty room → startJudged x kind rows q t s empty room ≡ judgeTag (getD rows q 0) t (heldOf x kind) s
+  pub passed-judged : Passed x kind rows q t empty room
+      → startJudged x kind rows q t s empty room ≡ besideOthers x kind (roleOf (getD rows q 0)) (judgeTag (getD rows q 0) t (heldOf x kind) s)
   unfolding startJudged judgedAt valuesJudged
   passed-judged c = rw (c .whole, c .few, c .free, c .attributes, c .originals)
 
@@ -43,12 +47,28 @@ module _ (x : State) (kind : ℕ) (rows : List ℕ) (q : ℕ) (t : Tag) (s : Lis
       let b = untold (tooMany x (roleOf w) kind) 3 roomy (λ z. omega (arith, z)) (a .1) in
       let c = untold (noRoom x (roleOf w) room) 4 last (λ z. omega (arith, z)) (b .1) in
       let d : (attributesFit kind w t ≡ true) × (values .number ≡ 0) = fitting (attributesFit kind w t) values (c .1) in
-      let e = untold (halfOriginals x (roleOf w)) 8 (judgeTag w t (heldOf x kind) s) (λ z. omega (arith, z)) (d .1) in
+      let e = untold (halfOriginals x (roleOf w)) 8 (besideOthers x kind (roleOf w) (judgeTag w t (heldOf x kind) s)) (λ z. omega (arith, z)) (d .1) in
       record { whole = a .0; few = b .0; free = c .0; attributes = d .0; originals = e .0 }
     where
       fitting : (f : Bool) (j : Judged) → cond f j (refused 5) .number ≡ 0 → (f ≡ true) × (j .number ≡ 0)
       fitting true j e = (refl, e)
       fitting false j e = absurd (omega (arith, e))
+
+-- a value that is taken is not against the series before it
+module _ (x : State) (kind role : ℕ) (j : Judged) where
+  pub beside-same : againstOthers x kind role (j .first) ≡ false → besideOthers x kind role j ≡ j
+  unfolding besideOthers
+  beside-same f = rw f (by-cond (λ (k : Judged). k ≡ j) (eqb (j .number) 0) refl refl)
+
+  pub beside-taken : besideOthers x kind role j .number ≡ 0 → (j .number ≡ 0) × (againstOthers x kind role (j .first) ≡ false)
+  unfolding besideOthers
+  beside-taken h =
+      ⊎-elim
+      (λ (y : (j .number ≡ 0) × (eqb (j .number) 0 ≡ true)).
+      let u : cond (againstOthers x kind role (j .first)) (refused 8) j .number ≡ 0 = rw (y .1) at h in
+      (y .0, untold (againstOthers x kind role (j .first)) 8 j (λ z. omega (arith, z)) u .0))
+      (λ (y : (j .number ≡ 0 → ⊥) × (eqb (j .number) 0 ≡ false)). let u : j .number ≡ 0 = rw (y .1) at h in absurd (y .0 u))
+      (eqb-cases (j .number) 0)
 
 module _ (x : State) (role : ℕ) (room : Room) (h : noRoom x role room ≡ false) where
   pub series-room : role ≡ 2 → x .series < room .series

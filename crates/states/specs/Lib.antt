@@ -1,3 +1,4 @@
-pub mod Attributes
 pub mod Act
+pub mod Attributes
+pub mod Constraints
 pub mod Moves

@@ -6,7 +6,7 @@ use lib.ListN.{getD}
 use lib.Dec.{leb, ltb, eqb}
 use Rattle.slices.specs.Part.{partOf}
 use Rattle.elements.specs.Names.{elementNo}
-use Rattle.columns.specs.Columns.{formOf, roleOf, periodForm, seriesRole, periodRole, intervalRole, originalRole, objectRole, businessRole, seriesIdRole, posRole, qtyRole, directionRole, areaRole}
+use Rattle.columns.specs.Columns.{formOf, roleOf, periodForm, rootRole, seriesRole, periodRole, intervalRole, originalRole, objectRole, businessRole, seriesIdRole, posRole, qtyRole, directionRole, areaRole}
 use Rattle.guideline.specs.Kinds.{kindAt, kindOf, takesAnother, hasEnough}
 use Rattle.guideline.specs.Rows.{rowsOf, rowsIn}
 use Rattle.items.specs.declared.Tag.{Tag}
@@ -20,7 +20,9 @@ use Rattle.structure.specs.declared.Due.{Due}
 use Rattle.structure.specs.declared.Due.the-variants.{Row, NotDue}
 use Rattle.times.specs.Periods.{quarterHours}
 use Rattle.states.specs.Attributes.{attributesFit, judgeTag}
+use Rattle.states.specs.Constraints.{noneSeen, noticed, against, lacking}
 use Rattle.states.specs.declared.State.{State}
+use Rattle.states.specs.declared.Seen.{Seen}
 use Rattle.states.specs.declared.Room.{Room}
 use Rattle.states.specs.declared.Entry.{Entry}
 use Rattle.states.specs.declared.Entry.the-variants.{Nothing, Series, Identification, Object, BusinessType, Direction, Area, Interval, Position, Amount}
@@ -34,7 +36,7 @@ oneMore n = cond (ltb n 4294967295) (n + 1) n
 -- before the first item: the document as a whole is open
 unfoldable pub begun : State
 begun =
-    record { kind = 0; row = 0; inside = true; series = 0; intervals = 0; first = 0; from = 0; to = 0; quarters = 0; last = 0; originals = 0 }
+    record { kind = 0; row = 0; inside = true; series = 0; intervals = 0; first = 0; from = 0; to = 0; quarters = 0; last = 0; originals = 0; seen = noneSeen }
 
 unfoldable pub heldOf : State → ℕ → Held
 heldOf x kind = record { kind = kind; from = x .from; to = x .to; quarters = x .quarters; last = x .last }
@@ -58,8 +60,15 @@ noRoom x role room =
 unfoldable pub halfOriginals : State → ℕ → Bool
 halfOriginals x role = cond (eqb role periodRole) (cond (eqb (x .originals) 0) false (cond (eqb (x .originals) 5) false true)) false
 
+-- the rules between the series of a constraint
+unfoldable pub againstOthers : State → ℕ → ℕ → ℕ → Bool
+againstOthers x kind role code = cond (kindAt kind .constrained) (against (x .seen) (x .series) role code) false
+
+unfoldable pub besideOthers : State → ℕ → ℕ → Judged → Judged
+besideOthers x kind role j = cond (eqb (j .number) 0) (cond (againstOthers x kind role (j .first)) (refused 8) j) j
+
 unfoldable pub valuesJudged : State → ℕ → ℕ → Tag → List ℕ → Judged
-valuesJudged x kind w t s = cond (halfOriginals x (roleOf w)) (refused 8) (judgeTag w t (heldOf x kind) s)
+valuesJudged x kind w t s = cond (halfOriginals x (roleOf w)) (refused 8) (besideOthers x kind (roleOf w) (judgeTag w t (heldOf x kind) s))
 
 -- the smallest refusal, w being the row
 unfoldable pub judgedAt : State → ℕ → List ℕ → ℕ → ℕ → Tag → List ℕ → Bool → Room → Judged
@@ -72,9 +81,9 @@ judgedAt x kind rows r w t s empty room =
 unfoldable pub startJudged : State → ℕ → List ℕ → ℕ → Tag → List ℕ → Bool → Room → Judged
 startJudged x kind rows r t s empty room = judgedAt x kind rows r (getD rows r 0) t s empty room
 
--- where the structure stands after it
-unfoldable pub atRow : State → ℕ → ℕ → Bool → State
-atRow x kind r within =
+-- where the structure stands after it, and what is kept for the rules between series
+unfoldable pub atRow : State → ℕ → ℕ → Bool → Seen → State
+atRow x kind r within seen =
     record {
       kind = kind;
       row = r;
@@ -87,6 +96,7 @@ atRow x kind r within =
       quarters = x .quarters;
       last = x .last;
       originals = x .originals;
+      seen = seen;
     }
 
 unfoldable pub oneSeries : State → State
@@ -103,6 +113,7 @@ oneSeries x =
       quarters = x .quarters;
       last = x .last;
       originals = 0;
+      seen = x .seen;
     }
 
 unfoldable pub oneInterval : State → State
@@ -119,6 +130,7 @@ oneInterval x =
       quarters = x .quarters;
       last = x .last;
       originals = x .originals;
+      seen = x .seen;
     }
 
 unfoldable pub oneOriginal : State → State
@@ -135,6 +147,7 @@ oneOriginal x =
       quarters = x .quarters;
       last = x .last;
       originals = oneMore (x .originals);
+      seen = x .seen;
     }
 
 unfoldable pub lastPos : State → ℕ → State
@@ -151,6 +164,7 @@ lastPos x p =
       quarters = x .quarters;
       last = p;
       originals = x .originals;
+      seen = x .seen;
     }
 
 unfoldable pub covering : State → ℕ → ℕ → State
@@ -167,6 +181,7 @@ covering x from to =
       quarters = quarterHours from to;
       last = x .last;
       originals = x .originals;
+      seen = x .seen;
     }
 
 -- and what later items are held against: a series, a Period, an Interval, an Original, a Pos, TimePeriodCovered
@@ -180,7 +195,7 @@ kept x w j =
     (cond (eqb (formOf w) periodForm) (covering x (j .first) (j .second)) x)))))
 
 unfoldable pub entered : State → ℕ → ℕ → ℕ → Judged → Bool → State
-entered x kind r w j within = kept (atRow x kind r within) w j
+entered x kind r w j within = kept (atRow x kind r within (noticed (x .seen) w (j .first))) w j
 
 -- what it brings into the tables
 unfoldable pub entryOf : ℕ → ℕ → Entry
@@ -222,14 +237,21 @@ closedAt x r =
       quarters = x .quarters;
       last = x .last;
       originals = x .originals;
+      seen = x .seen;
     }
 
 -- "at the end tag of Period there are N intervals": 3 for too few, 8 for another number than N
 unfoldable pub countRefusal : ℕ → ℕ → ℕ → ℕ
 countRefusal kind quarters n = cond (hasEnough kind n) (cond (kindAt kind .full) (cond (eqb n quarters) 0 8) 0) 3
 
+-- at the root's end a series that a constraint has to have
+unfoldable pub lackRefusal : State → ℕ
+lackRefusal x = cond (kindAt (x .kind) .constrained) (cond (lacking (x .seen) (x .series)) 8 0) 0
+
 unfoldable pub endRefusal : State → List ℕ → ℕ → ℕ
-endRefusal x rows r = cond (eqb (roleOf (getD rows r 0)) periodRole) (countRefusal (x .kind) (x .quarters) (x .intervals - x .first)) 0
+endRefusal x rows r =
+    cond (eqb (roleOf (getD rows r 0)) periodRole) (countRefusal (x .kind) (x .quarters) (x .intervals - x .first))
+    (cond (eqb (roleOf (getD rows r 0)) rootRole) (lackRefusal x) 0)
 
 unfoldable pub afterEndAt : State → List ℕ → Due → Step
 afterEndAt x rows (Row r) = cond (eqb (endRefusal x rows r) 0) (Next (closedAt x r) Nothing) (Refused (endRefusal x rows r))

@@ -4,6 +4,8 @@ use columns::AREA_ROLE;
 use columns::BUSINESS_ROLE;
 use columns::BY_LIST;
 use columns::DIRECTION_ROLE;
+use columns::DOC_STATUS_LIST;
+use columns::IN_LIST;
 use columns::INTERVAL_ROLE;
 use columns::NO_FORM;
 use columns::NO_SCHEME;
@@ -36,6 +38,8 @@ use guideline::takes_another;
 use items::Item;
 use items::Tag;
 use items::name_in;
+use rules::BEARING_TYPE;
+use rules::CHANGE_TYPE;
 use rules::Held;
 use rules::Judged;
 use rules::judge_value;
@@ -51,12 +55,14 @@ use trims::trimmed;
 ghost use mathlib.Core.Path.{_≡_};
 ghost use Prim.Native.Nat.{_-_};
 ghost use lib.Dec.{eqb};
+ghost use mathlib.Core.Bool.{false, cond};
 ghost use lib.ListN.{getD};
 ghost use Rattle.items.specs.Parts.{nameIn};
 ghost use Rattle.columns.specs.Columns.{roleOf, rootRole};
 ghost use Rattle.states.specs.Attributes.{there, agree, asksV, asksScheme, demandsAt, meets, dtdFits, noOthers, attributesFit, valueOf, schemeRefusal, least, valueFixed, dtdFixed, judgeTag};
 ghost use Rattle.states.specs.Act.{actOf};
-ghost use Rattle.states.specs.Moves.{oneMore, cutShort, begun, heldOf, tooMany, noRoom, halfOriginals, valuesJudged, startJudged, entered, entryOf, started, closedAt, countRefusal, endRefusal, afterEnd, moved, kindTold, stepBy};
+ghost use Rattle.states.specs.Constraints.{noneSeen, withdrawing, changing, unchanging, directedTo, typed, directed, noticed, against, lacking};
+ghost use Rattle.states.specs.Moves.{oneMore, cutShort, begun, heldOf, tooMany, noRoom, halfOriginals, againstOthers, besideOthers, valuesJudged, startJudged, entered, entryOf, started, closedAt, countRefusal, lackRefusal, endRefusal, afterEnd, moved, kindTold, stepBy};
 
 pub struct State {
     // 0 before the root
@@ -75,6 +81,21 @@ pub struct State {
     pub last: u32,
     // how many of the five Original elements the series has
     pub originals: u32,
+    // what is kept for the rules between the series of a constraint
+    pub seen: Seen,
+}
+
+pub struct Seen {
+    // whether there is a DocStatus
+    pub withdrawn: bool,
+    // whether a series of BusinessType A77 came, a second one, and whether the present series is one
+    pub change: bool,
+    pub second: bool,
+    pub here: bool,
+    // which Direction the first A77 has
+    pub direction: u32,
+    // whether a series of BusinessType B59 came
+    pub bearing: bool,
 }
 
 // For how many series and intervals the lent tables have room.
@@ -407,12 +428,126 @@ fn act_of(item: Item) -> Act
     }
 }
 
+impl Seen {
+    fn none() -> Seen
+        ensures { λ r. ⌜ r ≡ noneSeen ⌝ }
+    {
+        Seen {
+            withdrawn: false,
+            change: false,
+            second: false,
+            here: false,
+            direction: 0,
+            bearing: false,
+        }
+    }
+
+    // After a BusinessType.
+    fn typed(mut self, code: u32) -> Seen
+        ensures { λ r. ⌜ r ≡ typed self code ⌝ }
+    {
+        if code == CHANGE_TYPE {
+            self.second = self.change;
+            self.change = true;
+            self.here = true;
+            return self;
+        }
+        self.here = false;
+        if code == BEARING_TYPE {
+            self.bearing = true;
+        }
+        self
+    }
+
+    // After a Direction: that of the first A77 is kept.
+    fn directed(mut self, code: u32) -> Seen
+        ensures { λ r. ⌜ r ≡ directed self code ⌝ }
+    {
+        if self.here {
+            if self.second {
+                return self;
+            }
+            self.direction = code;
+        }
+        self
+    }
+
+    // After the start of row w, whose value is this code.
+    fn noticed(mut self, w: usize, code: u32) -> Seen
+        ensures { λ r. ⌜ r ≡ noticed self w code ⌝ }
+    {
+        if form_of(w) == IN_LIST + DOC_STATUS_LIST {
+            self.withdrawn = true;
+            return self;
+        }
+        let role = role_of(w);
+        if role == BUSINESS_ROLE {
+            return self.typed(code);
+        }
+        if role == DIRECTION_ROLE {
+            return self.directed(code);
+        }
+        self
+    }
+
+    // Whether an element is against the series before it, of which there are so many.
+    fn is_against(self, series: u32, role: usize, code: u32) -> bool
+        ensures { λ r. ⌜ r ≡ against self series role code ⌝ }
+    {
+        if role == SERIES_ROLE {
+            if self.withdrawn {
+                return 0 < series;
+            }
+            return false;
+        }
+        if role == BUSINESS_ROLE {
+            if self.second {
+                return code == CHANGE_TYPE;
+            }
+            return false;
+        }
+        if role == DIRECTION_ROLE {
+            return self.has_direction(code);
+        }
+        false
+    }
+
+    // Whether the second A77 has the Direction of the first.
+    fn has_direction(self, code: u32) -> bool
+        ensures { λ r. ⌜ r ≡ cond (self .here) (cond (self .second) (eqb code (self .direction)) false) false ⌝ }
+    {
+        if self.here {
+            if self.second {
+                return code == self.direction;
+            }
+        }
+        false
+    }
+
+    // Whether a document with so many series lacks one that a constraint has to have.
+    fn is_lacking(self, series: u32) -> bool
+        ensures { λ r. ⌜ r ≡ lacking self series ⌝ }
+    {
+        if self.withdrawn {
+            return false;
+        }
+        if series == 0 {
+            return false;
+        }
+        if self.change {
+            return !self.bearing;
+        }
+        true
+    }
+}
+
 impl State {
     // Before the first item: the document as a whole is open.
     // Ruled out: a kind before the root; a count that is not 0.
     pub fn begin() -> State
         ensures { λ r. ⌜ r ≡ begun ⌝ }
     {
+        let seen = Seen::none();
         State {
             kind: 0,
             row: 0,
@@ -425,6 +560,7 @@ impl State {
             quarters: 0,
             last: 0,
             originals: 0,
+            seen,
         }
     }
 
@@ -482,17 +618,44 @@ impl State {
         false
     }
 
+    // Whether an element is against the rules between the series of a constraint.
+    fn is_against_others(self, kind: u32, role: usize, code: u32) -> bool
+        ensures { λ r. ⌜ r ≡ againstOthers self kind role code ⌝ }
+    {
+        if kind_at(kind).constrained {
+            let seen = self.seen;
+            return seen.is_against(self.series, role, code);
+        }
+        false
+    }
+
+    fn beside_others(self, kind: u32, role: usize, j: Judged) -> Judged
+        ensures { λ r. ⌜ r ≡ besideOthers self kind role j ⌝ }
+    {
+        if j.number == 0 {
+            if self.is_against_others(kind, role, j.first) {
+                return Judged {
+                    number: 8,
+                    first: 0,
+                    second: 0,
+                };
+            }
+        }
+        j
+    }
+
     fn judge_values(self, kind: u32, w: usize, t: Tag, s: &[u8]) -> Judged
         ensures { λ r. ⌜ r ≡ valuesJudged self kind w t (now (s .entry)) ⌝ }
     {
-        if self.has_half(role_of(w)) {
+        let role = role_of(w);
+        if self.has_half(role) {
             return Judged {
                 number: 8,
                 first: 0,
                 second: 0,
             };
         }
-        judge_tag(w, t, s, self.held(kind))
+        self.beside_others(kind, role, judge_tag(w, t, s, self.held(kind)))
     }
 
     // The refusal of a start or empty tag whose row is due, and what its value says.
@@ -548,6 +711,8 @@ impl State {
         self.kind = kind;
         self.row = row;
         self.inside = within;
+        let seen = self.seen;
+        self.seen = seen.noticed(w, j.first);
         let role = role_of(w);
         if role == SERIES_ROLE {
             self.series = one_more(self.series);
@@ -618,13 +783,30 @@ impl State {
         self
     }
 
+    // The refusal of the root's end by the series that a constraint has to have.
+    fn lack_refusal(self) -> u32
+        ensures { λ r. ⌜ r ≡ lackRefusal self ⌝ }
+    {
+        if kind_at(self.kind).constrained {
+            let seen = self.seen;
+            if seen.is_lacking(self.series) {
+                return 8;
+            }
+        }
+        0
+    }
+
     // The refusal of an end tag that closes a row.
     fn end_refusal(self, rows: &[usize], row: usize) -> u32
         ensures { λ r. ⌜ r ≡ endRefusal self (now (rows .entry)) row ⌝ }
     {
-        if role_of(row_at(rows, row)) == PERIOD_ROLE {
+        let role = role_of(row_at(rows, row));
+        if role == PERIOD_ROLE {
             let n = count_of(self.intervals, self.first);
             return count_refusal(self.kind, self.quarters, n);
+        }
+        if role == ROOT_ROLE {
+            return self.lack_refusal();
         }
         0
     }

@@ -1,4 +1,4 @@
--- The definitions say something of the two tables: a smallest document of each kind conforms, and with a row missing, or one come again, none does.
+-- The definitions say something of the tables: a smallest document of each kind conforms, and with a row missing, or one come again, none does.
 -- Assumes nothing.
 use Prim.Native.Nat.{ℕ}
 use mathlib.Core.Path.{_≡_, refl, sym, _∙_}
@@ -9,7 +9,7 @@ use Rattle.slices.specs.Same.{same}
 use Rattle.elements.specs.Names.{names, numberIn, elementNo}
 use Rattle.structure.specs.Rows.{nameOf, parentOf, required, repeated, nextIn, endsIn, startOf, endAt, endOf, closesDocument, overOf}
 use Rattle.guideline.specs.Kinds.{isKind}
-use Rattle.guideline.specs.Rows.{beschaffungsanforderung, kostenblatt, rowsOf}
+use Rattle.guideline.specs.Rows.{beschaffungsanforderung, kostenblatt, networkConstraintDocument, rowsOf}
 use Rattle.trees.specs.Trees.{Trees, none, element, spell, Conforms}
 use Rattle.trees.specs.Cursor.{onRow, follows}
 use Rattle.trees.proofs.Made.{well-made}
@@ -35,6 +35,15 @@ smallestOne = sheet heads (13 ∷ 14 ∷ 15 ∷ 16 ∷ 17 ∷ 18 ∷ 19 ∷ 20 �
 abbrev pub smallestTwo : (Trees (Unit {0}))
 smallestTwo = sheet heads (13 ∷ 14 ∷ 16 ∷ 18 ∷ 19 ∷ 20 ∷ 21 ∷ []) 28 (29 ∷ 30 ∷ []) 31 (32 ∷ 33 ∷ [])
 
+-- without DocStatus, with DocStatus and no series
+abbrev pub smallestThree : (Trees (Unit {0}))
+smallestThree =
+    let inPeriod = leaves (29 ∷ 30 ∷ []) (element 31 tt (leaves (32 ∷ 33 ∷ []) none) none) in
+    element 1 tt (leaves heads (element 13 tt (leaves (14 ∷ 15 ∷ 16 ∷ 17 ∷ 18 ∷ 22 ∷ []) (element 28 tt inPeriod none)) none)) none
+
+abbrev pub withdrawnThree : (Trees (Unit {0}))
+withdrawnThree = element 1 tt (leaves heads (leaves (12 ∷ []) none)) none
+
 -- without its Resolution
 abbrev pub incomplete : (Trees (Unit {0}))
 incomplete = sheet heads (13 ∷ 14 ∷ 16 ∷ 18 ∷ 19 ∷ 20 ∷ 21 ∷ []) 28 (29 ∷ []) 31 (32 ∷ 33 ∷ [])
@@ -49,6 +58,8 @@ followed k kids = follows (rowsOf k) 0 true (spell (rowsOf k) kids)
 record Judged : Type 0 where
   one : followed 1 smallestOne ≡ true
   two : followed 2 smallestTwo ≡ true
+  three : followed 3 smallestThree ≡ true
+  withdrawn : followed 3 withdrawnThree ≡ true
   missing : followed 2 incomplete ≡ false
   twice : followed 2 repeating ≡ false
 
@@ -72,11 +83,12 @@ unfolding
     rowsOf
     beschaffungsanforderung
     kostenblatt
+    networkConstraintDocument
     elementNo
     numberIn
     names
     same
-judged = record { one = refl; two = refl; missing = refl; twice = refl }
+judged = record { one = refl; two = refl; three = refl; withdrawn = refl; missing = refl; twice = refl }
 
 pub one-conforms : (kids : (Trees (Unit {0}))) × Conforms (rowsOf 1) 0 kids × (spell (rowsOf 1) smallestOne ≡ spell (rowsOf 1) kids)
 unfolding followed isKind
@@ -85,6 +97,14 @@ one-conforms = sound (Unit {0}) (rowsOf 1) (well-made 1 refl) (spell (rowsOf 1) 
 pub two-conforms : (kids : (Trees (Unit {0}))) × Conforms (rowsOf 2) 0 kids × (spell (rowsOf 2) smallestTwo ≡ spell (rowsOf 2) kids)
 unfolding followed isKind
 two-conforms = sound (Unit {0}) (rowsOf 2) (well-made 2 refl) (spell (rowsOf 2) smallestTwo) (judged .two)
+
+pub three-conforms : (kids : (Trees (Unit {0}))) × Conforms (rowsOf 3) 0 kids × (spell (rowsOf 3) smallestThree ≡ spell (rowsOf 3) kids)
+unfolding followed isKind
+three-conforms = sound (Unit {0}) (rowsOf 3) (well-made 3 refl) (spell (rowsOf 3) smallestThree) (judged .three)
+
+pub withdrawn-conforms : (kids : (Trees (Unit {0}))) × Conforms (rowsOf 3) 0 kids × (spell (rowsOf 3) withdrawnThree ≡ spell (rowsOf 3) kids)
+unfolding followed isKind
+withdrawn-conforms = sound (Unit {0}) (rowsOf 3) (well-made 3 refl) (spell (rowsOf 3) withdrawnThree) (judged .withdrawn)
 
 refuted : (kids : (Trees (Unit {0}))) → followed 2 kids ≡ false → Conforms (rowsOf 2) 0 kids → ⊥
 unfolding followed isKind

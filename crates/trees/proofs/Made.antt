@@ -1,4 +1,4 @@
--- What the test `wellMade` tells of a table, and that both structure tables pass it.
+-- What the test `wellMade` tells of a table, and that the structure tables pass it.
 -- Assumes nothing.
 use mathlib.Core.Path.{_≡_, refl, sym, _∙_}
 use mathlib.Core.Bool.{Bool, true, false, _&&_, not}
@@ -13,13 +13,13 @@ use Rattle.slices.specs.Same.{same}
 use Rattle.elements.specs.Names.{names, numberIn, elementNo}
 use Rattle.structure.specs.Rows.{nameOf, parentOf, repeated}
 use Rattle.guideline.specs.Kinds.{isKind}
-use Rattle.guideline.specs.Rows.{beschaffungsanforderung, kostenblatt, rowsOf}
+use Rattle.guideline.specs.Rows.{beschaffungsanforderung, kostenblatt, networkConstraintDocument, rowsOf}
 use Rattle.guideline.proofs.Each.{of-kind}
 use Rattle.trees.specs.Trees.{unlike, laterWellMade, wellMade}
 
 -- the rows of each kind pass
 pub well-made : (kind : ℕ) → isKind kind ≡ true → wellMade (rowsOf kind) ≡ true
-unfolding wellMade laterWellMade unlike rowsOf beschaffungsanforderung kostenblatt elementNo numberIn names same nameOf parentOf repeated
+unfolding wellMade laterWellMade unlike rowsOf beschaffungsanforderung kostenblatt networkConstraintDocument elementNo numberIn names same nameOf parentOf repeated
 well-made = of-kind (λ k. wellMade (rowsOf k)) refl
 
 -- two rows of one row bear different names

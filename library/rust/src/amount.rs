@@ -1,7 +1,8 @@
 //! Amounts, which are printed where they are asked for and nowhere else.
 use core::fmt::{self, Write};
 
-/// A Qty, in thousandths: megawatts in a Beschaffungsanforderung, euros by the series' MeasurementUnit in a Kostenblatt.
+/// A Qty, in thousandths: megawatts in a Beschaffungsanforderung, euros by the series' MeasurementUnit in a Kostenblatt, megawatts or a share by
+/// it in a NetworkConstraintDocument.
 ///
 /// [`Display`](fmt::Display) writes the exact decimal number, with as few decimals as it needs. A precision asks for at least so many, up to three;
 /// none is dropped and nothing is rounded. [`Debug`](fmt::Debug) writes no digit, so that no amount gets into a log by mistake.

@@ -10,7 +10,7 @@ pub const DOCUMENT_MOST: usize = 1_048_576;
 /// Numbers that a series takes in the series table.
 pub const SERIES_ROW: usize = 12;
 /// Series that are room for every document.
-pub const SERIES_ROOM: usize = 2_558;
+pub const SERIES_ROOM: usize = 2_635;
 /// Intervals that are room for every document.
 pub const INTERVALS_ROOM: usize = 23_302;
 

@@ -1,4 +1,4 @@
-//! Reads documents of Germany's Redispatch 2.0 in memory: Beschaffungsanforderungen 1.0 and Kostenblätter 1.0.
+//! Reads documents of Germany's Redispatch 2.0 in memory: Beschaffungsanforderungen 1.0, Kostenblätter 1.0 and NetworkConstraintDocuments 1.1a.
 //!
 //! This crate is the safe face of Lumintayag's reader, whose archive it links. What the reader answers and leaves in its tables is proved, for every
 //! document and every length of every table. That ends at the archive's functions (`library/lumintayag.h`): this crate, which shows the tables row by
@@ -41,13 +41,13 @@
 //! # What an amount is
 //!
 //! An [`Amount`] is a Qty, in thousandths. In a Beschaffungsanforderung it is megawatts. In a Kostenblatt it is euros by the series' MeasurementUnit:
-//! per piece (Z01), per megawatt hour (Z02) or per hour (Z03). So two amounts may be held against each other only where kind, BusinessType, Direction
+//! per piece (Z01), per megawatt hour (Z02) or per hour (Z03). In a NetworkConstraintDocument it is megawatts (MAW) or a share (C62). So two amounts may be held against each other only where kind, BusinessType, Direction
 //! and MeasurementUnit are the same; the last one is not in the tables yet. Quarter hours count from 1, the first of TimePeriodCovered, which need
-//! not begin at midnight, and [`Series::amount_at`] has no amount past the last one.
+//! not begin at midnight, and [`Series::amount_at`] has no amount past the last one, nor in a NetworkConstraintDocument past the last Pos of the series.
 //!
 //! # What is not judged
 //!
-//! Dependencies that the format descriptions tell in prose, but for those that the build scope lists (`docs/GUIDELINE.md`, section 7.3). An accepted
+//! Dependencies that the format descriptions tell in prose, but for those that the build scope or a request lists (`docs/GUIDELINE.md`, section 7.3). An accepted
 //! Kostenblatt may lack a Direction that its BusinessType needs, have a MeasurementUnit that does not go with it, or a negative price per start.
 //!
 //! # What gets into a log
@@ -59,11 +59,11 @@
 //! # Features and requirements
 //!
 //! The crate is `no_std`. The default feature `alloc` adds [`OwnedSheet`]; without it the crate allocates nothing. It does not panic. A call takes
-//! 67 KB of stack. The environment variable `LUMINTAYAG_DIR` names the folder of the archive at build time, as a full path.
+//! 68 KB of stack. The environment variable `LUMINTAYAG_DIR` names the folder of the archive at build time, as a full path.
 //!
 //! # Later versions
 //!
-//! Kinds and refusals will get more names, series more values and tables wider rows, and a sheet may come to have no series. So [`Kind`] and
+//! Kinds and refusals will get more names, series more values and tables wider rows. So [`Kind`] and
 //! [`Refusal`] are `#[non_exhaustive]`, rows are shown through methods, and tables are sized by [`Room`] and [`SERIES_ROW`]. A function of the
 //! archive whose layout changes gets a new name, so that this crate is not linked with a layout that it does not know.
 #![no_std]

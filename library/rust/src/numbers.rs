@@ -9,6 +9,9 @@ pub enum Kind {
     Beschaffungsanforderung,
     /// 2: what a changed hour of a plant costs. Its amounts are euros by the series' MeasurementUnit; one stands until the next Pos.
     Kostenblatt,
+    /// 3: how far plants may be changed before another part of the grid is full. Its amounts are megawatts or a share by the series' MeasurementUnit, from
+    /// quarter hour 1 on, each for its own; those after the last have none. It may have no series.
+    NetworkConstraintDocument,
     /// A kind that this version of the crate has no name for. How long its amounts stand is not known, and none is told for a quarter hour. Do not
     /// match it: a later version may have a name, and [`number`](Kind::number) stays.
     #[non_exhaustive]
@@ -22,6 +25,7 @@ impl Kind {
             0 => return None,
             1 => Kind::Beschaffungsanforderung,
             2 => Kind::Kostenblatt,
+            3 => Kind::NetworkConstraintDocument,
             _ => Kind::Other(number),
         })
     }
@@ -31,14 +35,17 @@ impl Kind {
         match self {
             Kind::Beschaffungsanforderung => 1,
             Kind::Kostenblatt => 2,
+            Kind::NetworkConstraintDocument => 3,
             Kind::Other(number) => number,
         }
     }
 
-    /// The last quarter hour in which a series has an amount, in a sheet of `quarters`. How long one of an unknown kind stands is not known.
-    pub(crate) const fn covered(self, quarters: u32) -> u32 {
+    /// The last quarter hour in which a series has an amount, in a sheet of `quarters`, where its last Pos is `last`. How long one of an unknown kind
+    /// stands is not known.
+    pub(crate) const fn covered(self, quarters: u32, last: u32) -> u32 {
         match self {
             Kind::Beschaffungsanforderung | Kind::Kostenblatt => quarters,
+            Kind::NetworkConstraintDocument => last,
             Kind::Other(_) => 0,
         }
     }
@@ -49,6 +56,7 @@ impl fmt::Display for Kind {
         match self {
             Kind::Beschaffungsanforderung => f.pad("Beschaffungsanforderung"),
             Kind::Kostenblatt => f.pad("Kostenblatt"),
+            Kind::NetworkConstraintDocument => f.pad("NetworkConstraintDocument"),
             Kind::Other(number) => write!(f, "kind {number}"),
         }
     }

@@ -2,7 +2,7 @@
 use crate::{DOCUMENT_MOST, INTERVALS_ROOM, SERIES_ROOM, SERIES_ROW};
 
 /// A document has at least so many bytes for each series and for each Interval.
-const SERIES_LEAST: usize = 410;
+const SERIES_LEAST: usize = 398;
 const INTERVAL_LEAST: usize = 45;
 
 /// Rows in the tables.
@@ -29,7 +29,7 @@ impl Room {
     /// Room for every document.
     pub const EVERY: Room = Room { series: SERIES_ROOM, intervals: INTERVALS_ROOM };
 
-    /// Room for every document of so many bytes: a series takes 410 at least and an Interval 45, and the last one may be cut off. These two numbers
+    /// Room for every document of so many bytes: a series takes 398 at least and an Interval 45, and the last one may be cut off. These two numbers
     /// are counted from the guideline and not proved; with this room no document should be refused with [`TableFull`](crate::Refusal::TableFull).
     pub const fn of_length(bytes: usize) -> Room {
         let bytes = if bytes < DOCUMENT_MOST { bytes } else { DOCUMENT_MOST };

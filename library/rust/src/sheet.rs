@@ -75,7 +75,7 @@ impl<'a> Sheet<'a> {
         self.quarters
     }
 
-    /// How many series there are.
+    /// How many series there are; a NetworkConstraintDocument may have none.
     pub fn len(&self) -> usize {
         self.tables.series.len() / SERIES_ROW
     }
@@ -89,14 +89,15 @@ impl<'a> Sheet<'a> {
     pub fn get(&self, index: usize) -> Option<Series<'a>> {
         let row = self.tables.series.get(index.checked_mul(SERIES_ROW)?..)?.first_chunk::<SERIES_ROW>()?;
         let &[id, id_len, object, object_len, business_type, business_type_len, direction, direction_len, area, area_len, first, count] = row;
+        let intervals = Rows::of(self.tables, first, count)?;
         Some(Series {
             identification: View::of(self.doc, id, id_len)?,
             object: View::of(self.doc, object, object_len)?,
             business_type: View::of(self.doc, business_type, business_type_len)?,
             direction: View::if_there(self.doc, direction, direction_len)?,
             area: View::if_there(self.doc, area, area_len)?,
-            intervals: Rows::of(self.tables, first, count)?,
-            covered: self.kind.covered(self.quarters),
+            intervals,
+            covered: self.kind.covered(self.quarters, intervals.last()),
         })
     }
 
@@ -177,6 +178,10 @@ impl<'a> Rows<'a> {
         (rows.positions.first() == Some(&1)).then_some(rows)
     }
 
+    fn last(&self) -> u32 {
+        self.positions.last().copied().unwrap_or(0)
+    }
+
     fn get(&self, row: usize) -> Option<(u32, Amount)> {
         Some((*self.positions.get(row)?, Amount::from_thousandths(*self.amounts.get(row)?)))
     }
@@ -225,7 +230,7 @@ impl<'a> Series<'a> {
         self.identification.text
     }
 
-    /// InParty in a Beschaffungsanforderung, ResourceObject in a Kostenblatt.
+    /// InParty in a Beschaffungsanforderung, ResourceObject in the other kinds. In a NetworkConstraintDocument it may be empty.
     pub fn object(&self) -> &'a str {
         self.object.text
     }
@@ -236,12 +241,12 @@ impl<'a> Series<'a> {
     }
 
     /// Direction, without the spaces at its ends: `A01` is up, `A02` is down. `None` where it is absent: it may be in a Kostenblatt, and a
-    /// Beschaffungsanforderung has none.
+    /// Beschaffungsanforderung has none. In a NetworkConstraintDocument it is always there.
     pub fn direction(&self) -> Option<&'a str> {
         self.direction.map(|view| view.text)
     }
 
-    /// The area: InArea in a Beschaffungsanforderung; ConnectingArea in a Kostenblatt, where it may be absent.
+    /// The area: InArea in a Beschaffungsanforderung; ConnectingArea in the other kinds, which may be absent in a Kostenblatt.
     pub fn area(&self) -> Option<&'a str> {
         self.area.map(|view| view.text)
     }
@@ -251,7 +256,8 @@ impl<'a> Series<'a> {
         Intervals { intervals: self.intervals, rest: 0..self.intervals.positions.len() }
     }
 
-    /// The amount of a quarter hour, counted from 1: that of the last Pos up to it. `None` for 0 and past the last quarter hour of TimePeriodCovered.
+    /// The amount of a quarter hour, counted from 1: that of the last Pos up to it. `None` for 0, past the last quarter hour of TimePeriodCovered, and in a
+    /// NetworkConstraintDocument, where each amount is that of its own quarter hour, past the last Pos.
     pub fn amount_at(&self, quarter: u32) -> Option<Amount> {
         if quarter > self.covered {
             return None;
@@ -261,7 +267,7 @@ impl<'a> Series<'a> {
         Some(amount)
     }
 
-    /// Number and amount of each quarter hour of TimePeriodCovered, from 1 on.
+    /// Number and amount of each quarter hour of TimePeriodCovered, from 1 on; in a NetworkConstraintDocument up to the last Pos.
     pub fn by_quarter(&self) -> ByQuarter<'a> {
         ByQuarter { series: *self, row: 0, rest: 1..self.covered.saturating_add(1) }
     }
@@ -411,6 +417,13 @@ mod tests {
             let sheet = sheet(Kind::Kostenblatt, &ROW[..cells], &[1, 1, 3]);
             assert!(sheet.is_empty() && sheet.get(0).is_none() && sheet.iter().next().is_none());
         }
+    }
+
+    #[test]
+    fn an_amount_of_a_network_constraint_document_stands_for_its_own_quarter_hour() {
+        let series = sheet(Kind::NetworkConstraintDocument, &ROW, &[1, 1, 2]).get(0).expect("a row");
+        assert!(series.by_quarter().map(|(quarter, amount)| (quarter, amount.thousandths())).eq([(1, 20), (2, 30)]));
+        assert_eq!((series.amount_at(2), series.amount_at(3)), (Some(Amount::from_thousandths(30)), None));
     }
 
     #[test]

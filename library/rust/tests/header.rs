@@ -45,7 +45,11 @@ fn cells_of_a_series_row() {
 
 #[test]
 fn kinds_and_refusals() {
-    let kinds = [("BESCHAFFUNGSANFORDERUNG", Kind::Beschaffungsanforderung), ("KOSTENBLATT", Kind::Kostenblatt)];
+    let kinds = [
+        ("BESCHAFFUNGSANFORDERUNG", Kind::Beschaffungsanforderung),
+        ("KOSTENBLATT", Kind::Kostenblatt),
+        ("NETWORK_CONSTRAINT_DOCUMENT", Kind::NetworkConstraintDocument),
+    ];
     for (name, kind) in kinds {
         assert_eq!(defined(&format!("LUMINTAYAG_{name}")), kind.number() as usize);
     }

@@ -75,19 +75,26 @@ fn shortest(k: usize) -> String {
     plant(&format!("{k:x}"), "A00000000Z5", &[(1, "0")]).replace("  A01 ", "A01")
 }
 
+/// As short as a series of kind 3 can be.
+fn shortest_constraint(k: usize) -> String {
+    constraint(&format!("{k:x}"), "B59", "A01", &[(1, "0")])
+}
+
 #[test]
 fn the_shortest_series_and_the_shortest_interval() {
-    assert_eq!((shortest(0).len() - 1, intervals(&[(1, "0")]).len()), (410, 45));
+    assert_eq!((shortest(0).len() - 1, shortest_constraint(0).len() - 1, intervals(&[(1, "0")]).len()), (410, 398, 45));
 }
 
 /// Documents with as many series or intervals as there can be, whole and cut off after every part, have room by their length.
 #[test]
 fn no_document_is_refused_for_room_by_its_length() {
     let many: String = (0..2_600).map(shortest).collect();
+    let most: String = (0..2_700).map(shortest_constraint).collect();
     let year = "2031-01-01T00:00Z/2032-01-01T00:00Z";
     let rows: Vec<(u32, &str)> = (1..=22_000).map(|pos| (pos, "0")).collect();
     let long = plant_in(year, "", "A00000000Z5", &rows);
-    for (doc, tag, step) in [(kostenblatt(&many), "<CostTimeSeries>", 97), (kostenblatt_in(year, &long), "<Interval>", 991)] {
+    let constraints = (network_constraint_document(&most), "<NetworkConstraintTimeSeries>", 97);
+    for (doc, tag, step) in [(kostenblatt(&many), "<CostTimeSeries>", 97), (kostenblatt_in(year, &long), "<Interval>", 991), constraints] {
         let ends: Vec<usize> = doc.match_indices(tag).map(|(at, _)| at + tag.len()).filter(|&end| end <= DOCUMENT_MOST).collect();
         for &end in ends.iter().step_by(step).chain(ends.last()) {
             assert_eq!(verdict(&doc.as_bytes()[..end], &mut Desk::of(Room::of_length(end))), (3, end));

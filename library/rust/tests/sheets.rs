@@ -96,6 +96,59 @@ fn a_beschaffungsanforderung_has_its_quarter_hours() {
 }
 
 #[test]
+fn a_network_constraint_document_has_an_amount_for_each_of_its_positions() {
+    let (rows, one) = ([(1, "0.5"), (2, "-1"), (3, "0")], [(1, "7")]);
+    let doc = network_constraint_document(&(constraint("p", " A77", "A02 ", &rows) + &constraint("n", "B59", "A02", &one)));
+    let mut desk = Desk::large();
+    let sheet = desk.read(doc.as_bytes()).expect("accepted").sheet;
+    assert_eq!((sheet.kind(), sheet.quarters(), sheet.len()), (Kind::NetworkConstraintDocument, 96, 2));
+    assert_eq!((sheet.kind().to_string().as_str(), sheet.kind().number()), ("NetworkConstraintDocument", 3));
+    let (first, second) = (sheet.get(0).expect("a first series"), sheet.get(1).expect("a second series"));
+    assert_eq!(views(first), ("p", "", "A77", Some("A02"), Some(AREA)));
+    assert_eq!(views(second), ("n", "", "B59", Some("A02"), Some(AREA)));
+    let all = [(1, amount(500)), (2, amount(-1_000)), (3, amount(0))];
+    assert!(first.intervals().eq(all) && first.by_quarter().eq(all) && first.by_quarter().rev().eq(all.into_iter().rev()));
+    let told = [0, 1, 3, 4, 96, 97, u32::MAX].map(|quarter| first.amount_at(quarter));
+    assert_eq!(told, [None, Some(amount(500)), Some(amount(0)), None, None, None, None]);
+    assert_eq!((second.by_quarter().len(), second.amount_at(1), second.amount_at(2)), (1, Some(amount(7_000)), None));
+}
+
+#[test]
+fn a_network_constraint_document_may_have_no_series() {
+    for status in ["", "<DocStatus v=\"A13\"/>"] {
+        let doc = network_constraint_document(status);
+        let mut desk = Desk::new(0, 0, 0);
+        assert_eq!(verdict(doc.as_bytes(), &mut desk), (0, doc.len()));
+        let Accepted { sheet, note, .. } = desk.read(doc.as_bytes()).expect("accepted");
+        assert!(sheet.is_empty() && sheet.iter().next().is_none() && sheet.get(0).is_none());
+        assert_eq!((sheet.kind(), sheet.quarters(), note.kind(), note.series()), (Kind::NetworkConstraintDocument, 96, Some(sheet.kind()), 0));
+    }
+}
+
+#[test]
+fn the_series_of_a_network_constraint_document_go_together() {
+    let rows = [(1, "5")];
+    let [up, down, equal, element] =
+        [("p", "A77", "A01"), ("q", "A77", "A02"), ("r", "A77", "A01"), ("n", "B59", "A01")].map(|(id, b, d)| constraint(id, b, d, &rows));
+    let status = "<DocStatus v=\"A13\"/>";
+    let cases = [
+        (format!("{up}{down}{element}"), 0, ""),
+        (format!("{status}{up}"), 0, ""),
+        (format!("{status}{element}"), 0, ""),
+        (format!("{up}{element}{equal}"), 8, "<Direction"),
+        (format!("{up}{down}{element}{equal}"), 8, "<BusinessType"),
+        (format!("{status}{up}{element}"), 8, "<NetworkConstraintTimeSeries"),
+        (format!("{up}{down}"), 8, "</NetworkConstraintDocument"),
+        (element.clone(), 8, "</NetworkConstraintDocument"),
+    ];
+    for (k, (rest, number, at)) in cases.into_iter().enumerate() {
+        let doc = network_constraint_document(&rest);
+        let place = if number == 0 { doc.len() } else { doc.rfind(at).expect("the place") };
+        assert_eq!(verdict(doc.as_bytes(), &mut Desk::large()), (number, place), "case {k}");
+    }
+}
+
+#[test]
 fn a_mark_and_a_declaration_count_in_places() {
     let doc = format!("\u{FEFF}<?xml version='1.0' encoding=\"utf-8\"?>\n{}", two_plants());
     let mut desk = Desk::large();
@@ -162,7 +215,7 @@ fn numbers_and_names_of_refusals_and_kinds() {
         let (refusal, kind) = (Refusal::from_number(number).expect("a refusal"), Kind::from_number(number).expect("a kind"));
         assert_eq!((refusal.number(), kind.number()), (number, number));
         assert_eq!(matches!(refusal, Refusal::Other { .. }), number > 11);
-        assert_eq!(matches!(kind, Kind::Other { .. }), number > 2);
+        assert_eq!(matches!(kind, Kind::Other { .. }), number > 3);
         assert!(!refusal.to_string().is_empty() && !kind.to_string().is_empty());
     }
 }

@@ -13,7 +13,7 @@ abbrev Inv-loop : tie.InvT-loop
 Inv-loop v k₀ t4 k = Unit {0}
 
 abbrev μ-loop : tie.MeasureT-loop
-μ-loop v k₀ t4 k = 20 - k
+μ-loop v k₀ t4 k = 26 - k
 
 slice-aggregate-print-text : tie.Need-slice-aggregate-print-text Inv-loop μ-loop
 slice-aggregate-print-text c = search needs

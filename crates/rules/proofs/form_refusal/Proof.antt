@@ -6,6 +6,7 @@ use Rattle.rules.proofs.form_refusal.Tie as tie
 use Rattle.rules.proofs.form_refusal.Reads as reads
 use Rattle.rules.proofs.form_refusal.Lts as lts
 use Rattle.codes.proofs.is_listed.Reads as is-listed-reads
+use Rattle.forms.proofs.is_grid_element.Reads as is-grid-element-reads
 use Rattle.forms.proofs.is_identification.Reads as is-identification-reads
 use Rattle.forms.proofs.is_market_partner.Reads as is-market-partner-reads
 use Rattle.forms.proofs.is_party.Reads as is-party-reads
@@ -95,19 +96,29 @@ returns-8 : tie.Need-returns-8
 unfolding formRefusal
 returns-8 c = simp (← c .refused-unless8 .ensures, ← c .before .is-party .ensures, eq-eqb _ _ (c .before .before .if8 .taken), ne-eqb _ _ (c .before .before .before .if7 .left), ne-eqb _ _ (c .before .before .before .before .if6 .left), ne-eqb _ _ (c .before .before .before .before .before .if5 .left), ne-eqb _ _ (c .before .before .before .before .before .before .if4 .left), ne-eqb _ _ (c .before .before .before .before .before .before .before .if3 .left), ne-eqb _ _ (c .before .before .before .before .before .before .before .before .if2 .left), ne-eqb _ _ (c .before .before .before .before .before .before .before .before .before .if1 .left))
 
-is-listed-requires : tie.Need-is-listed-requires
-is-listed-requires c κs = search needs
+is-grid-element-requires : tie.Need-is-grid-element-requires
+is-grid-element-requires c κs = search needs
 
 refused-unless-requires-9 : tie.Need-refused-unless-requires-9
 refused-unless-requires-9 c κs = search needs
 
 returns-9 : tie.Need-returns-9
 unfolding formRefusal
-returns-9 c = simp (← c .refused-unless9 .ensures, ← c .before .is-listed .ensures, le-leb _ _ (c .before .before .if9 .taken), ne-eqb _ _ (c .before .before .before .if8 .left), ne-eqb _ _ (c .before .before .before .before .if7 .left), ne-eqb _ _ (c .before .before .before .before .before .if6 .left), ne-eqb _ _ (c .before .before .before .before .before .before .if5 .left), ne-eqb _ _ (c .before .before .before .before .before .before .before .if4 .left), ne-eqb _ _ (c .before .before .before .before .before .before .before .before .if3 .left), ne-eqb _ _ (c .before .before .before .before .before .before .before .before .before .if2 .left), ne-eqb _ _ (c .before .before .before .before .before .before .before .before .before .before .if1 .left))
+returns-9 c = simp (← c .refused-unless9 .ensures, ← c .before .is-grid-element .ensures, eq-eqb _ _ (c .before .before .if9 .taken), ne-eqb _ _ (c .before .before .before .if8 .left), ne-eqb _ _ (c .before .before .before .before .if7 .left), ne-eqb _ _ (c .before .before .before .before .before .if6 .left), ne-eqb _ _ (c .before .before .before .before .before .before .if5 .left), ne-eqb _ _ (c .before .before .before .before .before .before .before .if4 .left), ne-eqb _ _ (c .before .before .before .before .before .before .before .before .if3 .left), ne-eqb _ _ (c .before .before .before .before .before .before .before .before .before .if2 .left), ne-eqb _ _ (c .before .before .before .before .before .before .before .before .before .before .if1 .left))
+
+is-listed-requires : tie.Need-is-listed-requires
+is-listed-requires c κs = search needs
+
+refused-unless-requires-10 : tie.Need-refused-unless-requires-10
+refused-unless-requires-10 c κs = search needs
 
 returns-10 : tie.Need-returns-10
 unfolding formRefusal
-returns-10 c = simp (lt-leb _ _ (c .if9 .left), ne-eqb _ _ (c .before .if8 .left), ne-eqb _ _ (c .before .before .if7 .left), ne-eqb _ _ (c .before .before .before .if6 .left), ne-eqb _ _ (c .before .before .before .before .if5 .left), ne-eqb _ _ (c .before .before .before .before .before .if4 .left), ne-eqb _ _ (c .before .before .before .before .before .before .if3 .left), ne-eqb _ _ (c .before .before .before .before .before .before .before .if2 .left), ne-eqb _ _ (c .before .before .before .before .before .before .before .before .if1 .left))
+returns-10 c = simp (← c .refused-unless10 .ensures, ← c .before .is-listed .ensures, le-leb _ _ (c .before .before .if10 .taken), ne-eqb _ _ (c .before .before .before .if9 .left), ne-eqb _ _ (c .before .before .before .before .if8 .left), ne-eqb _ _ (c .before .before .before .before .before .if7 .left), ne-eqb _ _ (c .before .before .before .before .before .before .if6 .left), ne-eqb _ _ (c .before .before .before .before .before .before .before .if5 .left), ne-eqb _ _ (c .before .before .before .before .before .before .before .before .if4 .left), ne-eqb _ _ (c .before .before .before .before .before .before .before .before .before .if3 .left), ne-eqb _ _ (c .before .before .before .before .before .before .before .before .before .before .if2 .left), ne-eqb _ _ (c .before .before .before .before .before .before .before .before .before .before .before .if1 .left))
+
+returns-11 : tie.Need-returns-11
+unfolding formRefusal
+returns-11 c = simp (lt-leb _ _ (c .if10 .left), ne-eqb _ _ (c .before .if9 .left), ne-eqb _ _ (c .before .before .if8 .left), ne-eqb _ _ (c .before .before .before .if7 .left), ne-eqb _ _ (c .before .before .before .before .if6 .left), ne-eqb _ _ (c .before .before .before .before .before .if5 .left), ne-eqb _ _ (c .before .before .before .before .before .before .if4 .left), ne-eqb _ _ (c .before .before .before .before .before .before .before .if3 .left), ne-eqb _ _ (c .before .before .before .before .before .before .before .before .if2 .left), ne-eqb _ _ (c .before .before .before .before .before .before .before .before .before .if1 .left))
 
 pub form-refusal-spec : {M : Type 1} → statement M
 form-refusal-spec =
@@ -137,7 +148,10 @@ form-refusal-spec =
     is-party-requires
     refused-unless-requires-8
     returns-8
-    is-listed-requires
+    is-grid-element-requires
     refused-unless-requires-9
     returns-9
-    returns-10)
+    is-listed-requires
+    refused-unless-requires-10
+    returns-10
+    returns-11)

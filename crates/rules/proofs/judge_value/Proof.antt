@@ -6,6 +6,7 @@ use Rattle.rules.proofs.judge_value.Tie as tie
 use Rattle.rules.proofs.judge_value.Reads as reads
 use Rattle.rules.proofs.judge_value.Lts as lts
 use Rattle.forms.proofs.is_quarter_hour.Reads as is-quarter-hour-reads
+use Rattle.rules.proofs.code_no.Reads as code-no-reads
 use Rattle.rules.proofs.form_refusal.Reads as form-refusal-reads
 use Rattle.rules.proofs.judge_interval.Reads as judge-interval-reads
 use Rattle.rules.proofs.judge_period.Reads as judge-period-reads
@@ -46,9 +47,12 @@ returns-4 c = simp (← c .judge-position .ensures, eq-eqb _ _ (c .before .if4 .
 form-refusal-requires : tie.Need-form-refusal-requires
 form-refusal-requires c κs = search needs
 
+code-no-requires : tie.Need-code-no-requires
+code-no-requires c κs = search needs
+
 returns-5 : tie.Need-returns-5
-unfolding judge refused
-returns-5 c = simp (← c .form-refusal .ensures, ne-eqb _ _ (c .before .if4 .left), ne-eqb _ _ (c .before .before .if3 .left), ne-eqb _ _ (c .before .before .before .if2 .left), ne-eqb _ _ (c .before .before .before .before .if1 .left))
+unfolding judge
+returns-5 c = simp (← c .code-no .ensures, ← c .before .form-refusal .ensures, ne-eqb _ _ (c .before .before .if4 .left), ne-eqb _ _ (c .before .before .before .if3 .left), ne-eqb _ _ (c .before .before .before .before .if2 .left), ne-eqb _ _ (c .before .before .before .before .before .if1 .left))
 
 pub judge-value-spec : {M : Type 1} → statement M
 judge-value-spec =
@@ -64,4 +68,5 @@ judge-value-spec =
     judge-position-requires
     returns-4
     form-refusal-requires
+    code-no-requires
     returns-5)

@@ -69,6 +69,26 @@ pub fn beschaffungsanforderung(covered: &str, series: &str) -> String {
     format!("<Beschaffungsanforderung DtdBDEWNachrichtenVersion=\"1.0\">{head}{series}</Beschaffungsanforderung>")
 }
 
+/// A series of kind 3 in a document that covers `covered`; its object is empty.
+pub fn constraint_in(covered: &str, id: &str, business: &str, direction: &str, rows: &[(u32, &str)]) -> String {
+    let rows = period(covered, &intervals(rows));
+    format!(
+        "<NetworkConstraintTimeSeries><TimeSeriesIdentification v=\"{id}\"/><BusinessType v=\"{business}\"/><Direction v=\"{direction}\"/>\
+        <ConnectingArea v=\"{AREA}\" codingScheme=\"A01\"/><ResourceObject v=\"\" codingScheme=\"Z01\"/><MeasurementUnit v=\"C62\"/>\
+        {rows}</NetworkConstraintTimeSeries>"
+    )
+}
+
+pub fn constraint(id: &str, business: &str, direction: &str, rows: &[(u32, &str)]) -> String {
+    constraint_in(DAY, id, business, direction, rows)
+}
+
+/// What comes after TimePeriodCovered: perhaps a DocStatus, and the series.
+pub fn network_constraint_document(rest: &str) -> String {
+    let head = head("B15", "A18", DAY);
+    format!("<NetworkConstraintDocument DtdVersion=\"4\" DtdRelease='1'>{head}{rest}</NetworkConstraintDocument>")
+}
+
 /// Two plants, of three and two intervals; the first one alone has a Direction and an area.
 pub fn two_plants() -> String {
     let first = plant("Straße ä", "C0000000017", &[(1, "84.5"), (29, "-61.25"), (96, "999999999999.999")]);
