@@ -42,8 +42,8 @@ uint32_t lumintayag_version(void);
 
 /*
  * The document reader refuses a shorter note buffer with 10, in either shape, and the converter a shorter buffer for
- * the note that it writes. A note has at most 15 bytes in the old shape and 19 in the new; one that the document
- * reader writes fits into 16.
+ * the note that it writes. A note that the document reader writes has at most 11 bytes in the old shape and 13 in
+ * the new; one that the converter writes, of a note from elsewhere, has at most 15 and 19.
  */
 #define LUMINTAYAG_NOTE_ROOM 16
 #define LUMINTAYAG_CONVERTED_ROOM 24

@@ -69,7 +69,7 @@ def filled(room, refusal, w):
 
 def writer_case(room, new, six):
     w = shaped(new, six)
-    said = filled(room, 0, w) if len(w) <= room else filled(room, 10, b"")
+    said = "0 %d: " % len(w) + spaced((w + bytes(room))[:room])
     return ("x" if new else "w") + " %02X " % room + " ".join("%08X" % n for n in six), said
 
 

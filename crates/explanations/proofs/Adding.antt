@@ -11,7 +11,8 @@ use borrow.Rule.Slice.PartMut.{midOf, putMid}
 use Rattle.io.specs.Counts.{Counts}
 use Rattle.lists.proofs.Cases.{leb-cases}
 use Rattle.lists.proofs.Loans.{lent-tail, back-tail}
-use Rattle.lists.proofs.Stores.{sets-out, sets-more, sets-cons}
+use Rattle.lists.proofs.Stores.{sets-out, sets-more}
+use Rattle.notes.proofs.Writing.{sets-tail}
 
 -- w is put into out₀ from `at` on, as much as it has room for, and n is the place after it
 abbrev pub Adds : List ℕ → List ℕ → ℕ → ℕ → List ℕ → Type 0
@@ -43,11 +44,6 @@ adds-counts w out₀ out n p =
 -- a place past the end
 pub adds-out : (s out : List ℕ) (at : ℕ) → length out < at → Adds s out at (length out) out
 adds-out s out at h = (omega arith, sym (sets-out s out at (omega arith)))
-
-sets-tail : (at : ℕ) (l s : List ℕ) → sets l at s ≡ take at l ++ sets (drop at l) 0 s
-sets-tail zero l s = refl
-sets-tail (suc k) [] s = sets-out s [] (suc k) (omega arith) ∙ sym (sets-out s [] 0 (omega arith))
-sets-tail (suc k) (a ∷ l) s = sets-cons a l k s ∙ ap (λ (t : List ℕ). a ∷ t) (sets-tail k l s)
 
 -- n and l are what `put_text` answers and leaves where it is lent the buffer from `at` on
 pub adds-lent : (s out l : List ℕ) (at n : ℕ) → at ≤ length out → n ≡ min (length s) (length (midOf at (length out - at) out))

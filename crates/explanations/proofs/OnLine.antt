@@ -32,16 +32,16 @@ bytes-size h (c ∷ s) =
     (by-cond Short (ltb h 16) (omega (arith, bytes-size 16 s)) (omega (arith, bytes-size (digitOf c) s)))
     (omega (arith, bytes-size h s))
 
-pub on-long : (line : List ℕ) → 62 < length line → NotOneNote ≡ noteOn line
+pub on-long : (line : List ℕ) → 56 < length line → NotOneNote ≡ noteOn line
 unfolding noteOn
-on-long line h = simp (lt-ltb 62 (length line) h)
+on-long line h = simp (lt-ltb 56 (length line) h)
 
 -- t is what is printed for the bytes, and f whether it is the line
-module _ (line : List ℕ) (h : length line ≤ 62) (t : List ℕ) (e : t ≡ hexText (hexBytes 16 line)) (f : Bool) (q : f ≡ same t line) where
+module _ (line : List ℕ) (h : length line ≤ 56) (t : List ℕ) (e : t ≡ hexText (hexBytes 16 line)) (f : Bool) (q : f ≡ same t line) where
   pub on-same : f ≡ true → noteIn (hexBytes 16 line) ≡ noteOn line
   unfolding noteOn
-  on-same y = simp (le-ltb 62 (length line) h, ← e, ← q, y)
+  on-same y = simp (le-ltb 56 (length line) h, ← e, ← q, y)
 
   pub on-other : f ≡ false → NotOneNote ≡ noteOn line
   unfolding noteOn
-  on-other y = simp (le-ltb 62 (length line) h, ← e, ← q, y)
+  on-other y = simp (le-ltb 56 (length line) h, ← e, ← q, y)

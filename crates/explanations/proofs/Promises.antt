@@ -41,7 +41,7 @@ module _ (shape : Shape) (n : Note) (h : AllBelow (2 ^ 21) (numbersFor shape n))
   on-printed =
       let s = noteOf shape n in
       let b = printed-back s (note-bytes (numbersFor shape n) h) in
-      rw (le-ltb 62 (length (hexText s)) (omega (arith, hex-size s, fits-most shape n h)), b, same-self (hexText s)) (round-trip shape n h f)
+      rw (le-ltb 56 (length (hexText s)) (omega (arith, hex-size s, fits-most shape n h)), b, same-self (hexText s)) (round-trip shape n h f)
 
   pub note-explained : explanation (hexText (noteOf shape n)) ≡ explained (tellsIn shape n)
   unfolding explanation
@@ -120,7 +120,7 @@ only-notes line n e =
     (i .0, sym (same-equal (hexText b) line z) ∙ ap hexText (i .1 .bytes), i .1 .small))
     (λ z. absurd (not-taken (rw (y .1, z) at e)))
     (bool-cases (same (hexText b) line)))
-    (ltb-cases 62 (length line))
+    (ltb-cases 56 (length line))
 
 -- ---- the room that an explanation takes
 -- the length of the longest row

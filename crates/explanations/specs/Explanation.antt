@@ -91,11 +91,11 @@ explained n =
     refusalLine (n .refusal) ++
     (placeLine (n .refusal) (n .place) ++ (kindLine (n .kind) ++ (seriesPart (n .refusal) (n .series) ++ (intervalsPart (n .intervals) ++ depthLine (n .depth)))))
 
--- The note on a line, of either shape, where the line is as the program prints one: "two-digit upper-case hex, single spaces". No note has more than 21 bytes
--- (`fits-most` of notes), so no line of a note has more than 62 characters.
+-- The note on a line, of either shape, where the line is as the program prints one: "two-digit upper-case hex, single spaces". No note has more than 19 bytes
+-- (`fits-most` of notes), so no line of a note has more than 56 characters.
 unfoldable pub noteOn : List ℕ → NoteRead
 noteOn line =
-    cond (ltb 62 (length line)) NotOneNote
+    cond (ltb 56 (length line)) NotOneNote
     (cond (same (hexText (hexBytes 16 line)) line) (noteIn (hexBytes 16 line)) NotOneNote)
 
 abbrev pub meaning : NoteRead → List ℕ

@@ -195,12 +195,12 @@ fn add_note(out: &mut [u8], at: usize, n: Note) -> usize
 fn read_line(line: &[u8]) -> NoteRead
     ensures { λ r. ⌜ r ≡ noteOn (now (line .entry)) ⌝ }
 {
-    if 62 < line.len() {
+    if 56 < line.len() {
         return NoteRead::NotOneNote;
     }
-    let mut bytes = [0u8; 62];
+    let mut bytes = [0u8; 56];
     let n = put_bytes(line, &mut bytes);
-    let mut text = [0u8; 186];
+    let mut text = [0u8; 168];
     let m = put_hex(front(&bytes, n), &mut text);
     if is_same(front(&text, m), line) {
         return read_note(front(&bytes, n));

@@ -3,12 +3,10 @@
 use mathlib.Core.Path.{_≡_, refl, ap}
 use mathlib.Core.List.{List}
 use Prim.Native.Nat.{ℕ, _≤_, _<_}
-use native.Mathlib.Nat.{sub-zero}
-use native.Mathlib.Omega.{arith}
 use lib.ListN.{length}
-use borrow.Author.Tests.{lt-ltb, le-ltb, le-leb}
+use borrow.Author.Tests.{lt-ltb, le-ltb}
 use Rattle.lists.specs.Zeros.{zeros}
-use Rattle.notes.specs.Note.{noteOf, wrote, left, noteLength}
+use Rattle.notes.specs.Note.{noteOf, left}
 use Rattle.notes.specs.Reader.{noteIn}
 use Rattle.notes.specs.Converter.{inShape, converted, convertedOut}
 use Rattle.notes.specs.declared.Note.{Note}
@@ -23,9 +21,9 @@ module _ (s : List ℕ) (shape : Shape) (room : ℕ) where
 
   pub conv-neither : 24 ≤ room → noteIn s ≡ NotOneNote → (NeitherShape ≡ converted s shape room) × (zeros room ≡ convertedOut s shape room)
   unfolding converted convertedOut inShape left
-  conv-neither h e = rw (le-ltb _ _ h, e, le-leb 0 room (omega arith)) (refl, rw sub-zero)
+  conv-neither h e = rw (le-ltb _ _ h, e) (refl, refl)
 
   pub conv-turned : (n : Note) → 24 ≤ room → noteIn s ≡ Taken n
-      → (Turned (noteLength (wrote room (noteOf shape n))) ≡ converted s shape room) × (left (noteOf shape n) room ≡ convertedOut s shape room)
+      → (Turned (length (noteOf shape n)) ≡ converted s shape room) × (left (noteOf shape n) room ≡ convertedOut s shape room)
   unfolding converted convertedOut inShape
   conv-turned n h e = rw (le-ltb _ _ h, e) (refl, refl)

@@ -1,8 +1,8 @@
--- What is promised of the note, over the definitions of the contracts (`wrote`, `left`, `noteIn`, `converted`, `convertedOut`).
+-- What is promised of the note, over the definitions of the contracts (`left`, `noteIn`, `converted`, `convertedOut`).
 --     three-hundred, first-notes   the papers' examples
---     fits-fifteen, fits-most      numbers below 2^21 take at most 15 bytes in the old shape and 21 in the new, so 24 are room for every note
+--     fits-fifteen, fits-most      numbers below 2^21 take at most 15 bytes in the old shape and 19 in the new, so 24 are room for every note
 --     fits-reader                  those that the document reader writes take at most 11 and 13
---     room-enough                  what has room is written
+--     left-padded                  what has room is written whole
 --     round-trip, written-back     a note is read back, and so is what the writer left in the buffer
 --     accepts-exactly              of all lists of bytes the reader takes the notes of both shapes and nothing else
 --     refuses-rest                 and answers 11 and six zeros on anything else
@@ -14,17 +14,19 @@
 --     a-note                       there are such notes
 -- Assumes nothing.
 use mathlib.Core.Path.{_≡_, refl, sym, ap, _∙_}
-use mathlib.Core.List.{List, [], _∷_}
+use mathlib.Core.List.{List, [], _∷_, _++_}
 use Prim.Native.Nat.{ℕ, _+_, _*_, _^_, _≤_, _<_}
 use native.Mathlib.Omega.{arith}
 use mathlib.Core.Option.{Option, some, none}
 use mathlib.Core.Logic.{⊎-elim}
-use lib.ListN.{length, take, getD, length-append}
-use borrow.Author.Tests.{le-leb, eq-eqb, ne-eqb}
+use native.Mathlib.Nat.{zero-add}
+use lib.ListN.{length, take, drop, getD, length-append, length-replicate}
+use lib.Seq.{sets-eq}
+use borrow.Author.Tests.{eq-eqb, ne-eqb}
 use Rattle.lists.specs.Zeros.{zeros, padded}
-use Rattle.lists.proofs.Cases.{leb-cases, eqb-cases, zero-not-one}
-use Rattle.lists.proofs.Zeros.{take-padded}
-use Rattle.notes.specs.Note.{groupsIn, groups, flat, newMark, numbersFor, noteOf, tellsIn, wrote, left, writeRefusal, noteLength, AllBelow, IsNote}
+use Rattle.lists.proofs.Cases.{eqb-cases, zero-not-one}
+use Rattle.lists.proofs.Zeros.{drop-zeros, take-padded}
+use Rattle.notes.specs.Note.{groupsIn, groups, flat, newMark, numbersFor, noteOf, tellsIn, left, AllBelow, IsNote}
 use Rattle.notes.specs.Reader.{numbersIn, oldNote, newNote, noteAnswer, noteIn, readRefusal, sixOf}
 use Rattle.notes.specs.Converter.{inShape, converted, convertedOut}
 use Rattle.notes.specs.declared.Note.{Note}
@@ -32,10 +34,8 @@ use Rattle.notes.specs.declared.Shape.{Shape}
 use Rattle.notes.specs.declared.Shape.the-variants.{Old, New}
 use Rattle.notes.specs.declared.NoteRead.{NoteRead}
 use Rattle.notes.specs.declared.NoteRead.the-variants.{Taken, NotOneNote}
-use Rattle.notes.specs.declared.Put.the-variants.{Written}
 use Rattle.notes.specs.declared.Converted.the-variants.{Turned}
 use Rattle.notes.proofs.Groups.{last, groups-three, groups-le}
-use Rattle.notes.proofs.Writing.{not-both}
 use Rattle.notes.proofs.Numbers.{numbers-back, numbers-other, numbers-are}
 use Rattle.notes.proofs.Converting.{conv-turned}
 
@@ -61,10 +61,6 @@ flat-le (n ∷ ns) h = omega (arith, length-append (groups n) (flat ns), ap leng
 pub fits-fifteen : (n : Note) → AllBelow (2 ^ 21) (numbersFor Old n) → length (noteOf Old n) ≤ 15
 fits-fifteen n h = flat-le (numbersFor Old n) h
 
-pub fits-most : (shape : Shape) (n : Note) → AllBelow (2 ^ 21) (numbersFor shape n) → length (noteOf shape n) ≤ 21
-fits-most Old n h = let f = fits-fifteen n h in omega arith
-fits-most New n h = flat-le (numbersFor New n) h
-
 one-byte : (n : ℕ) → n < 128 → length (groups n) ≤ 1
 one-byte n h = rw (last 4 n h) (omega arith)
 
@@ -75,6 +71,12 @@ three-bytes n h = omega (arith, ap length (groups-three n h), groups-le 2 n)
 front-le : (n a b : ℕ) (ns : List ℕ) → length (groups n) ≤ a → length (flat ns) ≤ b → length (flat (n ∷ ns)) ≤ a + b
 unfolding flat
 front-le n a b ns h k = omega (arith, length-append (groups n) (flat ns))
+
+-- 100 takes one
+pub fits-most : (shape : Shape) (n : Note) → AllBelow (2 ^ 21) (numbersFor shape n) → length (noteOf shape n) ≤ 19
+unfolding AllBelow
+fits-most Old n h = let f = fits-fifteen n h in omega arith
+fits-most New n h = front-le newMark 1 18 _ (one-byte newMark (omega arith)) (flat-le _ (h .1))
 
 none-le : length (flat []) ≤ 0
 unfolding flat
@@ -97,11 +99,13 @@ module _ (n : Note) (r : n .refusal < 128) (p : n .place < 2 ^ 21) (k : n .kind 
       let f = front-le newMark 1 _ _ (one-byte newMark (omega arith)) e in
       (five-le [] 0 none-le, omega arith)
 
-pub room-enough : (shape : Shape) (n : Note) (room : ℕ) → length (noteOf shape n) ≤ room
-    → (writeRefusal (wrote room (noteOf shape n)) ≡ 0) × (noteLength (wrote room (noteOf shape n)) ≡ length (noteOf shape n))
-    × (left (noteOf shape n) room ≡ padded room (noteOf shape n))
-unfolding wrote left
-room-enough shape n room r = let e = le-leb (length (noteOf shape n)) room r in (rw e refl, rw e refl, rw e refl)
+-- what has room is in the buffer, "and the bytes after it are 0"
+pub left-padded : (w : List ℕ) (room : ℕ) → length w ≤ room → left w room ≡ padded room w
+unfolding left
+left-padded w room h =
+    let z : length (zeros room) ≡ room = length-replicate room 0 in
+    sets-eq w (zeros room) 0 (omega arith) ∙ ap (λ (k : ℕ). w ++ drop k (zeros room)) (zero-add (length w))
+    ∙ ap (λ (l : List ℕ). w ++ l) (drop-zeros (length w) room h)
 
 -- ---- reading
 -- five numbers are the list of the five, and seven that of the seven
@@ -156,17 +160,9 @@ pub round-trip : (shape : Shape) (n : Note) → AllBelow (2 ^ 21) (numbersFor sh
 round-trip Old n h f = of-five (numbersFor Old n) h refl ∙ rw (ne-eqb (n .refusal) 100 f) refl
 round-trip New n h f = of-seven (numbersFor New n) h refl ∙ rw (ne-eqb (n .refusal) 100 f) refl
 
-pub written-back : (shape : Shape) (n : Note) (room k : ℕ) → AllBelow (2 ^ 21) (numbersFor shape n) → (n .refusal ≡ newMark → ⊥)
-    → wrote room (noteOf shape n) ≡ Written k → noteIn (take k (left (noteOf shape n) room)) ≡ Taken (tellsIn shape n)
-unfolding wrote left
-written-back shape n room k h f e =
-    ⊎-elim
-    (λ y.
-    let z : Written (length (noteOf shape n)) ≡ Written k = rw (y .1) at e in
-    let q : length (noteOf shape n) ≡ k = cc in
-    rw (← q, y .1) (ap noteIn (take-padded room (noteOf shape n)) ∙ round-trip shape n h f))
-    (λ y. absurd (not-both (rw (y .1) at e)))
-    (leb-cases (length (noteOf shape n)) room)
+pub written-back : (shape : Shape) (n : Note) (room : ℕ) → AllBelow (2 ^ 21) (numbersFor shape n) → (n .refusal ≡ newMark → ⊥)
+    → length (noteOf shape n) ≤ room → noteIn (take (length (noteOf shape n)) (left (noteOf shape n) room)) ≡ Taken (tellsIn shape n)
+written-back shape n room h f r = rw (left-padded (noteOf shape n) room r, take-padded room (noteOf shape n)) (round-trip shape n h f)
 
 not-taken : {n : Note} → NotOneNote ≡ Taken n → ⊥
 not-taken e = zero-not-one (cc)
@@ -245,8 +241,7 @@ module _ (s : List ℕ) (shape : Shape) (n : Note) (i : IsNote s shape n) where
   turned to room h =
       let c = conv-turned s to room n h (taken s n shape i) in
       let f = fits-most to n (small-in s shape to n i) in
-      let e = room-enough to n room (omega arith) in
-      (sym (c .0) ∙ ap Turned (e .1), sym (c .1) ∙ e .2)
+      (sym (c .0), sym (c .1) ∙ left-padded (noteOf to n) room (omega arith))
 
   -- a note that has the shape already is written as it is
   pub own-shape : inShape shape s ≡ s

@@ -1,154 +1,135 @@
 -- The invariants of the two writing loops.
 --     Cut     the number writer: what is left of the number, stored from i on, gives what was to be stored
---     Wr      the note writer: p is written, zeros follow, and what is left is to be written after it
+--     Wr      the note writer: the numbers before i are written, and zeros follow
 -- Assumes nothing.
 use mathlib.Core.Path.{_≡_, refl, sym, ap, _∙_}
-use mathlib.Core.List.{List, [], _++_, append-assoc, append-nil}
-use Prim.Native.Nat.{ℕ, zero, suc, _+_, _-_, _/_, _%_, _^_, _≤_, _<_}
-use native.Mathlib.Nat.{zero-add, sub-zero}
+use mathlib.Core.List.{List, [], _∷_, _++_, append-assoc, append-nil}
+use mathlib.Core.Logic.{⊎-elim}
+use Prim.Native.Nat.{ℕ, zero, suc, _+_, _-_, _*_, _/_, _%_, _^_, _≤_, _<_, min}
+use native.Mathlib.Nat.{zero-add}
 use native.Mathlib.Numerals.{add-one}
 use native.Mathlib.Omega.{arith}
-use mathlib.Core.Logic.{⊎-elim}
-use lib.ListN.{length, take, drop, set, getD, length-set, length-append, length-drop, drop-of-length-le}
-use lib.Seq.{sets, sets-eq, drop-cons}
-use borrow.Author.Tests.{le-leb, lt-leb}
+use lib.ListN.{length, take, drop, set, getD, length-set, length-append, length-take, length-replicate}
+use lib.Seq.{sets, length-sets, take-suc, take-all}
 use borrow.Rule.Slice.PartMut.{midOf, putMid}
-use Rattle.lists.specs.Zeros.{zeros, padded}
-use Rattle.lists.proofs.Cases.{leb-cases, zero-not-one}
-use Rattle.lists.proofs.Zeros.{length-padded, pad-more}
+use Rattle.lists.specs.Zeros.{zeros}
+use Rattle.lists.proofs.Cases.{ltb-cases}
 use Rattle.lists.proofs.Loans.{lent-tail, back-tail}
-use Rattle.notes.specs.Note.{groupsIn, groups, flat, wrote, stored, left}
-use Rattle.notes.specs.declared.Put.{Put}
-use Rattle.notes.specs.declared.Put.the-variants.{Written, NoRoom}
-use Rattle.notes.proofs.Groups.{on, last, pos, less}
+use Rattle.lists.proofs.Stores.{sets-out, sets-more, sets-cons}
+use Rattle.notes.specs.Note.{groupsIn, groups, flat, left}
+use Rattle.notes.proofs.Groups.{on, last, less, groups-le}
 
 -- ---- the number writer's loop
 pub record Cut (b₀ : List ℕ) (n : ℕ) (b : List ℕ) (i rest : ℕ) : Type 0 where
   pub k : ℕ
+  pub few : i + k ≡ 4
   pub small : rest < 128 ^ suc k
   pub same : length b ≡ length b₀
-  pub room : i + length (groupsIn k rest) ≡ length (groups n)
+  pub long : i + length (groupsIn k rest) ≡ length (groups n)
   pub all : sets b i (groupsIn k rest) ≡ sets b₀ 0 (groups n)
 
 module _ (b₀ b : List ℕ) (n i rest : ℕ) (s : Cut b₀ n b i rest) where
-  pub cut-next : 128 ≤ rest → Cut b₀ n (set b i (128 + rest % 128)) (i + 1) (rest / 128)
-  cut-next h = go (s .k) (s .small) (s .room) (s .all)
+  pub cut-next : (l : List ℕ) → l ≡ set b i (128 + rest % 128) → 128 ≤ rest → Cut b₀ n l (i + 1) (rest / 128)
+  cut-next l q h = rw q (go (s .k) (s .few) (s .small) (s .long) (s .all))
     where
-      go : (k : ℕ) → rest < 128 ^ suc k → i + length (groupsIn k rest) ≡ length (groups n) → sets b i (groupsIn k rest) ≡ sets b₀ 0 (groups n)
+      go : (k : ℕ) → i + k ≡ 4 → rest < 128 ^ suc k → i + length (groupsIn k rest) ≡ length (groups n) → sets b i (groupsIn k rest) ≡ sets b₀ 0 (groups n)
           → Cut b₀ n (set b i (128 + rest % 128)) (i + 1) (rest / 128)
-      go zero sm ro re = absurd (omega arith)
-      go (suc k) sm ro re =
+      go zero f sm ro re = absurd (omega arith)
+      go (suc k) f sm ro re =
           record {
             k = k;
+            few = omega arith;
             small = less k rest sm;
             same = length-set b i _ ∙ s .same;
-            room = let l : length (groupsIn (suc k) rest) ≡ suc (length (groupsIn k (rest / 128))) = ap length (on k rest h) in omega arith;
+            long = let l : length (groupsIn (suc k) rest) ≡ suc (length (groupsIn k (rest / 128))) = ap length (on k rest h) in omega arith;
             all = rw add-one (sym (ap (λ (w : List ℕ). sets b i w) (on k rest h)) ∙ re);
           }
 
-  -- the next group has room
-  pub cut-inside : length (groups n) ≤ length b₀ → i < length b
-  cut-inside h = omega (arith, pos (s .k) rest)
-
   -- with the last group
-  pub cut-long : rest < 128 → length (groups n) ≡ i + 1
-  cut-long h = let l : length (groupsIn (s .k) rest) ≡ 1 = ap length (last (s .k) rest h) in omega arith
+  pub cut-long : rest < 128 → i + 1 ≡ length (groups n)
+  cut-long h = let l : length (groupsIn (s .k) rest) ≡ 1 = ap length (last (s .k) rest h) in omega (arith, s .long)
 
-  pub cut-end : rest < 128 → length (groups n) ≤ length b₀ → set b i rest ≡ groups n ++ drop (length (groups n)) b₀
-  cut-end h r =
-      sym (ap (λ (w : List ℕ). sets b i w) (last (s .k) rest h)) ∙ s .all ∙ sets-eq (groups n) b₀ 0 (rw zero-add r) ∙ rw zero-add
+  pub cut-end : (l : List ℕ) → l ≡ set b i rest → rest < 128 → l ≡ sets b₀ 0 (groups n)
+  cut-end l q h = q ∙ sym (ap (λ (w : List ℕ). sets b i w) (last (s .k) rest h)) ∙ s .all
 
 -- ---- the note writer's loop
-pub not-both : {k : ℕ} → NoRoom ≡ Written k → ⊥
-not-both e = zero-not-one (cc)
-
 pub record Wr (room : ℕ) (ns note : List ℕ) (at i : ℕ) : Type 0 where
-  pub p : List ℕ
-  pub least : i ≤ length ns
-  pub fit : at ≤ room
-  pub place : at ≡ length p
-  pub buf : note ≡ padded room p
-  pub all : p ++ flat (drop i ns) ≡ flat ns
+  pub most : i ≤ length ns
+  pub place : at ≡ length (flat (take i ns))
+  pub buf : note ≡ left (flat (take i ns)) room
+
+left-long : (w : List ℕ) (room : ℕ) → length (left w room) ≡ length (zeros room)
+unfolding left
+left-long w room = length-sets (zeros room) 0 w
 
 pub wr-start : (room : ℕ) (ns note : List ℕ) → note ≡ zeros room → Wr room ns note 0 0
-wr-start room ns note e = record { p = []; least = omega arith; fit = omega arith; place = refl; buf = e ∙ rw sub-zero; all = refl }
+unfolding left flat
+wr-start room ns note e = record { most = omega arith; place = refl; buf = e }
+
+flat-more : (ns ms : List ℕ) → flat (ns ++ ms) ≡ flat ns ++ flat ms
+unfolding flat
+flat-more [] ms = refl
+flat-more (n ∷ ns) ms = ap (λ (l : List ℕ). groups n ++ l) (flat-more ns ms) ∙ sym (append-assoc (groups n) (flat ns) (flat ms))
+
+flat-one : (n : ℕ) → flat (n ∷ []) ≡ groups n
+unfolding flat
+flat-one n = append-nil (groups n)
+
+flat-le : (ns : List ℕ) → length (flat ns) ≤ 5 * length ns
+unfolding flat
+flat-le [] = omega arith
+flat-le (n ∷ ns) = omega (arith, length-append (groups n) (flat ns), groups-le 4 n, flat-le ns)
+
+left-more : (p g : List ℕ) (room : ℕ) → sets (left p room) (length p) g ≡ left (p ++ g) room
+unfolding left
+left-more p g room = ap (λ (k : ℕ). sets (sets (zeros room) 0 p) k g) (sym (zero-add (length p))) ∙ sym (sets-more p (zeros room) 0 g)
+
+-- stores into a part from a cell on
+pub sets-tail : (at : ℕ) (l s : List ℕ) → sets l at s ≡ take at l ++ sets (drop at l) 0 s
+sets-tail zero l s = refl
+sets-tail (suc k) [] s = sets-out s [] (suc k) (omega arith) ∙ sym (sets-out s [] 0 (omega arith))
+sets-tail (suc k) (a ∷ l) s = sets-cons a l k s ∙ ap (λ (t : List ℕ). a ∷ t) (sets-tail k l s)
+
+-- stores from the first free byte on, which may be the end
+free-sets : (l g : List ℕ) (at free : ℕ) → free ≡ min at (length l) → sets l free g ≡ sets l at g
+free-sets l g at free e =
+    ⊎-elim
+    (λ y. let z : free ≡ at = omega (arith, y .0) in ap (λ (k : ℕ). sets l k g) z)
+    (λ y. sets-out g l free (omega (arith, y .0)) ∙ sym (sets-out g l at (y .0)))
+    (ltb-cases at (length l))
 
 module _ (room : ℕ) (ns note : List ℕ) (at i : ℕ) (w : Wr room ns note at i) where
   pub wr-length : length note ≡ room
-  wr-length = ap length (w .buf) ∙ length-padded room (w .p) (omega arith)
+  wr-length = ap length (w .buf) ∙ left-long (flat (take i ns)) room ∙ length-replicate {A = ℕ} room 0
 
-  -- the place is within the buffer
-  pub wr-inside : at ≤ length note
-  wr-inside = omega (arith, wr-length)
+  turn-is : i < length ns → flat (take (i + 1) ns) ≡ flat (take i ns) ++ groups (getD ns i 0)
+  turn-is h = rw add-one (ap flat (take-suc ns i 0 h) ∙ flat-more (take i ns) (getD ns i 0 ∷ []) ∙ ap (λ (l : List ℕ). flat (take i ns) ++ l) (flat-one (getD ns i 0)))
 
-  -- what is left, at a turn
-  wr-left : i < length ns → (w .p ++ groups (getD ns i 0)) ++ flat (drop (i + 1) ns) ≡ flat ns
-  unfolding flat
-  wr-left h = append-assoc (w .p) _ _ ∙ ap (λ (l : List ℕ). w .p ++ l) (rw add-one (ap flat (sym (drop-cons ns i 0 h)))) ∙ w .all
-
-  -- a turn whose groups have room
-  wr-next : i < length ns → at + length (groups (getD ns i 0)) ≤ room
-      → Wr room ns (take at note ++ (groups (getD ns i 0) ++ drop (length (groups (getD ns i 0))) (drop at note))) (at + length (groups (getD ns i 0))) (i + 1)
-  wr-next h r =
+  -- what the number writer leaves where it is lent the part that is still free
+  pub wr-next : i < length ns → (free k : ℕ) (l : List ℕ) → free ≡ min at (length note) → k ≡ length (groups (getD ns i 0))
+      → l ≡ sets (midOf free (length note - free) note) 0 (groups (getD ns i 0)) → Wr room ns (putMid free (length note - free) note l) (at + k) (i + 1)
+  wr-next h free k l ef ek el =
       let g = groups (getD ns i 0) in
+      let p = flat (take i ns) in
+      let t = turn-is h in
       record {
-        p = w .p ++ g;
-        least = omega arith;
-        fit = r;
-        place = omega (arith, length-append (w .p) g);
-        buf = ap (λ (l : List ℕ). take at l ++ (g ++ drop (length g) (drop at l))) (w .buf)
-            ∙ ap (λ (k : ℕ). take k (padded room (w .p)) ++ (g ++ drop (length g) (drop k (padded room (w .p))))) (w .place)
-            ∙ pad-more room (w .p) g (omega arith);
-        all = wr-left h;
+        most = omega arith;
+        place = ap (λ (j : ℕ). j + k) (w .place) ∙ ap (λ (j : ℕ). length p + j) ek ∙ sym (ap length t ∙ length-append p g);
+        buf = back-tail note free l
+            ∙ ap (λ (m : List ℕ). take free note ++ m) (el ∙ ap (λ (m : List ℕ). sets m 0 g) (lent-tail note free))
+            ∙ sym (sets-tail free note g)
+            ∙ free-sets note g at free ef
+            ∙ ap (λ (j : ℕ). sets note j g) (w .place)
+            ∙ ap (λ (m : List ℕ). sets m (length p) g) (w .buf)
+            ∙ left-more p g room
+            ∙ ap (λ (m : List ℕ). left m room) (sym t);
       }
 
-  -- A turn, from what the number writer answers and leaves where it is lent the part that is still free.
-  module _ (h : i < length ns) (answer : Put) (e : answer ≡ wrote (length (midOf at (length note - at) note)) (groups (getD ns i 0))) where
-    pub wr-yes : (k : ℕ) (l : List ℕ) → answer ≡ Written k → l ≡ stored (groups (getD ns i 0)) (midOf at (length note - at) note)
-        → Wr room ns (putMid at (length note - at) note l) (at + k) (i + 1)
-    unfolding wrote stored
-    wr-yes k l q el =
-        let g = groups (getD ns i 0) in
-        let d = lent-tail note at in
-        ⊎-elim
-        (λ y.
-        let z : Written (length g) ≡ Written k = rw (y .1) at (rw d at (sym e ∙ q)) in
-        let ek : length g ≡ k = cc in
-        let eb : l ≡ g ++ drop (length g) (drop at note) = rw (y .1) at (rw d at el) in
-        rw (back-tail note at l, eb, ← ek) (wr-next h (omega (arith, y .0, length-drop at note, wr-length))))
-        (λ y. absurd (not-both (rw (y .1) at (rw d at (sym e ∙ q)))))
-        (leb-cases (length g) (length (drop at note)))
+  pub wr-few : at ≤ 5 * i
+  wr-few = let f = flat-le (take i ns) in omega (arith, w .place, w .most, taken-long)
+    where
+      taken-long : length (take i ns) ≤ i
+      taken-long = simp length-take (omega arith)
 
-    -- no room for the next number: none for all of them
-    pub wr-no : answer ≡ NoRoom → room < length (flat ns)
-    unfolding wrote
-    wr-no q =
-        let g = groups (getD ns i 0) in
-        let d = lent-tail note at in
-        ⊎-elim
-        (λ y. absurd (not-both (sym (rw (y .1) at (rw d at (sym e ∙ q))))))
-        (λ y.
-        omega (arith, y .0, length-drop at note, wr-length, ap length (wr-left h), length-append (w .p ++ g) (flat (drop (i + 1) ns)), length-append (w .p) g))
-        (leb-cases (length g) (length (drop at note)))
-
-  -- after the last number
-  pub wr-end : length ns ≤ i → w .p ≡ flat ns
-  unfolding flat
-  wr-end h = sym (append-nil (w .p)) ∙ ap (λ (l : List ℕ). w .p ++ flat l) (sym (drop-of-length-le ns h)) ∙ w .all
-
-  -- the contract, where all numbers are written; room′ is the buffer's length at entry
-  pub note-yes : (room′ : ℕ) → length ns ≤ i → room ≡ room′ → (Written at ≡ wrote room′ (flat ns)) × (note ≡ left (flat ns) room′)
-  unfolding wrote left
-  note-yes room′ h e =
-      let q = wr-end h in
-      let z : at ≡ length (flat ns) = w .place ∙ ap length q in
-      let f : length (flat ns) ≤ room′ = omega arith in
-      simp (le-leb _ _ f) (ap Written z, w .buf ∙ ap (padded room) q ∙ ap (λ (k : ℕ). padded k (flat ns)) e)
-
--- the contract, where they have no room
-pub note-no : (room room′ : ℕ) (ns l : List ℕ) → room < length (flat ns) → room ≡ room′ → l ≡ zeros (length l) → length l ≡ room′
-    → (NoRoom ≡ wrote room′ (flat ns)) × (l ≡ left (flat ns) room′)
-unfolding wrote left
-note-no room room′ ns l h e z same =
-    let f : room′ < length (flat ns) = omega arith in
-    simp (lt-leb _ _ f) (refl, z ∙ ap zeros same)
+  pub wr-end : length ns ≤ i → (at ≡ length (flat ns)) × (note ≡ left (flat ns) room)
+  wr-end h = let e = take-all i ns h in (w .place ∙ ap (λ (l : List ℕ). length (flat l)) e, w .buf ∙ ap (λ (l : List ℕ). left (flat l) room) e)

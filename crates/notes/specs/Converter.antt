@@ -3,8 +3,9 @@ use Prim.Native.Nat.{ℕ}
 use mathlib.Core.List.{List, []}
 use mathlib.Core.Bool.{cond}
 use lib.Dec.{ltb}
+use lib.ListN.{length}
 use Rattle.lists.specs.Zeros.{zeros}
-use Rattle.notes.specs.Note.{noteOf, wrote, left, noteLength}
+use Rattle.notes.specs.Note.{noteOf, left}
 use Rattle.notes.specs.Reader.{noteIn}
 use Rattle.notes.specs.declared.Shape.{Shape}
 use Rattle.notes.specs.declared.NoteRead.{NoteRead}
@@ -20,13 +21,13 @@ bytesFor shape NotOneNote = []
 unfoldable pub inShape : Shape → List ℕ → List ℕ
 inShape shape s = bytesFor shape (noteIn s)
 
-abbrev pub turnedInto : ℕ → Shape → NoteRead → Converted
-turnedInto room shape (Taken n) = Turned (noteLength (wrote room (noteOf shape n)))
-turnedInto room shape NotOneNote = NeitherShape
+abbrev pub turnedInto : Shape → NoteRead → Converted
+turnedInto shape (Taken n) = Turned (length (noteOf shape n))
+turnedInto shape NotOneNote = NeitherShape
 
 -- "converting into fewer than 24 bytes is 10, then 11 for bytes that are neither"; the output has so many bytes
 unfoldable pub converted : List ℕ → Shape → ℕ → Converted
-converted s shape room = cond (ltb room 24) OutShort (turnedInto room shape (noteIn s))
+converted s shape room = cond (ltb room 24) OutShort (turnedInto shape (noteIn s))
 
 -- "output is then all 0", and so are the bytes past the note
 unfoldable pub convertedOut : List ℕ → Shape → ℕ → List ℕ

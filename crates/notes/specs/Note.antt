@@ -3,14 +3,12 @@ use Prim.Native.Nat.{ℕ, zero, suc, _+_, _/_, _%_, _^_, _<_}
 use mathlib.Core.Path.{_≡_}
 use mathlib.Core.List.{List, [], _∷_, _++_}
 use mathlib.Core.Bool.{cond}
-use lib.ListN.{length, drop}
-use lib.Dec.{ltb, leb}
-use Rattle.lists.specs.Zeros.{zeros, padded}
+use lib.Seq.{sets}
+use lib.Dec.{ltb}
+use Rattle.lists.specs.Zeros.{zeros}
 use Rattle.notes.specs.declared.Note.{Note}
 use Rattle.notes.specs.declared.Shape.{Shape}
 use Rattle.notes.specs.declared.Shape.the-variants.{Old, New}
-use Rattle.notes.specs.declared.Put.{Put}
-use Rattle.notes.specs.declared.Put.the-variants.{Written, NoRoom}
 
 -- "Each number is cut in groups of seven bits, lowest first, the top bit set on all but the last, in the fewest groups":
 -- at most k + 1 of them
@@ -45,26 +43,10 @@ abbrev pub tellsIn : Shape → Note → Note
 tellsIn Old n = record { refusal = n .refusal; place = n .place; kind = n .kind; series = n .series; intervals = n .intervals; depth = 0 }
 tellsIn New n = n
 
--- the answer where w is to be written and there is room for so many bytes
-unfoldable pub wrote : ℕ → List ℕ → Put
-wrote room w = cond (leb (length w) room) (Written (length w)) NoRoom
-
--- "written into the part of the buffer that is still free": w from its first byte on, where it has room
-unfoldable pub stored : List ℕ → List ℕ → List ℕ
-stored w free = cond (leb (length w) (length free)) (w ++ drop (length w) free) free
-
--- "and the bytes after it are 0": the whole buffer that the note writer leaves
+-- "each number of the note is written into the part of the buffer that is still free, and the bytes after it are 0": what the note writer leaves of a buffer of `room` bytes, w from
+-- the first of them on, as far as there are bytes
 unfoldable pub left : List ℕ → ℕ → List ℕ
-left w room = cond (leb (length w) room) (padded room w) (zeros room)
-
--- The paper's number and values for each answer of the note writer: refusal 10 and "the note's length (0 on refusal 10)"
-abbrev pub writeRefusal : Put → ℕ
-writeRefusal (Written k) = 0
-writeRefusal NoRoom = 10
-
-abbrev pub noteLength : Put → ℕ
-noteLength (Written k) = k
-noteLength NoRoom = 0
+left w room = sets (zeros room) 0 w
 
 -- each number is below m
 unfoldable pub AllBelow : ℕ → List ℕ → Type 0

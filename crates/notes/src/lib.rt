@@ -1,7 +1,9 @@
 // The note, in either shape: numbers in groups of seven bits, and zeros after them.
 ghost use mathlib.Core.Path.{_≡_};
-ghost use lib.ListN.{length};
-ghost use Rattle.notes.specs.Note.{groups, flat, noteOf, wrote, stored, left};
+ghost use Prim.Native.Nat.{_≤_, min};
+ghost use lib.ListN.{length, set};
+ghost use lib.Seq.{sets};
+ghost use Rattle.notes.specs.Note.{groups, flat, noteOf, left};
 ghost use Rattle.notes.specs.Reader.{firstNumber, numbersIn, readAs, oldNote, newNote, noteIn};
 ghost use Rattle.notes.specs.Converter.{converted, convertedOut};
 use lists::clear_bytes;
@@ -25,78 +27,63 @@ pub enum Shape {
 // "A new note begins with the number 100": no refusal has this number, so the shapes are told apart by their first number.
 const MARK: u32 = 100;
 
-// Bytes that were written, with their number, or had no room.
-pub enum Put {
-    Written(usize),
-    NoRoom,
+// Sets the byte at i; past the end there is none.
+fn set_byte(t: &mut [u8], i: usize, b: u8)
+    ensures { λ _. ⌜ now (t .exit) ≡ set (now (t .entry)) i b ⌝ }
+{
+    if i < t.len() {
+        t[i] = b;
+    }
 }
 
-// How many groups n has.
-fn count_groups(n: u32) -> usize
-    ensures { λ r. ⌜ r ≡ length (groups n) ⌝ }
+// Writes n from the first free byte on, as far as there are bytes, and answers how many groups it has.
+fn put_number(free: &mut [u8], n: u32) -> usize
+    ensures answer { λ r. ⌜ r ≡ length (groups n) ⌝ }
+    ensures buffer { λ _. ⌜ now (free .exit) ≡ sets (now (free .entry)) 0 (groups n) ⌝ }
 {
-    if n < 128 {
-        return 1;
-    }
-    if n < 16384 {
-        return 2;
-    }
-    if n < 2097152 {
-        return 3;
-    }
-    if n < 268435456 {
-        return 4;
-    }
-    5
-}
-
-// Writes n from the first free byte on, or leaves the free bytes as they are where they are too few.
-fn put_number(free: &mut [u8], n: u32) -> Put
-    ensures answer { λ r. ⌜ r ≡ wrote (length (now (free .entry))) (groups n) ⌝ }
-    ensures buffer { λ _. ⌜ now (free .exit) ≡ stored (groups n) (now (free .entry)) ⌝ }
-{
-    let need = count_groups(n);
-    if free.len() < need {
-        return Put::NoRoom;
-    }
     let mut i: usize = 0;
     let mut rest = n;
     while 128 <= rest {
-        free[i] = (128 + rest % 128) as u8;
+        set_byte(free, i, (128 + rest % 128) as u8);
         rest = rest / 128;
         i += 1;
     }
-    free[i] = rest as u8;
-    let end = i + 1;
-    Put::Written(end)
+    set_byte(free, i, rest as u8);
+    i + 1
 }
 
-// Writes the numbers one after the other, and zeros after them; all bytes are 0 where they have no room.
-fn write_numbers(note: &mut [u8], ns: &[u32]) -> Put
-    ensures answer { λ r. ⌜ r ≡ wrote (length (now (note .entry))) (flat (now (ns .entry))) ⌝ }
+// The first free byte, or the end where there is none.
+fn free_from(at: usize, len: usize) -> usize
+    ensures { λ r. ⌜ r ≡ min at len ⌝ }
+{
+    if at < len {
+        return at;
+    }
+    len
+}
+
+// Writes the numbers one after the other, as far as there are bytes, and zeros after them; answers how many bytes they have.
+fn write_numbers(note: &mut [u8], ns: &[u32]) -> usize
+    requires { ⌜ length (now ns) ≤ 7 ⌝ }
+    ensures answer { λ r. ⌜ r ≡ length (flat (now (ns .entry))) ⌝ }
     ensures buffer { λ _. ⌜ now (note .exit) ≡ left (flat (now (ns .entry))) (length (now (note .entry))) ⌝ }
 {
     clear_bytes(note);
     let mut at: usize = 0;
     let mut i: usize = 0;
     while i < ns.len() {
-        let number = ns[i];
-        let Put::Written(k) = put_number(&mut note[at..], number) else {
-            clear_bytes(note);
-            return Put::NoRoom;
-        };
-        at += k;
+        let free = free_from(at, note.len());
+        at += put_number(&mut note[free..], ns[i]);
         i += 1;
     }
-    Put::Written(at)
+    at
 }
 
-// "Each number of the note is written into the part of the buffer that is still free, and the bytes after it are 0";
-// all bytes are 0 where the numbers of the shape have no room.
-// Ruled out: a number in more groups than it needs; bytes of an older note left after the new one; a part of the
-// numbers where not all have room; a length that counts the zeros; the depth in an old note, or none in a new one.
-pub fn write_note(note: &mut [u8], shape: Shape, n: Note) -> Put
-    ensures answer { λ r. ⌜ r ≡ wrote (length (now (note .entry))) (noteOf shape n) ⌝ }
+// "Each number of the note is written into the part of the buffer that is still free, and the bytes after it are 0"; the note's length is answered. What a buffer that is too short has
+// no byte for is not written: neither the document reader nor the converter lends such a one.
+// Ruled out: a number in more groups than it needs; bytes of an older note left after the new one; a length that counts the zeros; the depth in an old note, or none in a new one.
+pub fn write_note(note: &mut [u8], shape: Shape, n: Note) -> usize
+    ensures answer { λ r. ⌜ r ≡ length (noteOf shape n) ⌝ }
     ensures buffer { λ _. ⌜ now (note .exit) ≡ left (noteOf shape n) (length (now (note .entry))) ⌝ }
 {
     match shape {
@@ -270,8 +257,6 @@ pub fn convert_note(s: &[u8], shape: Shape, out: &mut [u8]) -> Converted
         clear_bytes(out);
         return Converted::NeitherShape;
     };
-    match write_note(out, shape, n) {
-        Put::Written(k) => Converted::Turned(k),
-        Put::NoRoom => Converted::Turned(0),
-    }
+    let len = write_note(out, shape, n);
+    Converted::Turned(len)
 }

@@ -1,16 +1,14 @@
 // Runs the vectors of the note. A line of standard input is a case:
 //   r HEX         the note reader is handed the bytes; printed: the refusal's number and the six numbers, the depth last
 //   w HEX, x HEX  the first byte is how many bytes the note buffer has (at most 48), and the next twenty-four are the six numbers, four bytes
-//                 each, highest first; the note is written in the old shape (w) or in the new one (x); printed: the refusal's number, the note's length,
-//                 and all bytes of the buffer
+//                 each, highest first; the note is written in the old shape (w) or in the new one (x); printed: 0, the note's length, and all bytes of the buffer
 //   o HEX, n HEX  the first byte is how many bytes the output has (at most 48), and those after it are converted into the old shape (o) or the new one (n);
-//                 printed as for the writer
+//                 printed: the refusal's number, the note's length, and all bytes of the output
 // Any other line is printed as it is.
 ghost use Prim.Native.Nat.{_<_};
 use notes::Converted;
 use notes::Note;
 use notes::NoteRead;
-use notes::Put;
 use notes::Shape;
 
 fn print_numbers(refusal: u64, n: Note) {
@@ -76,10 +74,8 @@ fn show_bytes(refusal: u64, len: usize, out: &[u8]) {
 }
 
 fn show_write(note: &mut [u8], shape: Shape, n: Note) {
-    match notes::write_note(note, shape, n) {
-        Put::Written(k) => show_bytes(0, k, note),
-        Put::NoRoom => show_bytes(10, 0, note),
-    }
+    let len = notes::write_note(note, shape, n);
+    show_bytes(0, len, note);
 }
 
 fn run_write(s: &[u8], shape: Shape) {

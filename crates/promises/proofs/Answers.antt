@@ -5,16 +5,14 @@ use mathlib.Core.List.{List}
 use mathlib.Core.Logic.{⊎-elim}
 use native.Mathlib.Omega.{arith}
 use lib.ListN.{length, take}
-use borrow.Author.Tests.{le-leb}
 use Rattle.lists.specs.Zeros.{zeros, padded}
 use Rattle.lists.proofs.Cases.{ltb-cases}
-use Rattle.lists.proofs.Zeros.{take-padded}
 use Rattle.notes.specs.declared.Note.{Note}
-use Rattle.notes.specs.Note.{groupsIn, flat, newMark, numbersFor, noteOf, tellsIn, wrote, left, noteLength, AllBelow}
+use Rattle.notes.specs.Note.{groupsIn, flat, numbersFor, noteOf, tellsIn, AllBelow}
 use Rattle.notes.specs.Reader.{noteIn}
 use Rattle.notes.specs.declared.NoteRead.the-variants.{Taken}
 use Rattle.notes.specs.declared.Shape.the-variants.{Old, New}
-use Rattle.notes.proofs.Promises.{fits-reader, room-enough, round-trip}
+use Rattle.notes.proofs.Promises.{fits-reader, left-padded, written-back}
 use Rattle.structure.specs.Depth.{heightIn, depthOf}
 use Rattle.guideline.specs.Rows.{rowsOf}
 use Rattle.states.specs.Moves.{begun}
@@ -23,7 +21,7 @@ use Rattle.reader.specs.Reading.{Out, blank, refusedAt, readSheet}
 use Rattle.reader.specs.Answer.{Outcome, noteFor, answerOf, told, noted, unnoted, readOf}
 use Rattle.reader.proofs.Sheets.{read-unnoted, read-noted}
 use Rattle.promises.specs.Rows.{ZeroPast, InRoom, Sized}
-use Rattle.promises.specs.Answers.{noteTold, countIn, atOnce}
+use Rattle.promises.specs.Answers.{noteTold, countIn, longest, atOnce}
 use Rattle.guideline.specs.Kinds.{seriesElement}
 use Rattle.promises.specs.Items.{before, starts, kindIn, intervalElement, itemsIn, PlaceOf, startTags, endTags, openBefore}
 use Rattle.promises.proofs.Places.{sheet-here}
@@ -31,18 +29,11 @@ use Rattle.promises.proofs.Cells.{blank-past, blank-sized}
 use Rattle.promises.proofs.Counted.{first-told, sheet-told}
 use Rattle.promises.proofs.Readings.{sheet-room, sheet-fine, sheet-cleared, sheet-long}
 
--- a note that has room, in a buffer of nb bytes
-module _ (shape : Shape) (n : Note) (nb : ℕ) (h : AllBelow (2 ^ 21) (numbersFor shape n)) (f : n .refusal ≡ newMark → ⊥) (r : length (noteOf shape n) ≤ nb) where
-  pub note-back : noteIn (take (noteLength (wrote nb (noteOf shape n))) (left (noteOf shape n) nb)) ≡ Taken (tellsIn shape n)
-  note-back =
-      let e = room-enough shape n nb r in
-      rw (e .1, e .2, take-padded nb (noteOf shape n)) (round-trip shape n h f)
-
 -- refusal 1, before any item
-first-note : (shape : Shape) (nb : ℕ) → 16 ≤ nb → told shape nb (refusedAt 1 0 begun) ≡ atOnce 1 (countIn shape)
-unfolding told answerOf noteFor refusedAt begun wrote flat groupsIn depthOf heightIn rowsOf
-first-note Old nb h = rw (le-leb 5 nb (omega arith)) refl
-first-note New nb h = rw (le-leb 7 nb (omega arith)) refl
+first-note : (shape : Shape) → told shape (refusedAt 1 0 begun) ≡ atOnce 1 (countIn shape)
+unfolding told answerOf noteFor refusedAt begun flat groupsIn depthOf heightIn rowsOf
+first-note Old = refl
+first-note New = refl
 
 module _ (doc : List ℕ) (ns np na : ℕ) (shape : Shape) (nb : ℕ) where
   abbrev sheet : Out
@@ -71,7 +62,7 @@ module _ (doc : List ℕ) (ns np na : ℕ) (shape : Shape) (nb : ℕ) where
 
   pub long-is : 16 ≤ nb → 1048576 < length doc → outcome .answer ≡ atOnce 1 (countIn shape)
   unfolding noted
-  long-is h l = rw (← read-noted doc ns np na shape nb h, sheet-long doc ns np na l) (first-note shape nb h)
+  long-is h l = rw (← read-noted doc ns np na shape nb h, sheet-long doc ns np na l) (first-note shape)
 
   pub long-only : outcome .answer .refusal ≡ 1 → 1048576 < length doc
   unfolding noted unnoted told answerOf refusedAt
@@ -184,15 +175,13 @@ module _ (doc : List ℕ) (ns np na : ℕ) (shape : Shape) (nb : ℕ) where
   all-below Old = let z = small in (omega arith, (omega arith, (omega arith, (omega arith, (omega arith, tt)))))
   all-below New = let z = small in (omega arith, (omega arith, (omega arith, (omega arith, (omega arith, (omega arith, (omega arith, tt)))))))
 
-  short : (s : Shape) → length (noteOf s found) ≤ 16
-  short s =
-      let z = small in
-      let f = fits-reader found (omega arith) (z .places) (omega arith) (z .series) (z .intervals) (omega arith) in
-      in-shape s (f .0) (f .1)
-    where
-      in-shape : (s : Shape) → length (noteOf Old found) ≤ 11 → length (noteOf New found) ≤ 13 → length (noteOf s found) ≤ 16
-      in-shape Old a b = omega arith
-      in-shape New a b = omega arith
+  short : (s : Shape) → length (noteOf s found) ≤ longest s
+  short Old = let z = small in fits-reader found (omega arith) (z .places) (omega arith) (z .series) (z .intervals) (omega arith) .0
+  short New = let z = small in fits-reader found (omega arith) (z .places) (omega arith) (z .series) (z .intervals) (omega arith) .1
+
+  longest-fits : (s : Shape) → longest s ≤ 16
+  longest-fits Old = omega arith
+  longest-fits New = omega arith
 
   -- start tags less end tags
   open-is : sheet .found .depth ≡ openBefore doc (sheet .found .place)
@@ -201,15 +190,16 @@ module _ (doc : List ℕ) (ns np na : ℕ) (shape : Shape) (nb : ℕ) where
 
   pub note-told : 16 ≤ nb
       → (outcome .answer .note ≡ length (noteOf shape (noteTold (outcome .answer) (openBefore doc (outcome .answer .place)))))
-      × (outcome .answer .note ≤ 16)
+      × (outcome .answer .note ≤ longest shape)
       × (outcome .note ≡ padded nb (noteOf shape (noteTold (outcome .answer) (openBefore doc (outcome .answer .place)))))
       × (noteIn (take (outcome .answer .note) (outcome .note)) ≡ Taken (tellsIn shape (noteTold (outcome .answer) (openBefore doc (outcome .answer .place)))))
   unfolding noted told answerOf noteFor
   note-told h =
       let l = short shape in
-      let e = room-enough shape found nb (omega arith) in
-      let b = note-back shape found nb (all-below shape) (λ q. omega (arith, q, small .refusals)) (omega arith) in
-      rw (← read-noted doc ns np na shape nb h, ← open-is) (e .1, rw (e .1) l, e .2, b)
+      let w = longest-fits shape in
+      let r : length (noteOf shape found) ≤ nb = omega arith in
+      let b = written-back shape found nb (all-below shape) (λ q. omega (arith, q, small .refusals)) r in
+      rw (← read-noted doc ns np na shape nb h, ← open-is) (refl, l, left-padded (noteOf shape found) nb r, b)
 
   pub open-told : (endTags (before (outcome .answer .place) (itemsIn doc)) ≤ startTags (before (outcome .answer .place) (itemsIn doc)))
       × (outcome .answer .refusal ≡ 0 → openBefore doc (outcome .answer .place) ≡ 0)

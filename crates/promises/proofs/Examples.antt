@@ -40,7 +40,7 @@ use Rattle.guideline.specs.Rows.{beschaffungsanforderung, kostenblatt, networkC
 use Rattle.states.specs.Attributes.{valueOf, schemeRefusal, least, alsoScheme, there, agree, asksV, asksScheme, demandsAt, meets, dtdFits, noOthers, attributesFit, valueFixed, dtdFixed, judgeTag}
 use Rattle.states.specs.Constraints.{noneSeen, withdrawing, changing, unchanging, directedTo, typed, directed, noticed, against, lacking}
 use Rattle.states.specs.Moves.{oneMore, oneSeries, oneInterval, oneOriginal, lastPos, covering, closedAt, lackRefusal, endRefusal, afterEndAt as tagEnded, afterEnd, begun, heldOf, cutShort, tooMany, noRoom, halfOriginals, againstOthers, besideOthers, valuesJudged, judgedAt, startJudged, atRow, kept, entered, entryOf, startedBy, startedAt, started, countRefusal, moved, rootKind, kindTold, step}
-use Rattle.notes.specs.Note.{groupsIn, flat, wrote, left}
+use Rattle.notes.specs.Note.{groupsIn, flat, left}
 use Rattle.notes.specs.declared.Shape.the-variants.{Old}
 use Rattle.reader.specs.Items.{itemsAfter, itemsFrom}
 use Rattle.series.specs.Row.{withView, view}
@@ -84,7 +84,7 @@ unfolding byte run same begins walk seqLen control single charAt saidBy saidAt s
     collapsed formOf schemeOf roleOf noDemands messageAlone versionAndRelease noKind kindOne kindTwo kindThree kindAt fixedOne fixedTwo fixedThree fixedFor withinMost takesAnother kindOf hasEnough beschaffungsanforderung kostenblatt networkConstraintDocument rowsOf valueOf schemeRefusal least
     alsoScheme there agree asksV asksScheme demandsAt meets dtdFits noOthers attributesFit valueFixed dtdFixed judgeTag noneSeen withdrawing changing unchanging directedTo typed directed noticed against lacking oneMore oneSeries oneInterval oneOriginal lastPos covering closedAt
     lackRefusal endRefusal tagEnded afterEnd begun heldOf cutShort tooMany noRoom halfOriginals againstOthers besideOthers valuesJudged judgedAt startJudged atRow kept entered entryOf
-    startedBy startedAt started countRefusal moved rootKind kindTold step groupsIn flat wrote left itemsAfter itemsFrom quoted
+    startedBy startedAt started countRefusal moved rootKind kindTold step groupsIn flat left itemsAfter itemsFrom quoted
     withView view thousandthsOf used usedIn usedWith spanOf broughtBy fieldAfter seriesWith positionsWith
     amountsWith seriesAfter positionsAfter amountsAfter usedBefore acceptedAt blank roomOf refusedAt
     depthOf heightIn endedAt withoutUsed stepOf tablesAfter readItems roomIn itemsRead readAfter readInto orBlank readSheet noteFor answerOf told noted readOf

@@ -32,7 +32,7 @@ use Rattle.contents.specs.Spelled.{Spells, SpellAlike}
 use Rattle.contents.specs.Legal.{Legal, HasRoom}
 use Rattle.contents.specs.Shown.{Tells, SameButPlaces}
 use Rattle.contents.proofs.Theorems.{accepted-legal, legal-accepted, one-content, nothing-but-places}
-use Rattle.promises.specs.Answers.{noteTold, countIn, atOnce}
+use Rattle.promises.specs.Answers.{noteTold, countIn, longest, atOnce}
 use Rattle.promises.specs.Rows.{ZeroPast, InRoom, Sized}
 use Rattle.guideline.specs.Kinds.{seriesElement}
 use Rattle.promises.specs.Items.{before, starts, kindIn, intervalElement, itemsIn, PlaceOf, startTags, endTags, openBefore}
@@ -108,10 +108,11 @@ module _ (doc : List ℕ) (ns np na : ℕ) (shape : Shape) (nb : ℕ) where
   counts-in-document = counts-within doc ns np na shape nb
 
   -- "The note is five numbers: refusal, place, kind, series, intervals."; "A new note begins with the number 100, then the old five, then the count of elements open
-  -- before the faulty item": start tags less end tags among the items before the place; it is in the buffer, "and the bytes after it are 0"; read back, it gives its numbers
+  -- before the faulty item": start tags less end tags among the items before the place; it is in the buffer, "and the bytes after it are 0"; read back, it gives its numbers.
+  -- "Neither shape, as the document reader writes it, is so long": over 16 bytes
   pub note-of-answer : 16 ≤ nb
       → (outcome .answer .note ≡ length (noteOf shape (noteTold (outcome .answer) (openBefore doc (outcome .answer .place)))))
-      × (outcome .answer .note ≤ 16)
+      × (outcome .answer .note ≤ longest shape)
       × (outcome .note ≡ padded nb (noteOf shape (noteTold (outcome .answer) (openBefore doc (outcome .answer .place)))))
       × (noteIn (take (outcome .answer .note) (outcome .note)) ≡ Taken (tellsIn shape (noteTold (outcome .answer) (openBefore doc (outcome .answer .place)))))
   note-of-answer = note-told doc ns np na shape nb

@@ -14,6 +14,11 @@ abbrev pub countIn : Shape → ℕ
 countIn Old = 5
 countIn New = 7
 
+-- how many bytes a note of this shape has at most, as the document reader writes it
+abbrev pub longest : Shape → ℕ
+longest Old = 11
+longest New = 13
+
 -- a refusal at 0 with nothing counted, and the note's length
 abbrev pub atOnce : ℕ → ℕ → Answer
 atOnce refusal note = record { refusal = refusal; place = 0; kind = 0; series = 0; intervals = 0; quarters = 0; note = note }

@@ -65,7 +65,7 @@ module _ (doc : List ℕ) (ns np na : ℕ) (shape : Shape) (nb : ℕ) where
     unfolding unnoted
     read-ten h ea eu en = rw (ea, eu, en) (read-unnoted h)
 
-    pub read-told : 16 ≤ nb → {o : Out} → o ≡ readSheet doc ns np na → a ≡ told shape nb (o .found) → n ≡ left (noteOf shape (noteFor (o .found))) nb
+    pub read-told : 16 ≤ nb → {o : Out} → o ≡ readSheet doc ns np na → a ≡ told shape (o .found) → n ≡ left (noteOf shape (noteFor (o .found))) nb
         → record { answer = a; tables = o .tables; note = n } ≡ readOf doc ns np na shape nb
     unfolding noted
     read-told h e ea en = rw (ea, en, e) (read-noted h)

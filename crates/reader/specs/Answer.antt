@@ -7,7 +7,7 @@ use lib.Dec.{ltb}
 use lib.IntN.{ℤ}
 use lib.ListN.{length}
 use Rattle.lists.specs.Zeros.{zeros}
-use Rattle.notes.specs.Note.{noteOf, wrote, left, noteLength}
+use Rattle.notes.specs.Note.{noteOf, left}
 use Rattle.notes.specs.declared.Note.{Note}
 use Rattle.notes.specs.declared.Shape.{Shape}
 use Rattle.states.specs.Moves.{begun}
@@ -30,14 +30,15 @@ pub record Outcome : Type 0 where
   pub tables : Tables
   pub note : List ℕ
 
--- the answer to what was found, its note being written in this shape into a buffer of nb bytes
-unfoldable pub told : Shape → ℕ → Found → Answer
-told shape nb f = answerOf f (noteLength (wrote nb (noteOf shape (noteFor f))))
+-- the answer to what was found, its note being written in this shape
+unfoldable pub told : Shape → Found → Answer
+told shape f = answerOf f (length (noteOf shape (noteFor f)))
 
+-- in a buffer of nb bytes
 unfoldable pub noted : Shape → ℕ → Out → Outcome
 noted shape nb o =
     record {
-      answer = told shape nb (o .found);
+      answer = told shape (o .found);
       tables = o .tables;
       note = left (noteOf shape (noteFor (o .found))) nb;
     }

@@ -10,7 +10,6 @@ use items::item_len;
 use items::span_of;
 use lists::clear_bytes;
 use notes::Note;
-use notes::Put;
 use notes::Shape;
 use notes::write_note;
 use prolog::Begin;
@@ -234,7 +233,7 @@ fn read_sheet(doc: &[u8], series: &mut [u32], positions: &mut [u32], amounts: &m
 
 // Writes the note of what was found.
 fn tell(shape: Shape, note: &mut [u8], f: Found) -> Answer
-    ensures answer { λ r. ⌜ r ≡ told shape (length (now (note .entry))) f ⌝ }
+    ensures answer { λ r. ⌜ r ≡ told shape f ⌝ }
     ensures note { λ _. ⌜ now (note .exit) ≡ left (noteOf shape (noteFor f)) (length (now (note .entry))) ⌝ }
 {
     let n = Note {
@@ -245,10 +244,7 @@ fn tell(shape: Shape, note: &mut [u8], f: Found) -> Answer
         intervals: f.intervals,
         depth: f.depth,
     };
-    let len = match write_note(note, shape, n) {
-        Put::Written(k) => k,
-        Put::NoRoom => 0,
-    };
+    let len = write_note(note, shape, n);
     Answer {
         refusal: f.refusal,
         place: f.place,

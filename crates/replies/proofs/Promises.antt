@@ -10,9 +10,9 @@ use mathlib.Core.Logic.{⊎-elim}
 use Prim.Native.Nat.{ℕ, _+_, _≤_, _<_}
 use native.Mathlib.Omega.{arith}
 use lib.ListN.{length, take, drop, length-append, length-take, length-replicate}
-use lib.Seq.{sets-eq, take-at}
-use Rattle.lists.proofs.Cases.{leb-cases, ltb-cases}
-use Rattle.lists.proofs.Zeros.{length-padded}
+use lib.Seq.{length-sets, sets-eq, take-at}
+use Rattle.lists.specs.Zeros.{zeros}
+use Rattle.lists.proofs.Cases.{ltb-cases}
 use Rattle.slices.specs.Same.{same, begins}
 use Rattle.slices.specs.Text.{text}
 use Rattle.elements.specs.Names.{elementNo, numberIn, names}
@@ -21,7 +21,7 @@ use Rattle.structure.specs.Depth.{heightIn, depthOf}
 use Rattle.guideline.specs.Rows.{kostenblatt, rowsOf}
 use Rattle.prolog.specs.Prolog.{markLen, beginAfter, begin}
 use Rattle.states.specs.Moves.{begun}
-use Rattle.notes.specs.Note.{groupsIn, flat, noteOf, wrote, left}
+use Rattle.notes.specs.Note.{groupsIn, flat, noteOf, left}
 use Rattle.notes.specs.declared.Shape.the-variants.{Old}
 use Rattle.series.specs.Row.{cellsOf}
 use Rattle.reader.specs.Items.{itemsAfter, itemsFrom}
@@ -34,7 +34,7 @@ use Rattle.replies.proofs.Replies.{reply-long, reply-note}
 
 -- "Empty input prints exactly `03 00 00 00 00`."
 pub empty-reply : replyTo [] ≡ lineFor (text "03 00 00 00 00")
-unfolding replyTo lineFor noteWritten hexText glyphOf readOf noted told answerOf noteFor groupsIn flat wrote left readSheet orBlank blank readInto readAfter itemsRead readItems endedAt acceptedAt refusedAt depthOf heightIn itemsFrom itemsAfter begin beginAfter markLen begins same begun overOf closesDocument endOf endAt endsIn nameOf parentOf required rowsOf kostenblatt elementNo numberIn names
+unfolding replyTo lineFor noteWritten hexText glyphOf readOf noted told answerOf noteFor groupsIn flat left readSheet orBlank blank readInto readAfter itemsRead readItems endedAt acceptedAt refusedAt depthOf heightIn itemsFrom itemsAfter begin beginAfter markLen begins same begun overOf closesDocument endOf endAt endsIn nameOf parentOf required rowsOf kostenblatt elementNo numberIn names
 empty-reply = refl
 
 -- "for longer input it prints `too long` and one newline"
@@ -43,15 +43,14 @@ long-reply = reply-long
 
 left-size : (w : List ℕ) → length (left w 16) ≡ 16
 unfolding left
-left-size w =
-    ⊎-elim (λ y. simp (y .1) (length-padded 16 w (y .0))) (λ y. simp (y .1) (length-replicate {A = ℕ} 16 0)) (leb-cases (length w) 16)
+left-size w = length-sets (zeros 16) 0 w ∙ length-replicate {A = ℕ} 16 0
 
 note-size : (input : List ℕ) (ns np na : ℕ) → length (noteWritten (readOf input ns np na Old 16)) ≤ 16
 unfolding noteWritten readOf noted
 note-size input ns np na =
     let f = readSheet input ns np na .found in
     let w = noteOf Old (noteFor f) in
-    omega (arith, length-take (told Old 16 f .note) (left w 16), left-size w)
+    omega (arith, length-take (told Old f .note) (left w 16), left-size w)
 
 line-size : (w : List ℕ) → length w ≤ 47 → length (lineFor w) ≤ 48
 unfolding lineFor

@@ -56,14 +56,14 @@ returns-2 c =
     let a = c .before .before .before .before .before .before .before .before .before .before .before .before .before .before .before .before .before .args in
     let line = a .line .now in
     let h = c .before .before .before .before .before .before .before .before .before .before .before .before .before .before .before .if1 .left in
-    let z : length (zeros 62) ≡ 62 = refl in
-    let y : length (zeros 186) ≡ 186 = refl in
+    let z : length (zeros 56) ≡ 56 = refl in
+    let y : length (zeros 168) ≡ 168 = refl in
     let pb = c .before .before .before .before .before .before .before .before .before .before .before .before .before .put-bytes .ensures in
     let ph = c .before .before .before .before .before .before .before .before .put-hex .ensures in
-    let eb = whole (hexBytes 16 line) (zeros 62) _ _ _ (omega (arith, bytes-size 16 line)) (pb .0) (pb .1 .0) (c .before .before .before .before .before .before .before .before .before .before .front .ensures .0) in
+    let eb = whole (hexBytes 16 line) (zeros 56) _ _ _ (omega (arith, bytes-size 16 line)) (pb .0) (pb .1 .0) (c .before .before .before .before .before .before .before .before .before .before .front .ensures .0) in
     let b = c .before .before .before .before .before .before .before .before .before .before .front .result .now in
-    let et = whole (hexText b) (zeros 186) _ _ _ (omega (arith, hex-size b, ap length eb, bytes-size 16 line)) (ph .0) (ph .1 .0) (c .before .before .before .before .before .front2 .ensures .0) in
-    let ec = whole (hexBytes 16 line) (zeros 62) _ _ _ (omega (arith, bytes-size 16 line)) (pb .0) (pb .1 .0) (c .before .front3 .ensures .0) in
+    let et = whole (hexText b) (zeros 168) _ _ _ (omega (arith, hex-size b, ap length eb, bytes-size 16 line)) (ph .0) (ph .1 .0) (c .before .before .before .before .before .front2 .ensures .0) in
+    let ec = whole (hexBytes 16 line) (zeros 56) _ _ _ (omega (arith, bytes-size 16 line)) (pb .0) (pb .1 .0) (c .before .front3 .ensures .0) in
     c .read-note .ensures ∙ ap noteIn ec ∙ on-same line h _ (et ∙ ap hexText eb) _ (c .before .before .before .before .is-same .ensures) (c .before .before .before .if2 .taken)
 
 returns-3 : tie.Need-returns-3
@@ -71,13 +71,13 @@ returns-3 c =
     let a = c .before .before .before .before .before .before .before .before .before .before .before .before .before .before .args in
     let line = a .line .now in
     let h = c .before .before .before .before .before .before .before .before .before .before .before .before .if1 .left in
-    let z : length (zeros 62) ≡ 62 = refl in
-    let y : length (zeros 186) ≡ 186 = refl in
+    let z : length (zeros 56) ≡ 56 = refl in
+    let y : length (zeros 168) ≡ 168 = refl in
     let pb = c .before .before .before .before .before .before .before .before .before .before .put-bytes .ensures in
     let ph = c .before .before .before .before .before .put-hex .ensures in
-    let eb = whole (hexBytes 16 line) (zeros 62) _ _ _ (omega (arith, bytes-size 16 line)) (pb .0) (pb .1 .0) (c .before .before .before .before .before .before .before .front .ensures .0) in
+    let eb = whole (hexBytes 16 line) (zeros 56) _ _ _ (omega (arith, bytes-size 16 line)) (pb .0) (pb .1 .0) (c .before .before .before .before .before .before .before .front .ensures .0) in
     let b = c .before .before .before .before .before .before .before .front .result .now in
-    let et = whole (hexText b) (zeros 186) _ _ _ (omega (arith, hex-size b, ap length eb, bytes-size 16 line)) (ph .0) (ph .1 .0) (c .before .before .front2 .ensures .0) in
+    let et = whole (hexText b) (zeros 168) _ _ _ (omega (arith, hex-size b, ap length eb, bytes-size 16 line)) (ph .0) (ph .1 .0) (c .before .before .front2 .ensures .0) in
     on-other line h _ (et ∙ ap hexText eb) _ (c .before .is-same .ensures) (c .if2 .left)
 
 pub read-line-spec : {M : Type 1} → statement M

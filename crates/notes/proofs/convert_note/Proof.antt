@@ -1,15 +1,11 @@
 -- `notes::convert_note` meets its contract.
 -- Assumes nothing.
 use mathlib.Core.Path.{sym, ap, _∙_}
-use Rattle.notes.specs.Note.{noteLength}
-use Rattle.notes.specs.declared.Put.{Put}
 use Rattle.notes.specs.declared.Converted.the-variants.{Turned}
 use Rattle.notes.proofs.Converting.{conv-short, conv-neither, conv-turned}
 use borrow.Author.Needs.{needs}
 use Rattle.notes.proofs.convert_note.Statement.{statement}
 use Rattle.notes.proofs.convert_note.Tie as tie
-use Rattle.notes.proofs.convert_note.Reads as reads
-use Rattle.notes.proofs.convert_note.Lts as lts
 
 clear-bytes-requires : tie.Need-clear-bytes-requires
 clear-bytes-requires c κs = search needs
@@ -36,28 +32,20 @@ same-length-2 : tie.Need-same-length-2
 same-length-2 c = search needs
 
 returns-2 : tie.Need-returns-2
-returns-2 c = let h = conv-neither (c .before .before .before .before .before .before .before .before .before .before .args .s .now) (c .before .before .before .before .before .before .before .before .before .before .args .shape) _ (c .before .before .before .before .before .before .before .if1 .left) (sym (c .before .before .before .before .before .before .read-note .ensures) ∙ c .before .before .before .before .enum-told .given .1) in (h .0, c .before .before .clear-bytes2 .ensures ∙ h .1)
+returns-2 c =
+    let h = conv-neither (c .before .before .before .before .before .before .before .before .before .before .args .s .now) (c .before .before .before .before .before .before .before .before .before .before .args .shape) _ (c .before .before .before .before .before .before .before .if1 .left) (sym (c .before .before .before .before .before .before .read-note .ensures) ∙ c .before .before .before .before .enum-told .given .1) in
+    (h .0, c .before .before .clear-bytes2 .ensures ∙ h .1)
 
 write-note-requires : tie.Need-write-note-requires
 write-note-requires c κs = search needs
-
-enum-known-k : tie.Need-enum-known-k
-enum-known-k c = search needs
-
-enum-told-2 : tie.Need-enum-told-2
-enum-told-2 c = search needs
 
 same-length-3 : tie.Need-same-length-3
 same-length-3 c = search needs
 
 returns-3 : tie.Need-returns-3
-returns-3 c = let h = conv-turned (c .before .before .before .before .before .before .before .before .before .before .before .before .before .before .args .s .now) (c .before .before .before .before .before .before .before .before .before .before .before .before .before .before .args .shape) _ _ (c .before .before .before .before .before .before .before .before .before .before .before .if1 .left) (sym (c .before .before .before .before .before .before .before .before .before .before .read-note .ensures) ∙ c .before .before .before .before .before .before .before .before .n .given .1) in (ap (λ (p : Put). Turned (noteLength p)) (sym (c .before .k .given .1) ∙ c .before .before .before .before .before .write-note .ensures .0) ∙ h .0, c .before .before .before .before .before .write-note .ensures .1 ∙ h .1)
-
-same-length-4 : tie.Need-same-length-4
-same-length-4 c = search needs
-
-returns-4 : tie.Need-returns-4
-returns-4 c = let h = conv-turned (c .before .before .before .before .before .before .before .before .before .before .before .before .before .args .s .now) (c .before .before .before .before .before .before .before .before .before .before .before .before .before .args .shape) _ _ (c .before .before .before .before .before .before .before .before .before .before .if1 .left) (sym (c .before .before .before .before .before .before .before .before .before .read-note .ensures) ∙ c .before .before .before .before .before .before .before .n .given .1) in (ap (λ (p : Put). Turned (noteLength p)) (sym (c .enum-told2 .given .1) ∙ c .before .before .before .before .write-note .ensures .0) ∙ h .0, c .before .before .before .before .write-note .ensures .1 ∙ h .1)
+returns-3 c =
+    let h = conv-turned (c .before .before .before .before .before .before .before .before .before .before .before .args .s .now) (c .before .before .before .before .before .before .before .before .before .before .before .args .shape) _ _ (c .before .before .before .before .before .before .before .before .if1 .left) (sym (c .before .before .before .before .before .before .before .read-note .ensures) ∙ c .before .before .before .before .before .n .given .1) in
+    (ap Turned (c .before .before .write-note .ensures .0) ∙ h .0, c .before .before .write-note .ensures .1 ∙ h .1)
 
 pub convert-note-spec : {M : Type 1} → statement M
 convert-note-spec =
@@ -73,9 +61,5 @@ convert-note-spec =
     same-length-2
     returns-2
     write-note-requires
-    enum-known-k
-    enum-told-2
     same-length-3
-    returns-3
-    same-length-4
-    returns-4)
+    returns-3)

@@ -1,12 +1,13 @@
 -- `notes::write_numbers` meets its contract. The invariant is `Wr`.
 -- Assumes nothing.
 use mathlib.Core.Path.{_≡_, sym, ap, _∙_}
-use Prim.Native.Nat.{_-_}
+use Prim.Native.Nat.{ℕ, _-_}
 use native.Mathlib.Omega.{arith}
 use lib.ListN.{length}
-use borrow.Author.Needs.{needs}
 use Rattle.lists.specs.Zeros.{zeros}
-use Rattle.notes.proofs.Writing.{Wr, wr-start, wr-length, wr-inside, wr-yes, wr-no, note-yes, note-no}
+use Rattle.notes.specs.Note.{flat, left}
+use Rattle.notes.proofs.Writing.{Wr, wr-start, wr-length, wr-next, wr-few, wr-end}
+use borrow.Author.Needs.{needs}
 use Rattle.notes.proofs.write_numbers.Statement.{statement}
 use Rattle.notes.proofs.write_numbers.Tie as tie
 
@@ -24,62 +25,48 @@ loop-holds c =
     let k = c .before .before .clear-bytes in
     wr-start _ _ _ (k .ensures ∙ ap zeros (sym (k .kept .0)))
 
-mul-number : tie.Need-mul-number Inv-loop μ-loop
-mul-number c = search needs
-
-shared-slice-read-number : tie.Need-shared-slice-read-number Inv-loop μ-loop
-shared-slice-read-number c = search needs
+free-from-requires : tie.Need-free-from-requires Inv-loop μ-loop
+free-from-requires c κs = search needs
 
 sub-put-number : tie.Need-sub-put-number Inv-loop μ-loop
-sub-put-number c = wr-inside _ _ _ _ _ (c .before .before .loop .inv)
+sub-put-number c = omega (arith, c .free-from .ensures)
 
 part-put-number-start : tie.Need-part-put-number-start Inv-loop μ-loop
-part-put-number-start c = wr-inside _ _ _ _ _ (c .before .before .loop .inv)
+part-put-number-start c = omega (arith, c .free-from .ensures)
 
 part-put-number-end : tie.Need-part-put-number-end Inv-loop μ-loop
 part-put-number-end c = search needs
 
+mul-put-number : tie.Need-mul-put-number Inv-loop μ-loop
+mul-put-number c = search needs
+
+shared-slice-read-put-number : tie.Need-shared-slice-read-put-number Inv-loop μ-loop
+shared-slice-read-put-number c = search needs
+
 put-number-requires : tie.Need-put-number-requires Inv-loop μ-loop
-put-number-requires c κs = tt
-
-enum-known-k : tie.Need-enum-known-k Inv-loop μ-loop
-enum-known-k c = search needs
-
-enum-told : tie.Need-enum-told Inv-loop μ-loop
-enum-told c = search needs
-
-clear-bytes-requires-2 : tie.Need-clear-bytes-requires-2 Inv-loop μ-loop
-clear-bytes-requires-2 c κs = tt
-
-same-length : tie.Need-same-length Inv-loop μ-loop
-same-length c = omega (arith, wr-length _ _ _ _ _ (c .before .before .before .before .before .before .before .before .before .before .before .before .loop .inv), c .before .before .before .before .before .before .before .before .put-number .kept, c .before .before .clear-bytes2 .kept, c .before .before .before .before .before .before .before .before .before .before .before .before .before .before .before .clear-bytes .kept)
-
-returns : tie.Need-returns Inv-loop μ-loop
-returns c =
-    let n = wr-no _ _ _ _ _ (c .before .before .before .before .before .before .before .before .before .before .before .before .loop .inv) (c .before .before .before .before .before .before .before .before .before .before .before .loop-test .taken) _ (c .before .before .before .before .before .before .before .before .put-number .ensures .0) (c .before .before .before .before .enum-told .given .1) in
-    let z = c .before .before .clear-bytes2 in
-    note-no _ _ _ _ n (c .before .before .before .before .before .before .before .before .before .before .before .before .before .before .before .clear-bytes .kept .0) (z .ensures ∙ ap zeros (sym (z .kept .0))) (same-length c)
+put-number-requires c κs = search needs
 
 add-at : tie.Need-add-at Inv-loop μ-loop
 add-at c =
-    let w = wr-yes _ _ _ _ _ (c .before .before .before .before .before .before .before .before .before .loop .inv) (c .before .before .before .before .before .before .before .before .loop-test .taken) _ (c .before .before .before .before .before .put-number .ensures .0) _ _ (c .before .k .given .1) (c .before .before .before .before .before .put-number .ensures .1) in
-    omega (arith, w .fit, c .before .before .before .before .before .before .before .before .before .before .before .before .before .before .before .before .good)
+    let w = wr-next _ _ _ _ _ (c .before .before .before .before .before .before .before .loop .inv) (c .before .before .before .before .before .before .loop-test .taken) _ _ _ (c .before .before .before .before .before .free-from .ensures) (c .before .before .put-number .ensures .0) (c .before .before .put-number .ensures .1) in
+    omega (arith, wr-few _ _ _ _ _ w, c .before .before .before .before .before .before .loop-test .taken, c .before .before .before .before .before .before .before .before .before .before .before .before .before .before .pre)
 
 add-i : tie.Need-add-i Inv-loop μ-loop
-add-i c = omega arith
+add-i c = omega (arith, c .before .before .before .before .before .before .loop-test .taken, c .before .before .before .before .before .before .before .before .before .before .before .before .before .before .pre)
 
 loop-less : tie.Need-loop-less Inv-loop μ-loop
-loop-less c = omega arith
+loop-less c = omega (arith, c .before .before .before .before .before .before .loop-test .taken)
 
 loop-again : tie.Need-loop-again Inv-loop μ-loop
-loop-again c =
-    wr-yes _ _ _ _ _ (c .before .before .before .before .before .before .before .before .before .loop .inv) (c .before .before .before .before .before .before .before .before .loop-test .taken) _ (c .before .before .before .before .before .put-number .ensures .0) _ _ (c .before .k .given .1) (c .before .before .before .before .before .put-number .ensures .1)
+loop-again c = wr-next _ _ _ _ _ (c .before .before .before .before .before .before .before .loop .inv) (c .before .before .before .before .before .before .loop-test .taken) _ _ _ (c .before .before .before .before .before .free-from .ensures) (c .before .before .put-number .ensures .0) (c .before .before .put-number .ensures .1)
 
-same-length-2 : tie.Need-same-length-2 Inv-loop μ-loop
-same-length-2 c = omega (arith, wr-length _ _ _ _ _ (c .before .loop .inv), c .before .before .before .before .clear-bytes .kept)
+same-length : tie.Need-same-length Inv-loop μ-loop
+same-length c = omega (arith, wr-length _ _ _ _ _ (c .before .loop .inv), c .before .before .before .before .clear-bytes .kept)
 
-returns-2 : tie.Need-returns-2 Inv-loop μ-loop
-returns-2 c = note-yes _ _ _ _ _ (c .before .loop .inv) _ (c .loop-test .left) (c .before .before .before .before .clear-bytes .kept .0)
+returns : tie.Need-returns Inv-loop μ-loop
+returns c =
+    let e = wr-end _ _ _ _ _ (c .before .loop .inv) (c .loop-test .left) in
+    (e .0, e .1 ∙ ap (λ (k : ℕ). left (flat (c .before .before .before .before .before .before .before .before .args .ns .now)) k) (c .before .before .before .before .clear-bytes .kept .0))
 
 pub write-numbers-spec : {M : Type 1} → statement M
 write-numbers-spec =
@@ -89,20 +76,16 @@ write-numbers-spec =
     μ-loop
     clear-bytes-requires
     loop-holds
-    mul-number
-    shared-slice-read-number
+    free-from-requires
     sub-put-number
     part-put-number-start
     part-put-number-end
+    mul-put-number
+    shared-slice-read-put-number
     put-number-requires
-    enum-known-k
-    enum-told
-    clear-bytes-requires-2
-    same-length
-    returns
     add-at
     add-i
     loop-less
     loop-again
-    same-length-2
-    returns-2)
+    same-length
+    returns)
