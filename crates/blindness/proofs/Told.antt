@@ -37,7 +37,7 @@ module _ (doc : List ℕ) (ns np na : ℕ) where
   abbrev pub itemsOut : ℕ → List ℤ → Out
   itemsOut n ams = readItems doc (roomOf ns np na) (itemsFrom doc n) begun (tab (zeros ns) (zeros np) ams)
 
-  pub items-read : (n : ℕ) → itemsRead doc n (blank ns np na) ≡ itemsOut n (noAmounts na)
+  pub items-read : (n : ℕ) → itemsRead doc (roomIn (blank ns np na)) n (blank ns np na) ≡ itemsOut n (noAmounts na)
   unfolding itemsRead blank
   items-read n = ap (λ (r : Room). readItems doc r (itemsFrom doc n) begun (blank ns np na)) (room-blank ns np na)
 

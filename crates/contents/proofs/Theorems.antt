@@ -79,7 +79,7 @@ module _ (doc : List ℕ) (ns np na : ℕ) (shape : Shape) (nb : ℕ) (wide : 16
 
   into : (n : ℕ) → begin doc ≡ From n → readInto doc (blank ns np na) ≡ read n
   unfolding itemsRead
-  into n e = sym (into-items doc (blank ns np na) n e) ∙ ap (λ r. readItems doc r (itemsFrom doc n) begun (blank ns np na)) (blank-room ns np na)
+  into n e = sym (into-items doc (blank ns np na) n refl e) ∙ ap (λ r. readItems doc r (itemsFrom doc n) begun (blank ns np na)) (blank-room ns np na)
 
   outcome-is : (n : ℕ) → begin doc ≡ From n → read n .found .refusal ≡ 0 → readOf doc ns np na shape nb ≡ noted shape nb (read n)
   outcome-is n e z =

@@ -26,7 +26,7 @@ use Rattle.contents.proofs.Values.{as-quoted, said-bytes}
 
 -- ---- parts
 
-part-in : (doc rest : List ℕ) (at a n : ℕ) → rest ≡ drop at doc → partOf doc (at + a) n ≡ partOf rest a n
+pub part-in : (doc rest : List ℕ) (at a n : ℕ) → rest ≡ drop at doc → partOf doc (at + a) n ≡ partOf rest a n
 unfolding partOf
 part-in doc rest at a n e = rw e (ap (take n) (sym (drop-drop a at doc)))
 
@@ -44,7 +44,7 @@ run-le p (b ∷ l) =
     elim (p b) as (λ (t : Bool). cond t (suc (run p l)) 0 ≤ suc (length l)) [ true ↦ omega (arith, h) | false ↦ omega arith ]
 
 -- the value without the spaces, where it stands in the item
-trimmed-part : (v : Span) (s : List ℕ) → partOf s (v .start + run space (quoted v s)) (length (dropped (quoted v s))) ≡ dropped (quoted v s)
+pub trimmed-part : (v : Span) (s : List ℕ) → partOf s (v .start + run space (quoted v s)) (length (dropped (quoted v s))) ≡ dropped (quoted v s)
 unfolding partOf quoted
 trimmed-part v s =
     let q = quoted v s in

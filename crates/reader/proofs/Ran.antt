@@ -27,7 +27,7 @@ use Rattle.states.specs.declared.Step.the-variants.{Next, Refused}
 use Rattle.reader.specs.Items.{Placed, placed, itemsAfter, itemsFrom}
 use Rattle.reader.specs.Rows.{broughtBy, seriesWith, positionsWith, amountsWith, seriesAfter, positionsAfter, amountsAfter, usedWith, usedBefore}
 use Rattle.reader.specs.declared.Found.{Found}
-use Rattle.reader.specs.Reading.{Tables, tab, out, roomIn, refusedAt, endedAt, withoutUsed, stepOf, tablesAfter, readItems, itemsRead}
+use Rattle.reader.specs.Reading.{Tables, tab, out, refusedAt, endedAt, withoutUsed, stepOf, tablesAfter, readItems, itemsRead}
 
 skip : (k at : ℕ) (l : List ℕ) → itemsAfter k at l ≡ itemsAfter 0 (at + k) (drop k l)
 unfolding itemsAfter
@@ -70,18 +70,17 @@ module _ (doc : List ℕ) (room : Room) (p : Placed) (xs : List Placed) (st : St
 -- what is left of the items at the place `at` comes to what all of them come to
 pub record Ran (doc : List ℕ) (from : ℕ) (t : Tables) (rows : List ℕ) (room : Room) (ser pos : List ℕ) (ams : List ℤ) (st : State) (at : ℕ) : Type 0 where
   pub all : rows ≡ everyRow
-  pub rooms : room ≡ roomIn t
   pub ser-same : length ser ≡ length (t .series)
   pub pos-same : length pos ≡ length (t .positions)
   pub ams-same : length ams ≡ length (t .amounts)
-  pub left : readItems doc (roomIn t) (itemsFrom doc at) st (tab ser pos ams) ≡ itemsRead doc from t
+  pub left : readItems doc room (itemsFrom doc at) st (tab ser pos ams) ≡ itemsRead doc room from t
 
 module _ (doc : List ℕ) (from : ℕ) (t : Tables) where
-  pub ran-start : {rows : List ℕ} {room : Room} {st : State} → rows ≡ everyRow → room ≡ roomIn t → st ≡ begun
+  pub ran-start : {rows : List ℕ} {room : Room} {st : State} → rows ≡ everyRow → st ≡ begun
       → Ran doc from t rows room (t .series) (t .positions) (t .amounts) st from
   unfolding itemsRead
-  ran-start ea er es =
-      record { all = ea; rooms = er; ser-same = refl; pos-same = refl; ams-same = refl; left = rw es refl }
+  ran-start ea es =
+      record { all = ea; ser-same = refl; pos-same = refl; ams-same = refl; left = rw es refl }
 
 pub unreadable : (st : State) (p : ℕ) (s : List ℕ) (room : Room) → step st (Unreadable p) s room ≡ Refused 2
 unfolding step moved
@@ -101,24 +100,24 @@ module _ {doc : List ℕ} {from : ℕ} {t : Tables} {rows : List ℕ} {room : Ro
   pub ran-rows : {l : List ℕ} → l ≡ rowsIn rows (st .kind) → l ≡ rowsOf (st .kind)
   ran-rows e = e ∙ rw (r .all) (rows-in (st .kind))
 
-  pub ran-end : length doc ≤ at → {f : Found} → f ≡ endedAt (rowsIn rows (st .kind)) (length doc) st → out f ser pos ams ≡ itemsRead doc from t
+  pub ran-end : length doc ≤ at → {f : Found} → f ≡ endedAt (rowsIn rows (st .kind)) (length doc) st → out f ser pos ams ≡ itemsRead doc room from t
   unfolding readItems
-  ran-end h e = rw (e, r .all, rows-in (st .kind)) (sym (ap (λ (xs : List Placed). readItems doc (roomIn t) xs st (tab ser pos ams)) (items-over doc at h)) ∙ r .left)
+  ran-end h e = rw (e, r .all, rows-in (st .kind)) (sym (ap (λ (xs : List Placed). readItems doc room xs st (tab ser pos ams)) (items-over doc at h)) ∙ r .left)
 
   -- s is the part from `at` on, x its first item, y what the state came to
   module _ {s : List ℕ} {x : Item} (h : at < length doc) (es : s ≡ drop at doc) (ex : x ≡ item at s) (m : 1 ≤ itemEnd x) where
     ahead : itemsFrom doc at ≡ placed at (drop at doc) ∷ itemsFrom doc (at + itemEnd x)
     ahead = items-next doc at (itemEnd x) h (sym (ap itemEnd (ex ∙ ap (item at) es))) m
 
-    turn : {y : Step} → y ≡ withoutUsed doc ser x s (stepBy st rows x s room) → stepOf doc ser (roomIn t) (placed at (drop at doc)) st ≡ y
+    turn : {y : Step} → y ≡ withoutUsed doc ser x s (stepBy st rows x s room) → stepOf doc ser room (placed at (drop at doc)) st ≡ y
     unfolding stepOf
-    turn ey = sym (rw (r .all, step-rows st x s room, r .rooms, ex, es) at ey)
+    turn ey = sym (rw (r .all, step-rows st x s room, ex, es) at ey)
 
     pub ran-stop : {y : Step} {n : ℕ} → y ≡ withoutUsed doc ser x s (stepBy st rows x s room) → y ≡ Refused n
-        → out (refusedAt n at st) ser pos ams ≡ itemsRead doc from t
+        → out (refusedAt n at st) ser pos ams ≡ itemsRead doc room from t
     ran-stop {y} {n} ey q =
-        sym (read-stop doc (roomIn t) (placed at (drop at doc)) (itemsFrom doc (at + itemEnd x)) st (tab ser pos ams) n (turn ey ∙ q))
-        ∙ sym (ap (λ (xs : List Placed). readItems doc (roomIn t) xs st (tab ser pos ams)) ahead)
+        sym (read-stop doc room (placed at (drop at doc)) (itemsFrom doc (at + itemEnd x)) st (tab ser pos ams) n (turn ey ∙ q))
+        ∙ sym (ap (λ (xs : List Placed). readItems doc room xs st (tab ser pos ams)) ahead)
         ∙ r .left
 
     pub ran-next : {y : Step} {st′ : State} {e : Entry} {ser′ pos′ : List ℕ} {ams′ : List ℤ} → y ≡ withoutUsed doc ser x s (stepBy st rows x s room) → y ≡ Next st′ e
@@ -129,14 +128,13 @@ module _ {doc : List ℕ} {from : ℕ} {t : Tables} {rows : List ℕ} {room : Ro
         let et : tab ser′ pos′ ams′ ≡ tablesAfter (placed at (drop at doc)) st′ e (tab ser pos ams) = qt ∙ rw (ex, es) refl in
         record {
           all = r .all;
-          rooms = r .rooms;
           ser-same = ls ∙ r .ser-same;
           pos-same = lp ∙ r .pos-same;
           ams-same = la ∙ r .ams-same;
           left =
-              ap (λ (t′ : Tables). readItems doc (roomIn t) (itemsFrom doc (at + itemEnd x)) st′ t′) et
-              ∙ sym (read-next doc (roomIn t) (placed at (drop at doc)) (itemsFrom doc (at + itemEnd x)) st (tab ser pos ams) st′ e (turn ey ∙ q))
-              ∙ sym (ap (λ (xs : List Placed). readItems doc (roomIn t) xs st (tab ser pos ams)) ahead)
+              ap (λ (t′ : Tables). readItems doc room (itemsFrom doc (at + itemEnd x)) st′ t′) et
+              ∙ sym (read-next doc room (placed at (drop at doc)) (itemsFrom doc (at + itemEnd x)) st (tab ser pos ams) st′ e (turn ey ∙ q))
+              ∙ sym (ap (λ (xs : List Placed). readItems doc room xs st (tab ser pos ams)) ahead)
               ∙ r .left;
         }
 
@@ -147,7 +145,7 @@ module _ {doc : List ℕ} {from : ℕ} {t : Tables} {rows : List ℕ} {room : Ro
 
   -- "An item is either one of five kinds or a refusal with its place": the loop returns with that place
   pub ran-unread : {s : List ℕ} {x : Item} {p : ℕ} → at < length doc → s ≡ drop at doc → x ≡ item at s → 1 ≤ itemEnd x → x ≡ Unreadable p
-      → (p ≡ at) × (out (refusedAt 2 p st) ser pos ams ≡ itemsRead doc from t)
+      → (p ≡ at) × (out (refusedAt 2 p st) ser pos ams ≡ itemsRead doc room from t)
   unfolding withoutUsed At
   ran-unread {s} {x} {p} h es ex m q =
       let k : p ≡ at = rw (sym ex ∙ q) at (item-placed at s) in

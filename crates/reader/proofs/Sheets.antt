@@ -11,20 +11,41 @@ use Rattle.notes.specs.Note.{noteOf, left}
 use Rattle.notes.specs.declared.Shape.{Shape}
 use Rattle.prolog.specs.Prolog.{begin}
 use Rattle.prolog.specs.declared.Begin.the-variants.{From, Misdeclared}
+use Rattle.tables.specs.Cells.{noAmounts}
 use Rattle.states.specs.Moves.{begun}
+use Rattle.states.specs.declared.Room.{Room}
 use Rattle.reader.specs.declared.Found.{Found}
 use Rattle.reader.specs.declared.Answer.{Answer}
-use Rattle.reader.specs.Reading.{Tables, Out, tab, blank, refusedAt, itemsRead, readAfter, readInto, orBlank, readSheet}
+use Rattle.reader.specs.Reading.{Tables, Out, tab, blank, roomIn, refusedAt, itemsRead, readAfter, readInto, orBlank, readSheet}
+use Rattle.reader.specs.Judging.{judgedAfter, judgedInto, judged}
 use Rattle.reader.specs.Answer.{Outcome, noteFor, answerOf, told, noted, unnoted, readOf, Permitted}
 
 module _ (doc : List ℕ) (t : Tables) where
-  pub into-items : (n : ℕ) → begin doc ≡ From n → itemsRead doc n t ≡ readInto doc t
+  pub into-items : (n : ℕ) {room : Room} → room ≡ roomIn t → begin doc ≡ From n → itemsRead doc room n t ≡ readInto doc t
   unfolding readInto readAfter
-  into-items n e = rw e refl
+  into-items n r e = rw (r, e) refl
 
   pub into-unread : (p : ℕ) → begin doc ≡ Misdeclared p → record { found = refusedAt 2 p begun; tables = t } ≡ readInto doc t
   unfolding readInto readAfter
   into-unread p e = rw e refl
+
+-- with room that is told
+module _ (room : Room) (doc : List ℕ) where
+  pub judged-items : (t : List ℕ) (n : ℕ) → begin doc ≡ From n → itemsRead doc room n (tab t (zeros 1) (noAmounts 1)) .found ≡ judgedInto room doc t
+  unfolding judgedInto judgedAfter
+  judged-items t n e = rw e refl
+
+  pub judged-unread : (t : List ℕ) (p : ℕ) → begin doc ≡ Misdeclared p → refusedAt 2 p begun ≡ judgedInto room doc t
+  unfolding judgedInto judgedAfter
+  judged-unread t p e = rw e refl
+
+  pub judged-long : (n : ℕ) → 1048576 < length doc → refusedAt 1 0 begun ≡ judged room doc n
+  unfolding judged
+  judged-long n h = rw (lt-ltb _ _ h) refl
+
+  pub judged-short : (n : ℕ) {t : List ℕ} → length doc ≤ 1048576 → t ≡ zeros n → judgedInto room doc t ≡ judged room doc n
+  unfolding judged
+  judged-short n h e = rw (e, le-ltb _ _ h) refl
 
 -- into tables of these lengths; u is the tables made blank
 module _ (doc : List ℕ) (ns np na : ℕ) {u : Tables} (q : u ≡ blank ns np na) where

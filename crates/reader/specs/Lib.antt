@@ -1,4 +1,5 @@
 pub mod Items
 pub mod Rows
 pub mod Reading
+pub mod Judging
 pub mod Answer

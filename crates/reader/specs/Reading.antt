@@ -47,7 +47,8 @@ unfoldable pub roomOf : ℕ → ℕ → ℕ → Room
 roomOf ns np na = cond (leb np na) (record { series = roomFor ns; intervals = np }) (record { series = roomFor ns; intervals = na })
 
 -- "Kind is that of a root start standing in an item before the faulty one, else 0. Series and intervals count their start tags in items before
--- the faulty one."; "the count of elements open before the faulty item"; "N (0 on every refusal)"
+-- the faulty one."; "the count of elements open before the faulty item"; "N (0 on every refusal)", and so
+-- the two ends of TimePeriodCovered
 unfoldable pub refusedAt : ℕ → ℕ → State → Found
 refusedAt n place st =
     record {
@@ -58,12 +59,24 @@ refusedAt n place st =
       intervals = st .intervals;
       depth = depthOf (rowsOf (st .kind)) (st .row) (st .inside);
       quarters = 0;
+      from = 0;
+      to = 0;
     }
 
 -- "Acceptance is number 0 with place equal to the length."; "On acceptance they are those of the whole document."; the depth, "on acceptance 0"
 unfoldable pub acceptedAt : ℕ → State → Found
 acceptedAt place st =
-    record { refusal = 0; place = place; kind = st .kind; series = st .series; intervals = st .intervals; depth = 0; quarters = st .quarters }
+    record {
+      refusal = 0;
+      place = place;
+      kind = st .kind;
+      series = st .series;
+      intervals = st .intervals;
+      depth = 0;
+      quarters = st .quarters;
+      from = st .from;
+      to = st .to;
+    }
 
 -- "Missing elements show .. at the end of the document.": 3 at the length, by the rows of the kind
 unfoldable pub endedAt : List ℕ → ℕ → State → Found
@@ -106,13 +119,13 @@ readItems doc room (x ∷ xs) st t =
 unfoldable pub roomIn : Tables → Room
 roomIn t = roomOf (length (t .series)) (length (t .positions)) (length (t .amounts))
 
--- those from the place `from` on, into blank tables
-unfoldable pub itemsRead : List ℕ → ℕ → Tables → Out
-itemsRead doc from t = readItems doc (roomIn t) (itemsFrom doc from) begun t
+-- those from the place `from` on, with this room, into blank tables
+unfoldable pub itemsRead : List ℕ → Room → ℕ → Tables → Out
+itemsRead doc room from t = readItems doc room (itemsFrom doc from) begun t
 
 -- from the first item on, or not at all where the XML declaration is unreadable
 unfoldable pub readAfter : List ℕ → Tables → Begin → Out
-readAfter doc t (From n) = itemsRead doc n t
+readAfter doc t (From n) = itemsRead doc (roomIn t) n t
 readAfter doc t (Misdeclared p) = record { found = refusedAt 2 p begun; tables = t }
 
 unfoldable pub readInto : List ℕ → Tables → Out

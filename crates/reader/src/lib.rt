@@ -35,17 +35,22 @@ ghost use Rattle.guideline.specs.Rows.{rowsOf};
 ghost use Rattle.states.specs.Moves.{begun, stepBy};
 ghost use Rattle.items.specs.Parts.{passed};
 ghost use Rattle.reader.specs.Reading.{tab, blankAs, roomOf, refusedAt, acceptedAt, endedAt, withoutUsed, out, itemsRead, readInto, sheetInto};
+ghost use Rattle.lists.specs.Zeros.{zeros};
+ghost use Rattle.reader.specs.Judging.{judgedInto, judged};
 ghost use Rattle.reader.specs.Answer.{noteFor, told, outcomeOf, Permitted};
 
-// What the items of a document come to. `quarters` is N, `depth` "the count of elements open before the faulty item".
-struct Found {
-    refusal: u32,
-    place: u32,
-    kind: u32,
-    series: u32,
-    intervals: u32,
-    depth: u32,
-    quarters: u32,
+// What the items of a document come to. `quarters` is N, `depth` "the count of elements open before the faulty item"; `from` and `to` are the two ends of
+// TimePeriodCovered in minutes since 2000-01-01T00:00Z, 0 on every refusal.
+pub struct Found {
+    pub refusal: u32,
+    pub place: u32,
+    pub kind: u32,
+    pub series: u32,
+    pub intervals: u32,
+    pub depth: u32,
+    pub quarters: u32,
+    pub from: u32,
+    pub to: u32,
 }
 
 // The answer to a document: the five numbers of the note, N, and the note's length.
@@ -89,6 +94,8 @@ fn refused_at(n: u32, place: u32, st: State, rows: &[usize]) -> Found
         intervals: st.intervals,
         depth,
         quarters: 0,
+        from: 0,
+        to: 0,
     }
 }
 
@@ -104,6 +111,8 @@ fn refused_first(refusal: u32, place: u32) -> Found
         intervals: 0,
         depth: 0,
         quarters: 0,
+        from: 0,
+        to: 0,
     }
 }
 
@@ -118,6 +127,8 @@ fn accepted_at(place: u32, st: State) -> Found
         intervals: st.intervals,
         depth: 0,
         quarters: st.quarters,
+        from: st.from,
+        to: st.to,
     }
 }
 
@@ -168,16 +179,16 @@ fn step_in(
 fn read_items(
     doc: &[u8],
     from: usize,
+    room: Room,
     series: &mut [u32],
     positions: &mut [u32],
     amounts: &mut [i64],
 ) -> Found
     requires { ⌜ length (now doc) ≤ 1048576 ⌝ }
     ensures { λ r. ⌜ out r (now (series .exit)) (now (positions .exit)) (now (amounts .exit))
-        ≡ itemsRead (now (doc .entry)) from (tab (now (series .entry)) (now (positions .entry)) (now (amounts .entry))) ⌝ }
+        ≡ itemsRead (now (doc .entry)) room from (tab (now (series .entry)) (now (positions .entry)) (now (amounts .entry))) ⌝ }
 {
     let rows = every_row();
-    let room = room_of(series.len(), positions.len(), amounts.len());
     let mut st = State::begin();
     let mut at = from;
     while at < doc.len() {
@@ -208,8 +219,9 @@ fn read_all(doc: &[u8], series: &mut [u32], positions: &mut [u32], amounts: &mut
     ensures { λ r. ⌜ out r (now (series .exit)) (now (positions .exit)) (now (amounts .exit))
         ≡ readInto (now (doc .entry)) (tab (now (series .entry)) (now (positions .entry)) (now (amounts .entry))) ⌝ }
 {
+    let room = room_of(series.len(), positions.len(), amounts.len());
     match first_item(doc) {
-        Begin::From(n) => read_items(doc, n, series, positions, amounts),
+        Begin::From(n) => read_items(doc, n, room, series, positions, amounts),
         Begin::Misdeclared(p) => refused_first(2, p as u32),
     }
 }
@@ -228,6 +240,35 @@ fn read_sheet(doc: &[u8], series: &mut [u32], positions: &mut [u32], amounts: &m
         return found;
     }
     clear_tables(series, positions, amounts);
+    found
+}
+
+// With a series table alone: what the intervals say has no cell.
+fn judge_all(doc: &[u8], room: Room, series: &mut [u32]) -> Found
+    requires { ⌜ length (now doc) ≤ 1048576 ⌝ }
+    ensures { λ r. ⌜ r ≡ judgedInto room (now (doc .entry)) (now (series .entry)) ⌝ }
+{
+    let mut positions = [0u32; 1];
+    let mut amounts = [0i64; 1];
+    match first_item(doc) {
+        Begin::From(n) => read_items(doc, n, room, series, &mut positions, &mut amounts),
+        Begin::Misdeclared(p) => refused_first(2, p as u32),
+    }
+}
+
+// Judges a document for a caller with tables of another layout, who says what room they have: what `read` would find with as much room. The lent numbers serve as
+// a series table, and are 0 afterwards.
+// Ruled out: room for more series than is said; an identification taken that was used before, where there is a row for each series; a number left behind.
+pub fn judge(doc: &[u8], room: Room, series: &mut [u32]) -> Found
+    ensures found { λ r. ⌜ r ≡ judged room (now (doc .entry)) (length (now (series .entry))) ⌝ }
+    ensures blank { λ _. ⌜ now (series .exit) ≡ zeros (length (now (series .entry))) ⌝ }
+{
+    clear_numbers(series);
+    if 1048576 < doc.len() {
+        return refused_first(1, 0);
+    }
+    let found = judge_all(doc, room, series);
+    clear_numbers(series);
     found
 }
 

@@ -123,7 +123,8 @@ pub enum Step {
     Refused(u32),
 }
 
-fn is_there(x: Span) -> bool
+// Whether an attribute is there. Ruled out: false for a value of no bytes; true for one that no tag has.
+pub fn is_there(x: Span) -> bool
     ensures { λ r. ⌜ r ≡ there x ⌝ }
 {
     if x.start == 0 { false } else { true }
@@ -141,13 +142,15 @@ fn agrees(asked: bool, given: bool) -> bool
     }
 }
 
-fn asks_v(w: usize) -> bool
+// Whether a row has a `v`. Ruled out: true for an element that only holds others; false for one whose form is a code list.
+pub fn asks_v(w: usize) -> bool
     ensures { λ r. ⌜ r ≡ asksV w ⌝ }
 {
     if form_of(w) == NO_FORM { false } else { true }
 }
 
-fn asks_scheme(w: usize) -> bool
+// Whether a row has a codingScheme. Ruled out: true for a row whose `v` alone is a code; false for one of any list.
+pub fn asks_scheme(w: usize) -> bool
     ensures { λ r. ⌜ r ≡ asksScheme w ⌝ }
 {
     if scheme_of(w) == NO_SCHEME {

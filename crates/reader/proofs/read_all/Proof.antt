@@ -2,7 +2,7 @@ use mathlib.Core.Logic.{⊎-elim}
 use native.Mathlib.Omega.{arith}
 use Rattle.prolog.proofs.Promises.{refused-place}
 use mathlib.Core.Path.{sym, _∙_}
-use Rattle.reader.specs.Reading.{tab}
+use Rattle.reader.specs.Reading.{tab, roomIn}
 use Rattle.reader.proofs.Sheets.{into-items, into-unread}
 use borrow.Author.Needs.{needs}
 use Rattle.reader.proofs.read_all.Statement.{statement}
@@ -11,7 +11,11 @@ use Rattle.reader.proofs.read_all.Reads as reads
 use Rattle.reader.proofs.read_all.Lts as lts
 use Rattle.prolog.proofs.first_item.Reads as first-item-reads
 use Rattle.reader.proofs.read_items.Reads as read-items-reads
+use Rattle.reader.proofs.room_of.Reads as room-of-reads
 use Rattle.reader.proofs.refused_first.Reads as refused-first-reads
+
+room-of-requires : tie.Need-room-of-requires
+room-of-requires c κs = search needs
 
 first-item-requires : tie.Need-first-item-requires
 first-item-requires c κs = search needs
@@ -41,15 +45,17 @@ same-length-3 : tie.Need-same-length-3
 same-length-3 c = search needs
 
 returns : tie.Need-returns
-returns c = let e = into-items _ _ _ (sym (c .before .before .before .before .before .before .before .before .before .before .before .before .first-item .ensures .0) ∙ c .before .before .before .before .before .before .before .before .before .before .n .given .1) in c .before .before .before .before .before .read-items .ensures ∙ e
+unfolding roomIn
+returns c = let e = into-items _ _ _ (c .before .before .before .before .before .before .before .before .before .before .before .before .before .room-of .ensures) (sym (c .before .before .before .before .before .before .before .before .before .before .before .before .first-item .ensures .0) ∙ c .before .before .before .before .before .before .before .before .before .before .n .given .1) in c .before .before .before .before .before .read-items .ensures ∙ e
 
 returns-2 : tie.Need-returns-2
-returns-2 c = let a = c .before .before .before .before .before .before .before .before .args in let e = into-unread _ (tab (a .series .now) (a .positions .now) (a .amounts .now)) _ (sym (c .before .before .before .before .first-item .ensures .0) ∙ c .before .before .p .given .1) in rw (c .refused-first .ensures) e
+returns-2 c = let a = c .before .before .before .before .before .before .before .before .before .args in let e = into-unread _ (tab (a .series .now) (a .positions .now) (a .amounts .now)) _ (sym (c .before .before .before .before .first-item .ensures .0) ∙ c .before .before .p .given .1) in rw (c .refused-first .ensures) e
 
 pub read-all-spec : {M : Type 1} → statement M
 read-all-spec =
     tie.close
     (tie.spec
+    room-of-requires
     first-item-requires
     enum-known-n
     read-items-requires

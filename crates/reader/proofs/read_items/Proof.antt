@@ -3,7 +3,7 @@ use mathlib.Core.Path.{sym, ap, _∙_}
 use native.Mathlib.Omega.{arith}
 use borrow.Author.Needs.{needs}
 use lib.ListN.{length, length-drop}
-use Rattle.reader.specs.Reading.{tab, roomIn}
+use Rattle.reader.specs.Reading.{tab}
 use Rattle.reader.proofs.Ran.{Ran, ran-start, ran-next, ran-pass, ran-rows, ran-stop, ran-unread, ran-end}
 use Rattle.reader.proofs.read_items.Statement.{statement}
 use Rattle.reader.proofs.read_items.Tie as tie
@@ -17,30 +17,25 @@ use Rattle.reader.proofs.rows.enter.Reads as enter-reads
 use Rattle.items.proofs.is_passed.Reads as is-passed-reads
 use Rattle.items.proofs.item_len.Reads as item-len-reads
 use Rattle.reader.proofs.refused_at.Reads as refused-at-reads
-use Rattle.reader.proofs.room_of.Reads as room-of-reads
 use Rattle.reader.proofs.step_in.Reads as step-in-reads
 use Rattle.slices.proofs.rest.Reads as rest-reads
 use Rattle.states.proofs.State.begin.Reads as begin-reads
 
 abbrev Inv-loop : tie.InvT-loop
-Inv-loop doc from series₀ positions₀ amounts₀ rows room st₀ at₀ series positions amounts st at =
+Inv-loop doc from room series₀ positions₀ amounts₀ rows st₀ at₀ series positions amounts st at =
     Ran doc from (tab series₀ positions₀ amounts₀) rows room series positions amounts st at
 
 abbrev μ-loop : tie.MeasureT-loop
-μ-loop doc from series₀ positions₀ amounts₀ rows room st₀ at₀ series positions amounts st at = length doc - at
+μ-loop doc from room series₀ positions₀ amounts₀ rows st₀ at₀ series positions amounts st at = length doc - at
 
 every-row-requires : tie.Need-every-row-requires Inv-loop μ-loop
 every-row-requires c κs = search needs
-
-room-of-requires : tie.Need-room-of-requires Inv-loop μ-loop
-room-of-requires c κs = search needs
 
 begin-requires : tie.Need-begin-requires Inv-loop μ-loop
 begin-requires c κs = search needs
 
 loop-holds : tie.Need-loop-holds Inv-loop μ-loop
-unfolding roomIn
-loop-holds c = ran-start _ _ _ (c .before .before .every-row .ensures .0) (c .before .room-of .ensures) (c .begin .ensures)
+loop-holds c = ran-start _ _ _ (c .before .every-row .ensures .0) (c .begin .ensures)
 
 rest-requires : tie.Need-rest-requires Inv-loop μ-loop
 rest-requires c κs = search needs
@@ -52,7 +47,7 @@ enum-known-item : tie.Need-enum-known-item Inv-loop μ-loop
 enum-known-item c = search needs
 
 cast-refused-at : tie.Need-cast-refused-at Inv-loop μ-loop
-cast-refused-at c = let k = ran-unread (c .before .before .before .before .before .before .loop .inv) (c .before .before .before .before .before .loop-test .taken) (c .before .before .before .before .rest .ensures .0) (c .before .before .before .item-at .ensures .0) (c .before .before .before .item-at .ensures .1 .0) (c .before .item .given .1) .0 in let h = c .before .before .before .before .before .loop-test .taken in let g = c .before .before .before .before .before .before .before .before .before .before .before .before .before .pre in omega (arith, k, h, g)
+cast-refused-at c = let k = ran-unread (c .before .before .before .before .before .before .loop .inv) (c .before .before .before .before .before .loop-test .taken) (c .before .before .before .before .rest .ensures .0) (c .before .before .before .item-at .ensures .0) (c .before .before .before .item-at .ensures .1 .0) (c .before .item .given .1) .0 in let h = c .before .before .before .before .before .loop-test .taken in let g = c .before .before .before .before .before .before .before .before .before .before .before .before .pre in omega (arith, k, h, g)
 
 slice-aggregate-rows-of : tie.Need-slice-aggregate-rows-of Inv-loop μ-loop
 slice-aggregate-rows-of c = search needs
@@ -82,10 +77,10 @@ item-len-requires : tie.Need-item-len-requires Inv-loop μ-loop
 item-len-requires c κs = search needs
 
 add-at : tie.Need-add-at Inv-loop μ-loop
-add-at c = let h = c .before .before .before .before .before .before .loop-test .taken in let g = c .before .before .before .before .before .before .before .before .before .before .before .before .before .before .pre in let z = c .before .before .before .before .item-at .ensures .1 in omega (arith, c .item-len .ensures, h, g, z .0, z .1, z .2, ap length (c .before .before .before .before .before .rest .ensures .0), length-drop (c .before .before .before .before .before .before .before .loop .at) (c .before .before .before .before .before .before .before .before .before .before .before .before .before .before .args .doc .now))
+add-at c = let h = c .before .before .before .before .before .before .loop-test .taken in let g = c .before .before .before .before .before .before .before .before .before .before .before .before .before .pre in let z = c .before .before .before .before .item-at .ensures .1 in omega (arith, c .item-len .ensures, h, g, z .0, z .1, z .2, ap length (c .before .before .before .before .before .rest .ensures .0), length-drop (c .before .before .before .before .before .before .before .loop .at) (c .before .before .before .before .before .before .before .before .before .before .before .before .before .args .doc .now))
 
 loop-less : tie.Need-loop-less Inv-loop μ-loop
-loop-less c = let h = c .before .before .before .before .before .before .loop-test .taken in let g = c .before .before .before .before .before .before .before .before .before .before .before .before .before .before .pre in let z = c .before .before .before .before .item-at .ensures .1 in omega (arith, c .item-len .ensures, h, g, z .0, z .1, z .2, ap length (c .before .before .before .before .before .rest .ensures .0), length-drop (c .before .before .before .before .before .before .before .loop .at) (c .before .before .before .before .before .before .before .before .before .before .before .before .before .before .args .doc .now))
+loop-less c = let h = c .before .before .before .before .before .before .loop-test .taken in let g = c .before .before .before .before .before .before .before .before .before .before .before .before .before .pre in let z = c .before .before .before .before .item-at .ensures .1 in omega (arith, c .item-len .ensures, h, g, z .0, z .1, z .2, ap length (c .before .before .before .before .before .rest .ensures .0), length-drop (c .before .before .before .before .before .before .before .loop .at) (c .before .before .before .before .before .before .before .before .before .before .before .before .before .args .doc .now))
 
 loop-again : tie.Need-loop-again Inv-loop μ-loop
 loop-again c = rw (c .item-len .ensures) (ran-pass (c .before .before .before .before .before .before .before .loop .inv) (c .before .before .before .before .before .before .loop-test .taken) (c .before .before .before .before .before .rest .ensures .0) (c .before .before .before .before .item-at .ensures .0) (c .before .before .before .before .item-at .ensures .1 .0) (sym (c .before .before .is-passed .ensures) ∙ c .before .if1 .taken))
@@ -100,13 +95,13 @@ enum-known-next : tie.Need-enum-known-next Inv-loop μ-loop
 enum-known-next c = search needs
 
 enter-requires : tie.Need-enter-requires Inv-loop μ-loop
-enter-requires c κs = let h = c .before .before .before .before .before .before .before .before .before .before .before .before .before .before .loop-test .taken in let g = c .before .before .before .before .before .before .before .before .before .before .before .before .before .before .before .before .before .before .before .before .before .before .pre in let z = c .before .before .before .before .before .before .before .before .before .before .before .before .item-at .ensures .1 in omega (arith, h, g, z .0, z .1, z .2, ap length (c .before .before .before .before .before .before .before .before .before .before .before .before .before .rest .ensures .0), length-drop (c .before .before .before .before .before .before .before .before .before .before .before .before .before .before .before .loop .at) (c .before .before .before .before .before .before .before .before .before .before .before .before .before .before .before .before .before .before .before .before .before .before .args .doc .now))
+enter-requires c κs = let h = c .before .before .before .before .before .before .before .before .before .before .before .before .before .before .loop-test .taken in let g = c .before .before .before .before .before .before .before .before .before .before .before .before .before .before .before .before .before .before .before .before .before .pre in let z = c .before .before .before .before .before .before .before .before .before .before .before .before .item-at .ensures .1 in omega (arith, h, g, z .0, z .1, z .2, ap length (c .before .before .before .before .before .before .before .before .before .before .before .before .before .rest .ensures .0), length-drop (c .before .before .before .before .before .before .before .before .before .before .before .before .before .before .before .loop .at) (c .before .before .before .before .before .before .before .before .before .before .before .before .before .before .before .before .before .before .before .before .before .args .doc .now))
 
 enum-known-n : tie.Need-enum-known-n Inv-loop μ-loop
 enum-known-n c = search needs
 
 cast-refused-at-2 : tie.Need-cast-refused-at-2 Inv-loop μ-loop
-cast-refused-at-2 c = let h = c .before .before .before .before .before .before .before .before .before .before .before .loop-test .taken in let g = c .before .before .before .before .before .before .before .before .before .before .before .before .before .before .before .before .before .before .before .pre in omega (arith, h, g)
+cast-refused-at-2 c = let h = c .before .before .before .before .before .before .before .before .before .before .before .loop-test .taken in let g = c .before .before .before .before .before .before .before .before .before .before .before .before .before .before .before .before .before .before .pre in omega (arith, h, g)
 
 slice-aggregate-rows-of-2 : tie.Need-slice-aggregate-rows-of-2 Inv-loop μ-loop
 slice-aggregate-rows-of-2 c = search needs
@@ -133,16 +128,16 @@ item-len-requires-2 : tie.Need-item-len-requires-2 Inv-loop μ-loop
 item-len-requires-2 c κs = search needs
 
 add-at-2 : tie.Need-add-at-2 Inv-loop μ-loop
-add-at-2 c = let h = c .before .before .before .before .before .before .before .before .before .before .before .before .before .before .before .before .before .before .before .before .before .loop-test .taken in let g = c .before .before .before .before .before .before .before .before .before .before .before .before .before .before .before .before .before .before .before .before .before .before .before .before .before .before .before .before .before .pre in let z = c .before .before .before .before .before .before .before .before .before .before .before .before .before .before .before .before .before .before .before .item-at .ensures .1 in omega (arith, c .item-len2 .ensures, h, g, z .0, z .1, z .2, ap length (c .before .before .before .before .before .before .before .before .before .before .before .before .before .before .before .before .before .before .before .before .rest .ensures .0), length-drop (c .before .before .before .before .before .before .before .before .before .before .before .before .before .before .before .before .before .before .before .before .before .before .loop .at) (c .before .before .before .before .before .before .before .before .before .before .before .before .before .before .before .before .before .before .before .before .before .before .before .before .before .before .before .before .before .args .doc .now))
+add-at-2 c = let h = c .before .before .before .before .before .before .before .before .before .before .before .before .before .before .before .before .before .before .before .before .before .loop-test .taken in let g = c .before .before .before .before .before .before .before .before .before .before .before .before .before .before .before .before .before .before .before .before .before .before .before .before .before .before .before .before .pre in let z = c .before .before .before .before .before .before .before .before .before .before .before .before .before .before .before .before .before .before .before .item-at .ensures .1 in omega (arith, c .item-len2 .ensures, h, g, z .0, z .1, z .2, ap length (c .before .before .before .before .before .before .before .before .before .before .before .before .before .before .before .before .before .before .before .before .rest .ensures .0), length-drop (c .before .before .before .before .before .before .before .before .before .before .before .before .before .before .before .before .before .before .before .before .before .before .loop .at) (c .before .before .before .before .before .before .before .before .before .before .before .before .before .before .before .before .before .before .before .before .before .before .before .before .before .before .before .before .args .doc .now))
 
 loop-less-2 : tie.Need-loop-less-2 Inv-loop μ-loop
-loop-less-2 c = let h = c .before .before .before .before .before .before .before .before .before .before .before .before .before .before .before .before .before .before .before .before .before .loop-test .taken in let g = c .before .before .before .before .before .before .before .before .before .before .before .before .before .before .before .before .before .before .before .before .before .before .before .before .before .before .before .before .before .pre in let z = c .before .before .before .before .before .before .before .before .before .before .before .before .before .before .before .before .before .before .before .item-at .ensures .1 in omega (arith, c .item-len2 .ensures, h, g, z .0, z .1, z .2, ap length (c .before .before .before .before .before .before .before .before .before .before .before .before .before .before .before .before .before .before .before .before .rest .ensures .0), length-drop (c .before .before .before .before .before .before .before .before .before .before .before .before .before .before .before .before .before .before .before .before .before .before .loop .at) (c .before .before .before .before .before .before .before .before .before .before .before .before .before .before .before .before .before .before .before .before .before .before .before .before .before .before .before .before .before .args .doc .now))
+loop-less-2 c = let h = c .before .before .before .before .before .before .before .before .before .before .before .before .before .before .before .before .before .before .before .before .before .loop-test .taken in let g = c .before .before .before .before .before .before .before .before .before .before .before .before .before .before .before .before .before .before .before .before .before .before .before .before .before .before .before .before .pre in let z = c .before .before .before .before .before .before .before .before .before .before .before .before .before .before .before .before .before .before .before .item-at .ensures .1 in omega (arith, c .item-len2 .ensures, h, g, z .0, z .1, z .2, ap length (c .before .before .before .before .before .before .before .before .before .before .before .before .before .before .before .before .before .before .before .before .rest .ensures .0), length-drop (c .before .before .before .before .before .before .before .before .before .before .before .before .before .before .before .before .before .before .before .before .before .before .loop .at) (c .before .before .before .before .before .before .before .before .before .before .before .before .before .before .before .before .before .before .before .before .before .before .before .before .before .before .before .before .args .doc .now))
 
 loop-again-2 : tie.Need-loop-again-2 Inv-loop μ-loop
 loop-again-2 c = rw (c .item-len2 .ensures) (ran-next (c .before .before .before .before .before .before .before .before .before .before .before .before .before .before .before .before .before .before .before .before .before .before .loop .inv) (c .before .before .before .before .before .before .before .before .before .before .before .before .before .before .before .before .before .before .before .before .before .loop-test .taken) (c .before .before .before .before .before .before .before .before .before .before .before .before .before .before .before .before .before .before .before .before .rest .ensures .0) (c .before .before .before .before .before .before .before .before .before .before .before .before .before .before .before .before .before .before .before .item-at .ensures .0) (c .before .before .before .before .before .before .before .before .before .before .before .before .before .before .before .before .before .before .before .item-at .ensures .1 .0) (c .before .before .before .before .before .before .before .before .before .before .before .before .before .step-in .ensures) (c .before .before .before .before .before .before .before .before .before .before .before .next .given .1) (c .before .before .before .before .before .before .enter .kept .0) (c .before .before .before .before .before .before .enter .kept .1 .0) (c .before .before .before .before .before .before .enter .kept .1 .1 .0) (c .before .before .before .before .before .before .enter .ensures))
 
 cast-ended-at : tie.Need-cast-ended-at Inv-loop μ-loop
-cast-ended-at c = let g = c .before .before .before .before .before .before .before .before .pre in omega (arith, g)
+cast-ended-at c = let g = c .before .before .before .before .before .before .before .pre in omega (arith, g)
 
 slice-aggregate-rows-of-3 : tie.Need-slice-aggregate-rows-of-3 Inv-loop μ-loop
 slice-aggregate-rows-of-3 c = search needs
@@ -172,7 +167,6 @@ read-items-spec =
     Inv-loop
     μ-loop
     every-row-requires
-    room-of-requires
     begin-requires
     loop-holds
     rest-requires
