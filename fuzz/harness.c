@@ -1,19 +1,18 @@
 /*
- * The entry of libFuzzer. An input is sizes and a note's shape in its first bytes and a document after them. What is lent is allocated to the byte, so that
- * AddressSanitizer sees one byte too far; the plain module reads first, then the module whose assumptions are checked, into buffers that hold other bytes
- * before. What a promise says of one call or of the two together is checked, and a broken one ends the program.
+ * The entry of libFuzzer for documents and notes. An input is sizes and a note's shape in its first bytes and a document after them. What is lent is
+ * allocated to the byte, so that AddressSanitizer sees one byte too far; the plain module reads first, then the module whose assumptions are checked, into
+ * buffers that hold other bytes before. What a promise says of one call or of the two together is checked, and a broken one ends the program.
  *
  * Nothing goes to disk: the corpus is in memory, and so are the files by which libFuzzer is given the samples (memfd).
  */
 #define _GNU_SOURCE
 #include <dirent.h>
 #include <stdio.h>
-#include <stdlib.h>
-#include <string.h>
 #include <sys/mman.h>
 #include <unistd.h>
 
 #include "../library/lumintayag.h"
+#include "memory.h"
 
 uint32_t checked_lumintayag_read_v3(const uint8_t *doc, size_t doc_len, uint32_t *series, size_t series_len, uint32_t *positions, size_t positions_len,
                                     int64_t *amounts, size_t amounts_len, uint32_t shape, uint8_t *note, size_t note_len, uint32_t *answer,
@@ -54,13 +53,6 @@ static void hold(int holds, const char *promise) {
     abort();
 }
 
-static void *filled(size_t bytes, int pattern) {
-    void *p = malloc(bytes);
-    if (p == NULL) exit(2);
-    memset(p, pattern, bytes);
-    return p;
-}
-
 typedef uint32_t reading(const uint8_t *, size_t, uint32_t *, size_t, uint32_t *, size_t, int64_t *, size_t, uint32_t, uint8_t *, size_t, uint32_t *, size_t);
 
 static struct outcome read_by(reading *read, const uint8_t *doc, size_t answer_len, uint32_t shape, int pattern) {
@@ -75,13 +67,6 @@ static struct outcome read_by(reading *read, const uint8_t *doc, size_t answer_l
 
 static void let_go(struct outcome o) {
     free(o.doc), free(o.note), free(o.series), free(o.positions), free(o.answer), free(o.amounts);
-}
-
-static int is_zero(const void *p, size_t from, size_t to) {
-    const uint8_t *b = p;
-    for (size_t i = from; i < to; i++)
-        if (b[i] != 0) return 0;
-    return 1;
 }
 
 static int same_positions(struct outcome a, struct outcome b) {
@@ -193,6 +178,8 @@ static void judge_acceptance(struct outcome o, const uint32_t *n) {
          "cells past the last row are 0");
     for (size_t i = 0; i < rows; i++)
         hold(o.amounts[i] <= INT64_C(999999999999999) && o.amounts[i] >= -INT64_C(999999999999999), "an amount has twelve digits and three at most");
+    hold(lumintayag_totals(n[2], n[5], n[3], o.series, lent.series, o.positions, lent.positions, o.amounts, lent.amounts, NULL, 0, NULL, 0) == 0,
+         "the tables of an accepted document are added up");
 }
 
 typedef uint32_t rereading(const uint8_t *, size_t, uint32_t *, size_t);

@@ -1,6 +1,6 @@
 /* In rattle's own calling convention a slice is the address of a pointer and a length. This hands the slices of the C functions over in that way;
- * in the proved archive the compiler does it. AS is the beginning of the names to define, IN of those in the module. With READABLE it is for the
- * module of crate readable, without for that of crate library. */
+ * in the proved archive the compiler does it. AS is the beginning of the names to define, IN of those in the module. With READABLE or TOTALS it is
+ * for the module of crate readable or totals, without for that of crate library. */
 #include "lumintayag.h"
 
 struct slice {
@@ -18,6 +18,18 @@ size_t NAMED(IN, _readable_len)(struct slice *doc);
 size_t NAMED(AS, _readable_len)(const uint8_t *doc, size_t doc_len) {
     struct slice d = {doc, doc_len};
     return NAMED(IN, _readable_len)(&d);
+}
+
+#elif defined TOTALS
+
+uint32_t NAMED(IN, _totals)(uint32_t kind, uint32_t quarters, size_t count, struct slice *series, struct slice *positions, struct slice *amounts,
+                            struct slice *totals, struct slice *sum);
+
+uint32_t NAMED(AS, _totals)(uint32_t kind, uint32_t quarters, size_t count, const uint32_t *series, size_t series_len, const uint32_t *positions,
+                            size_t positions_len, const int64_t *amounts, size_t amounts_len, int64_t *totals, size_t totals_len, int64_t *sum,
+                            size_t sum_len) {
+    struct slice s = {series, series_len}, p = {positions, positions_len}, a = {amounts, amounts_len}, t = {totals, totals_len}, u = {sum, sum_len};
+    return NAMED(IN, _totals)(kind, quarters, count, &s, &p, &a, &t, &u);
 }
 
 #else

@@ -5,8 +5,8 @@
  * The functions below are in liblumintayag.a and liblumintayag.so. They allocate nothing, keep nothing from call
  * to call, open no file and call nothing but memset. They end for every input. What they answer and leave behind
  * is proved for every document and every length of every slice (crates/library, crates/reader, crates/notes,
- * crates/readable); no input is excepted. Threads may call them at the same time, each with slices of its own.
- * lumintayag_read_v3 takes 68 KB of stack, whatever the document; a thread that has 128 KiB has enough.
+ * crates/readable, crates/totals); no input is excepted. Threads may call them at the same time, each with slices of
+ * its own. lumintayag_read_v3 takes 68 KB of stack, whatever the document; a thread that has 128 KiB has enough.
  *
  * Slices. A lent slice is two arguments: a pointer, and a length in elements (not in bytes). What no proof can see
  * is left to the caller:
@@ -16,7 +16,7 @@
  * - No slice that is written to overlaps another slice of the same call.
  * What stands in a slice that is written to makes no difference, and need not be initialized.
  *
- * Document and tables hold prices: docs/PRIVACY.md says what a caller does about copies, swap and core dumps.
+ * Document and tables hold prices, and totals are made of them: docs/PRIVACY.md says what a caller does about copies, swap and core dumps.
  */
 #ifndef LUMINTAYAG_H
 #define LUMINTAYAG_H
@@ -29,12 +29,12 @@ extern "C" {
 #endif
 
 /*
- * The version of this header, a.b.c as 10000 a + 100 b + c: 0.4.0. lumintayag_version answers that of the archive
+ * The version of this header, a.b.c as 10000 a + 100 b + c: 0.5.0. lumintayag_version answers that of the archive
  * or shared object; a program that checks that the two are equal knows that they belong together.
  * A function whose arguments, rows or cells are laid out anew gets a new name, and the old name is gone: a
  * program that knows the old layout is not linked with the new one.
  */
-#define LUMINTAYAG_VERSION 400
+#define LUMINTAYAG_VERSION 500
 uint32_t lumintayag_version(void);
 
 /* A longer document is refused with 1. */
@@ -74,6 +74,12 @@ uint32_t lumintayag_version(void);
 #define LUMINTAYAG_SERIES_ROOM 2635
 #define LUMINTAYAG_INTERVALS_ROOM 23302
 
+/* Series that lumintayag_totals adds up at most; more are refused with 17. */
+#define LUMINTAYAG_TOTALS_MOST 200
+
+/* i64 numbers that a total takes. */
+#define LUMINTAYAG_TOTAL_NUMBERS 2
+
 /*
  * Refusals. The place of 2 to 9 is the index of the first byte of the item (tag, text or comment) with the first
  * fault, with 0 for the document's first byte; a document that is over too early has the place that is its length.
@@ -93,6 +99,10 @@ uint32_t lumintayag_version(void);
 #define LUMINTAYAG_NOTE_TOO_SHORT 10 /* the note buffer has fewer than 16 bytes, place 0; the converter's has fewer
                                         than 24 */
 #define LUMINTAYAG_NOT_ONE_NOTE 11   /* note reader and converter only: the bytes aren't one note */
+
+/* Refusals of lumintayag_totals alone, 17 before 18. They have no place. */
+#define LUMINTAYAG_TOO_MANY_SERIES 17 /* more than 200 series */
+#define LUMINTAYAG_WRONG_TABLES 18    /* kind, N, rows, a Pos or an amount against the rules of the kind */
 
 /* Kinds. 0 is a document whose root was not accepted. */
 #define LUMINTAYAG_BESCHAFFUNGSANFORDERUNG 1
@@ -136,6 +146,12 @@ enum {
     LUMINTAYAG_AREA = 8,            /* of InArea (kind 1) or ConnectingArea (kinds 2 and 3) */
     LUMINTAYAG_FIRST_INTERVAL = 10, /* its first row in the position and amount tables */
     LUMINTAYAG_INTERVAL_COUNT = 11  /* and how many rows it has there */
+};
+
+/* The cells of a total. */
+enum {
+    LUMINTAYAG_WHOLE = 0,      /* the whole number at or below it */
+    LUMINTAYAG_THOUSANDTHS = 1 /* and the thousandths over that, from 0 to 999: -0.001 is -1 and 999 */
 };
 
 /*
@@ -209,6 +225,42 @@ uint32_t lumintayag_convert_note(const uint8_t *note, size_t note_len,
  * tags, texts and comments alone: what is due and what a value may be plays no part, nor how long the document is.
  */
 size_t lumintayag_readable_len(const uint8_t *doc, size_t doc_len);
+
+/*
+ * The totals of up to 200 series: each amount times the quarter hours that it stands. It relies on nothing but its
+ * arguments, and looks at no document.
+ *
+ * kind, quarters  kind and N of the document, as answer[2] and answer[5] tell them.
+ * count           how many series, from the first row on; what stands past them in the tables is not looked at.
+ * series          rows of twelve numbers. Of these only the first interval row and the interval count are looked at.
+ * positions, amounts  as lumintayag_read_v3 leaves them.
+ * totals          two numbers for each series: totals[2 * i] is the whole number and totals[2 * i + 1] the
+ *                 thousandths of series i. Cells past the last series are 0.
+ * sum             two numbers: the total of all series. It depends on no order. Cells past the second are 0.
+ * Where totals_len or sum_len is smaller, the first numbers; the sum is that of all series all the same.
+ *
+ * In kinds 1 and 3 an amount stands one quarter hour; in kind 2 from its Pos to the one before the next Pos, the
+ * last one through N.
+ *
+ * It answers 0; or 17 for more than 200 series; or else 18 exactly when
+ * - kind is not 1 to 3;
+ * - quarters is not 92, 96 or 100 in kind 1, or not 1 to 35136 in kinds 2 and 3;
+ * - the series, or their rows, run past the tables;
+ * - the rows of a series do not begin where those of the one before end, those of the first at 0;
+ * - a series has not N rows with Pos 1 to N in kind 1; not 1 row at least, the first Pos 1 and each later one
+ *   higher than that before it, up to N, in kind 2; not 1 to 100 rows with Pos 1, 2 and so on, up to N, in kind 3;
+ * - an amount has 10^15 thousandths or more in size.
+ * On 17 and 18 all cells of totals and sum are 0. The tables of an accepted document of at most 200 series are never
+ * refused. Whether an amount is too large is all of the answer that depends on amounts.
+ *
+ * A total is made of prices. It goes into no note, and nothing of it is written anywhere but into totals and sum.
+ */
+uint32_t lumintayag_totals(uint32_t kind, uint32_t quarters, size_t count,
+                           const uint32_t *series, size_t series_len,
+                           const uint32_t *positions, size_t positions_len,
+                           const int64_t *amounts, size_t amounts_len,
+                           int64_t *totals, size_t totals_len,
+                           int64_t *sum, size_t sum_len);
 
 #ifdef __cplusplus
 }

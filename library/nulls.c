@@ -14,7 +14,9 @@ int main(void) {
     enum { OLD = LUMINTAYAG_NOTE_OLD, NEW = LUMINTAYAG_NOTE_NEW };
     uint8_t note[LUMINTAYAG_NOTE_ROOM], out[LUMINTAYAG_CONVERTED_ROOM];
     uint32_t answer[LUMINTAYAG_ANSWER_NUMBERS], six[LUMINTAYAG_NOTE_NUMBERS], two[LUMINTAYAG_CONVERTED_NUMBERS], numbers[ROW];
-    int64_t amounts[1];
+    static const uint32_t row[ROW] = {[LUMINTAYAG_INTERVAL_COUNT] = 1}, position[] = {1};
+    static const int64_t amount[] = {-1};
+    int64_t amounts[1], total[LUMINTAYAG_TOTAL_NUMBERS], sum[LUMINTAYAG_TOTAL_NUMBERS];
     int bad = wrong(lumintayag_version() != LUMINTAYAG_VERSION, "the version");
     bad |= wrong(lumintayag_read_v3(NULL, 0, numbers, ROW, numbers + ROW, 0, amounts, 1, OLD, note, sizeof note, answer, 7) != 3 || answer[LUMINTAYAG_PLACE] != 0, "no document");
     bad |= wrong(lumintayag_read_v3(root, 45, NULL, 0, NULL, 0, NULL, 0, OLD, note, sizeof note, answer, 7) != 3 || answer[LUMINTAYAG_PLACE] != 45, "no tables");
@@ -30,5 +32,10 @@ int main(void) {
     bad |= wrong(lumintayag_convert_note(told, sizeof told, NEW, out, sizeof out, NULL, 0) != 0 || out[0] != 100, "a note converted, no answer");
     bad |= wrong(lumintayag_convert_note(NULL, 0, OLD, NULL, 0, NULL, 0) != 10, "no note, nothing to convert into, no answer");
     bad |= wrong(lumintayag_readable_len(NULL, 0) != 0, "no document to walk");
+    bad |= wrong(lumintayag_totals(2, 1, 0, NULL, 0, NULL, 0, NULL, 0, total, 2, sum, 2) != 0 || total[LUMINTAYAG_WHOLE] != 0 || sum[LUMINTAYAG_WHOLE] != 0, "no series");
+    bad |= wrong(lumintayag_totals(2, 1, 1, NULL, 0, NULL, 0, NULL, 0, total, 2, sum, 2) != 18 || sum[LUMINTAYAG_THOUSANDTHS] != 0, "no tables to add up");
+    bad |= wrong(lumintayag_totals(2, 1, 1, row, ROW, position, 1, amount, 1, NULL, 0, sum, 2) != 0 || sum[LUMINTAYAG_WHOLE] != -1, "no totals");
+    bad |= wrong(lumintayag_totals(2, 1, 1, row, ROW, position, 1, amount, 1, total, 2, NULL, 0) != 0 || total[LUMINTAYAG_THOUSANDTHS] != 999, "no sum");
+    bad |= wrong(lumintayag_totals(2, 1, 201, NULL, 0, NULL, 0, NULL, 0, NULL, 0, NULL, 0) != 17, "nothing to add up");
     return bad;
 }

@@ -1,4 +1,4 @@
-//! An independent reader of document 01 and a generator of documents, to be held against the proved library.
+//! An independent reader of document 01 as 02 changes it, totals of 02, and generators of documents and of tables, to be held against the proved library.
 
 pub mod documents;
 pub mod model;
@@ -6,6 +6,8 @@ pub mod random;
 pub mod renaming;
 pub mod rows;
 pub mod spelling;
+pub mod tables;
+pub mod totals;
 pub mod values;
 
 #[cfg(test)]

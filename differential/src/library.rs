@@ -1,7 +1,8 @@
 //! The proved library, called as C calls it.
 
 use differential::model::{Lengths, Outcome};
-use lumintayag_sys::{lumintayag_convert_note, lumintayag_read_note_v2, lumintayag_read_v3};
+use differential::totals::{Added, Asked};
+use lumintayag_sys::{lumintayag_convert_note, lumintayag_read_note_v2, lumintayag_read_v3, lumintayag_totals};
 
 /// Cells after those that are lent; none of them may change.
 const GUARD: usize = 3;
@@ -68,4 +69,27 @@ pub fn convert(note: &[u8], shape: u32, room: usize, cells: usize) -> Result<(u3
     // Each length is at most that of the slice its pointer is from.
     let returned = unsafe { lumintayag_convert_note(note.as_ptr(), note.len(), shape, out.as_mut_ptr(), room, answer.as_mut_ptr(), cells) };
     Ok((returned, lent(answer, WORD)?, lent(out, BYTE)?))
+}
+
+pub fn add_up(asked: &Asked) -> Result<Added, &'static str> {
+    let (mut totals, mut sum) = (full(asked.totals, LONG), full(asked.sum, LONG));
+    // Each length is at most that of the slice its pointer is from.
+    let refusal = unsafe {
+        lumintayag_totals(
+            asked.kind,
+            asked.n,
+            asked.count,
+            asked.series.as_ptr(),
+            asked.series.len(),
+            asked.positions.as_ptr(),
+            asked.positions.len(),
+            asked.amounts.as_ptr(),
+            asked.amounts.len(),
+            totals.as_mut_ptr(),
+            asked.totals,
+            sum.as_mut_ptr(),
+            asked.sum,
+        )
+    };
+    Ok(Added { refusal, totals: lent(totals, LONG)?, sum: lent(sum, LONG)? })
 }

@@ -1,4 +1,4 @@
-//! Reads generated documents with the proved library and with the model, and stops at the first difference.
+//! Reads generated documents with the proved library and with the model, adds up their tables and generated ones, and stops at the first difference.
 //!
 //!     differential COUNT [SEED [FIRST]]
 //!
@@ -8,6 +8,8 @@ use differential::documents::{document, shape, Document};
 use differential::model::{self, Lengths, Outcome};
 use differential::random::Random;
 use differential::renaming::renamed;
+use differential::tables::tables;
+use differential::totals::{add_up, Asked, MOST_SERIES};
 use std::process::ExitCode;
 
 mod library;
@@ -24,6 +26,9 @@ struct Tally {
     renamed: u64,
     renamed_taken: u64,
     bytes: u64,
+    /// Tables of accepted documents that were added up, those refused with 17; and of generated tables 0, 17 and 18.
+    documents_added: [u64; 2],
+    tables: [u64; 3],
 }
 
 fn main() -> ExitCode {
@@ -35,11 +40,24 @@ fn main() -> ExitCode {
     }
     let seed = arguments.get(1).copied().unwrap_or(1);
     let first = arguments.get(2).copied().unwrap_or(0);
-    let mut tally = Tally { refusals: [0; 11], kinds: [0; 4], notes: notes::Tally::default(), renamed: 0, renamed_taken: 0, bytes: 0 };
+    let mut tally = Tally {
+        refusals: [0; 11],
+        kinds: [0; 4],
+        notes: notes::Tally::default(),
+        renamed: 0,
+        renamed_taken: 0,
+        bytes: 0,
+        documents_added: [0; 2],
+        tables: [0; 3],
+    };
     let Some(edges) = notes::edges() else { return ExitCode::FAILURE };
     for number in first..first.saturating_add(arguments[0]) {
         let made = document(seed, number);
-        if !same_reading(&made, seed, number, &mut tally) || !notes::same(seed, number, &mut tally.notes) || !same_renamed(&made, seed, number, &mut tally) {
+        if !same_reading(&made, seed, number, &mut tally)
+            || !notes::same(seed, number, &mut tally.notes)
+            || !same_renamed(&made, seed, number, &mut tally)
+            || !same_tables(seed, number, &mut tally)
+        {
             return ExitCode::FAILURE;
         }
     }
@@ -56,6 +74,8 @@ fn print_tally(count: u64, edges: usize, tally: &Tally) {
     println!("{edges} notes at the edges");
     println!("{} notes: {} old, {} new", tally.notes.all, tally.notes.old, tally.notes.new);
     println!("{} documents with other identifications, {} accepted", tally.renamed, tally.renamed_taken);
+    println!("tables of accepted documents: {} added up, refusal 17: {}", tally.documents_added[0], tally.documents_added[1]);
+    println!("generated tables: {} added up, refusal 17: {}, 18: {}", tally.tables[0], tally.tables[1], tally.tables[2]);
     println!("no difference");
 }
 
@@ -91,7 +111,7 @@ impl Call<'_> {
     }
 }
 
-/// The answer, all cells, the note, and the note read back.
+/// The answer, all cells, the note, and the note read back; of an accepted document the totals too.
 fn same_reading(made: &Document, seed: u64, number: u64, tally: &mut Tally) -> bool {
     let call = Call { doc: &made.bytes, lengths: &made.lengths, shape: shape(seed, number) };
     let expected = call.by_model();
@@ -99,7 +119,7 @@ fn same_reading(made: &Document, seed: u64, number: u64, tally: &mut Tally) -> b
     tally.refusals[expected.answer[0] as usize] += 1;
     tally.kinds[expected.answer[2] as usize] += u64::from(expected.answer[0] == 0);
     if !call.differs(&expected) {
-        return true;
+        return expected.answer[0] != 0 || same_totals_of(&expected, seed, number, tally);
     }
     println!("difference: seed {seed}, number {number}, {} bytes, {:?}, shape {}", made.bytes.len(), made.lengths, call.shape);
     call.print_both();
@@ -118,6 +138,41 @@ fn read_back(outcome: &Outcome) -> bool {
         && notes::converted_alike(note, 0, 24, 2)
         && notes::converted_alike(note, 1, 24, 2)
         && notes::there_and_back(note)
+}
+
+/// The tables of an accepted document are refused for nothing but too many series.
+fn same_totals_of(outcome: &Outcome, seed: u64, number: u64, tally: &mut Tally) -> bool {
+    let [_, _, kind, series, _, n, _] = outcome.answer;
+    let (series_table, positions, amounts) = (outcome.series.clone(), outcome.positions.clone(), outcome.amounts.clone());
+    let count = series as usize;
+    let asked = Asked { kind, n, count, series: series_table, positions, amounts, totals: 2 * count + 1, sum: 2 };
+    let many = count > MOST_SERIES;
+    tally.documents_added[usize::from(many)] += 1;
+    if add_up(&asked).refusal != if many { 17 } else { 0 } {
+        println!("difference: seed {seed}, number {number}, an accepted document of {count} series is not added up");
+        return false;
+    }
+    same_totals(&asked, seed, number)
+}
+
+fn same_tables(seed: u64, number: u64, tally: &mut Tally) -> bool {
+    let asked = tables(seed, number);
+    let refusal = add_up(&asked).refusal;
+    tally.tables[match refusal {
+        0 => 0,
+        17 => 1,
+        _ => 2,
+    }] += 1;
+    same_totals(&asked, seed, number)
+}
+
+fn same_totals(asked: &Asked, seed: u64, number: u64) -> bool {
+    let (expected, answered) = (add_up(asked), library::add_up(asked));
+    if answered.as_ref() == Ok(&expected) {
+        return true;
+    }
+    println!("difference: seed {seed}, number {number}, {asked:?}\nmodel:   {expected:?}\nlibrary: {answered:?}");
+    false
 }
 
 /// How many bytes are read at most to find a smaller document.

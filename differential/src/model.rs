@@ -35,8 +35,8 @@ pub const NEW_MARK: u32 = 100;
 pub const OLD: u32 = 0;
 /// "A series row grows from eight numbers to twelve"; the last two are "its first interval row; its interval count".
 pub const ROW: usize = 12;
-const FIRST: usize = 10;
-const COUNT: usize = 11;
+pub const FIRST: usize = 10;
+pub const COUNT: usize = 11;
 
 // ---------------------------------------------------------------- Items
 

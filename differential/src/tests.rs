@@ -1,9 +1,11 @@
 //! The examples of 01 and of the readings of its open points, held against the model alone.
 
 use crate::documents::{document, shape};
-use crate::model::{convert, identifications, read, read_in, read_note, Lengths, Outcome, LONGEST, ROW};
+use crate::model::{convert, identifications, read, read_in, read_note, Lengths, Outcome, COUNT, FIRST, LONGEST, ROW};
 use crate::random::Random;
 use crate::renaming::{clean, renamed};
+use crate::tables::tables;
+use crate::totals::{add_up, causes, Asked, Cause, CAUSES, MOST_SERIES, TOO_LARGE};
 
 const ROOM: Lengths = Lengths { series: 64 * ROW, positions: 2048, amounts: 2048, note: 16 };
 const ROOT: &str = "<Kostenblatt DtdBDEWNachrichtenVersion=\"1.0\">";
@@ -591,4 +593,107 @@ fn generated_shapes_and_depths() {
     }
     assert!(shapes.len() > 3 && shapes.contains_key(&0) && shapes.contains_key(&1), "{shapes:?}");
     assert!(depths.iter().all(|many| *many > 20), "{depths:?}");
+}
+
+/// A series for each list of Pos and thousandths, and cells for all totals.
+fn asked(kind: u32, n: u32, all: &[&[(u32, i64)]]) -> Asked {
+    let rows = all.concat();
+    let mut asked = Asked {
+        kind,
+        n,
+        count: all.len(),
+        series: vec![7; all.len() * ROW],
+        positions: rows.iter().map(|(pos, _)| *pos).collect(),
+        amounts: rows.iter().map(|(_, amount)| *amount).collect(),
+        totals: 2 * all.len(),
+        sum: 2,
+    };
+    let mut first = 0;
+    for (row, rows) in asked.series.chunks_mut(ROW).zip(all) {
+        (row[FIRST], row[COUNT]) = (first, rows.len() as u32);
+        first += rows.len() as u32;
+    }
+    asked
+}
+
+#[test]
+fn totals() {
+    let added = add_up(&asked(2, 4, &[&[(1, 12_500), (3, -1)], &[(1, -7)], &[(1, 1), (2, 0), (4, -1_000)]]));
+    assert_eq!((added.refusal, added.totals, added.sum), (0, vec![24, 998, -1, 972, -1, 1], vec![23, 971]));
+    assert_eq!(add_up(&asked(2, 1, &[&[(1, -1)]])).sum, [-1, 999]);
+    let of_three = add_up(&asked(3, 35_136, &[&[(1, 1), (2, -2_000)], &[(1, 5)]]));
+    assert_eq!((of_three.totals, of_three.sum), (vec![-2, 1, 0, 5], vec![-2, 6]));
+    let day: Vec<(u32, i64)> = (1..=92).map(|pos| (pos, i64::from(pos))).collect();
+    assert_eq!(add_up(&asked(1, 92, &[&day])).sum, [4, 278]);
+    let most = TOO_LARGE as i64 - 1;
+    assert_eq!(add_up(&asked(2, 35_136, &[&[(1, most)]])).sum, [35_135_999_999_999_964, 864]);
+    assert_eq!(add_up(&Asked { totals: 5, sum: 1, ..asked(2, 1, &[&[(1, -1)]]) }).totals, [-1, 999, 0, 0, 0]);
+    assert_eq!(add_up(&Asked { totals: 1, sum: 1, ..asked(2, 1, &[&[(1, -1)]]) }).totals, [-1]);
+    for kind in 1..=3 {
+        assert_eq!(add_up(&asked(kind, 96, &[])).refusal, 0, "no series of kind {kind}");
+    }
+}
+
+#[test]
+fn refusals_of_totals() {
+    let right = asked(2, 4, &[&[(1, 5), (4, 5)], &[(1, 5)]]);
+    assert_eq!(add_up(&Asked { count: MOST_SERIES + 1, kind: 9, ..right.clone() }).refusal, 17);
+    for (kind, n, refusal) in
+        [(1, 91, 18), (1, 92, 0), (1, 96, 0), (1, 100, 0), (1, 101, 18), (2, 0, 18), (2, 35_136, 0), (3, 35_137, 18), (0, 96, 18)]
+    {
+        assert_eq!(add_up(&asked(kind, n, &[])).refusal, refusal, "{kind} and {n}");
+    }
+    assert_eq!((causes(&right), causes(&Asked { n: 3, ..right.clone() })), (vec![], vec![Cause::Pos]));
+    for (rows, refusal) in [(0, 18), (1, 0), (100, 0), (101, 18)] {
+        let all: Vec<(u32, i64)> = (1..=rows).map(|pos| (pos, 5)).collect();
+        assert_eq!(add_up(&asked(3, 200, &[&all])).refusal, refusal, "{rows} rows of kind 3");
+    }
+    for (amount, refusal) in [(TOO_LARGE as i64 - 1, 0), (TOO_LARGE as i64, 18), (1 - TOO_LARGE as i64, 0), (-(TOO_LARGE as i64), 18), (i64::MIN, 18)]
+    {
+        assert_eq!(add_up(&asked(2, 4, &[&[(1, 5), (4, amount)]])).refusal, refusal);
+    }
+}
+
+/// By quarter hours one by one: "the last Pos not after it".
+#[test]
+fn totals_by_quarter_hours() {
+    let mut seen = 0;
+    for made in (0..4_000).map(|number| tables(6, number)).filter(|made| made.kind == 2 && made.n < 200) {
+        let added = add_up(&Asked { totals: 2 * MOST_SERIES, sum: 2, ..made.clone() });
+        if added.refusal != 0 {
+            continue;
+        }
+        for (row, told) in made.series.chunks_exact(ROW).take(made.count).zip(added.totals.chunks(2)) {
+            let rows = row[FIRST] as usize..(row[FIRST] + row[COUNT]) as usize;
+            let stands = |quarter: u32| rows.clone().rev().find(|k| made.positions[*k] <= quarter).map_or(0, |k| i128::from(made.amounts[k]));
+            assert_eq!((1..=made.n).map(stands).sum::<i128>(), 1000 * i128::from(told[0]) + i128::from(told[1]));
+            seen += 1;
+        }
+    }
+    assert!(seen > 500, "{seen}");
+}
+
+/// Each cause of 18 is the only one of many tables; 200 series are added up and 201 are not; what is lent is at times too short, at times too long.
+#[test]
+fn generated_tables() {
+    let (mut alone, mut kinds, mut refusals, mut most, mut lent) = ([0; CAUSES.len()], [0; 3], [0; 19], [0; 2], [0; 4]);
+    for number in 0..60_000 {
+        let made = tables(5, number);
+        let added = add_up(&made);
+        refusals[added.refusal as usize] += 1;
+        if let (18, [cause]) = (added.refusal, &causes(&made)[..]) {
+            alone[CAUSES.iter().position(|other| other == cause).unwrap_or(0)] += 1;
+        }
+        if added.refusal == 0 {
+            kinds[made.kind as usize - 1] += 1;
+            lent[usize::from(made.totals < 2 * made.count)] += 1;
+            lent[2 + usize::from(made.sum < 2)] += 1;
+        }
+        most[0] += usize::from(made.count == MOST_SERIES && added.refusal == 0);
+        most[1] += usize::from(made.count == MOST_SERIES + 1 && causes(&made).is_empty());
+    }
+    assert!(alone.iter().all(|many| *many > 100), "{alone:?}");
+    assert!(kinds.iter().chain(&lent).all(|many| *many > 1_000) && most.iter().all(|many| *many > 50), "{kinds:?} {lent:?} {most:?}");
+    assert!([0, 17, 18].iter().all(|refusal| refusals[*refusal] > 500), "{refusals:?}");
+    assert_eq!(tables(5, 77), tables(5, 77));
 }

@@ -1,8 +1,10 @@
 //! Reads whole documents by the document reader (validation, tables, note), beside the bare events of expat, quick-xml and libxml2, libxml2's judgement by
-//! the XML Schemas of `peers/`, as a tree and as a stream, and plain scans of the bytes.
-use lumintayag_sys::lumintayag_read_v3;
+//! the XML Schemas of `peers/`, as a tree and as a stream, and plain scans of the bytes. At the end it adds up full tables, for which there is no peer.
+use lumintayag_sys::{lumintayag_read_v3, lumintayag_totals};
 use side_by_side::{best, document, grouped, peers, print_head, print_row, short, worst, Walk};
 use std::cell::RefCell;
+use std::hint::black_box;
+use std::time::Instant;
 
 /// What is lent. All of it is cleared by the reader, so that its size counts.
 struct Lent {
@@ -145,8 +147,61 @@ fn hostile() {
     }
 }
 
+/// Milliseconds for 200 series of so many rows each, with Pos 1, 2 and so on.
+fn added_up(kind: u32, n: u32, rows: u32) -> f64 {
+    const SERIES: u32 = 200;
+    let row = |i: u32| [0, 0, 0, 0, 0, 0, 0, 0, 0, 0, i * rows, rows];
+    let series: Vec<u32> = (0..SERIES).flat_map(row).collect();
+    let positions: Vec<u32> = (0..SERIES).flat_map(|_| 1..=rows).collect();
+    let amounts: Vec<i64> = positions.iter().map(|&pos| 999_999_999_999_999 - 1_000_003 * i64::from(pos)).collect();
+    let (mut totals, mut sum) = ([0; 400], [0; 2]);
+    let mut add = || unsafe {
+        lumintayag_totals(
+            kind,
+            n,
+            SERIES as usize,
+            series.as_ptr(),
+            series.len(),
+            positions.as_ptr(),
+            positions.len(),
+            amounts.as_ptr(),
+            amounts.len(),
+            totals.as_mut_ptr(),
+            totals.len(),
+            sum.as_mut_ptr(),
+            sum.len(),
+        )
+    };
+    let rounds = 20 + 4_000 / rows;
+    let quickest = (0..rounds).map(|_| {
+        let began = Instant::now();
+        assert!(black_box(add()) == 0, "the tables are refused");
+        began.elapsed().as_secs_f64()
+    });
+    quickest.fold(f64::MAX, f64::min) * 1e3
+}
+
+fn tables() {
+    print_head(&["totals of 200 series", "rows", "ms", "ns a row"]);
+    for (what, kind, n, rows) in [
+        ("kind 2, one Pos in 366 days", 2, 35_136, 1),
+        ("kind 2, a Pos for each quarter hour of a day", 2, 96, 96),
+        ("kind 1, 100 quarter hours", 1, 100, 100),
+        ("kind 3, 100 intervals", 3, 100, 100),
+        ("kind 2, a Pos for each quarter hour of 366 days", 2, 35_136, 35_136),
+    ] {
+        let (ms, all) = (added_up(kind, n, rows), 200 * rows as usize);
+        print_row(&[what.to_string(), grouped(all), format!("{ms:.4}"), short(ms * 1e6 / all as f64)]);
+    }
+}
+
 fn main() {
+    if std::env::args().nth(1).as_deref() == Some("totals") {
+        return tables();
+    }
     sheets();
     println!();
     hostile();
+    println!();
+    tables();
 }

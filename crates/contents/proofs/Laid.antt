@@ -165,7 +165,7 @@ all-at (t ∷ ts) h zero = both-true t h .0
 all-at (t ∷ ts) h (suc i) = all-at ts (both-true t h .1) i
 
 -- the first row with n in a column
-abbrev rowBy : (ℕ → ℕ) → ℕ → List ℕ → ℕ
+abbrev pub rowBy : (ℕ → ℕ) → ℕ → List ℕ → ℕ
 rowBy column n [] = 0
 rowBy column n (w ∷ ws) = cond (eqb (column w) n) 0 (suc (rowBy column n ws))
 

@@ -1,6 +1,7 @@
 pub mod Tests
 pub mod Lists
 pub mod Laid
+pub mod Covered
 pub mod Elements
 pub mod Shape
 pub mod Walk
@@ -12,6 +13,7 @@ pub mod Steps
 pub mod Rooted
 pub mod Moved
 pub mod Items
+pub mod Amounts
 pub mod Bridge
 pub mod Tallies
 pub mod Segments
@@ -26,5 +28,6 @@ pub mod Series
 pub mod Rows
 pub mod Shown
 pub mod Unused
+pub mod Totals
 pub mod Theorems
 pub mod Examples

@@ -59,7 +59,7 @@ drop-next (c ∷ doc) (suc at) b l e = drop-next doc at b l e
 -- ---- lists of which each passes
 
 module _ {A : Type 0} where
-  all-join : (P : A → Type 0) (a b : List A) → All P a → All P b → All P (a ++ b)
+  pub all-join : (P : A → Type 0) (a b : List A) → All P a → All P b → All P (a ++ b)
   unfolding All
   all-join P [] b h k = k
   all-join P (x ∷ a) b h k = (h .0, all-join P a b (h .1) k)

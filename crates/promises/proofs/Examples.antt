@@ -3,6 +3,7 @@ use Prim.Native.Nat.{ℕ, _≤_}
 use mathlib.Core.List.{List, [], _∷_}
 use mathlib.Core.Path.{_≡_, refl, ap}
 use native.Mathlib.Omega.{arith}
+use lib.ListN.{length}
 use Rattle.slices.specs.Bytes.{byte}
 use Rattle.slices.specs.Run.{run}
 use Rattle.slices.specs.Same.{same, begins}
@@ -121,6 +122,15 @@ refusalIn o = o .answer .refusal
 
 abbrev placeIn : Outcome → ℕ
 placeIn o = o .answer .place
+
+pub sheet-accepted : readOf sheet 25 4 4 Old 16 .answer .refusal ≡ 0
+sheet-accepted = ap (λ (o : Outcome). o .answer .refusal) sheet-read
+
+pub sheet-short : length sheet ≤ 1048576
+sheet-short =
+    let p : readOf sheet 25 4 4 Old 16 .answer .place ≡ 1387 = ap (λ (o : Outcome). o .answer .place) sheet-read in
+    let l = accepted-whole sheet 25 4 4 Old 16 sheet-accepted in
+    omega (arith, p, l)
 
 pub sheet-content : (kind : ℕ) × (c : Trees TagSaid) × Spells sheet kind c × Legal kind c × HasRoom (roomOf 25 4 4) kind c
 sheet-content = let p = ap placeIn sheet-read in content-of sheet 25 4 4 (ap refusalIn sheet-read) (omega (arith, p))

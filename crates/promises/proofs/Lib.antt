@@ -1,3 +1,4 @@
+pub mod Totals
 pub mod Promises
 pub mod Examples
 pub mod Refusals

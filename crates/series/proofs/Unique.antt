@@ -5,10 +5,13 @@ use mathlib.Core.Bool.{Bool}
 use mathlib.Core.List.{List}
 use Rattle.lists.proofs.Unique.{one}
 use Rattle.series.specs.declared.Field.{Field}
-use Rattle.series.specs.Row.{isView, dropsSpaces, roomFor, withField, withView, view}
+use Rattle.series.specs.Row.{isView, dropsSpaces, roomFor, fieldAt, withField, withView, view}
 
 pub rows-in-one : (n : ℕ) {r r′ : ℕ} → r ≡ roomFor n → r′ ≡ roomFor n → r ≡ r′
 rows-in-one n = one
+
+pub field-of-one : (t : List ℕ) (row : ℕ) (f : Field) {r r′ : ℕ} → r ≡ fieldAt t row f → r′ ≡ fieldAt t row f → r ≡ r′
+field-of-one t row f = one
 
 pub set-field-one : (t : List ℕ) (row : ℕ) (f : Field) (n : ℕ) {r r′ : List ℕ} → r ≡ withField t row f n → r′ ≡ withField t row f n → r ≡ r′
 set-field-one t row f n = one

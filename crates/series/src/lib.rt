@@ -4,7 +4,7 @@ use tables::set_number;
 ghost use mathlib.Core.Path.{_≡_};
 ghost use Prim.Native.Nat.{_≤_, _<_};
 ghost use lib.ListN.{getD};
-ghost use Rattle.series.specs.Row.{cellOf, isView, dropsSpaces, rowWidth, roomFor, cellAt, withField, withView, view};
+ghost use Rattle.series.specs.Row.{cellOf, isView, dropsSpaces, rowWidth, roomFor, cellAt, fieldAt, withField, withView, view};
 
 // The fields of a row, in their order. The first five are views: start and length in two cells.
 pub enum Field {
@@ -83,6 +83,13 @@ fn number_at(t: &[u32], i: usize) -> u32
     ensures { λ r. ⌜ r ≡ getD (now (t .entry)) i 0 ⌝ }
 {
     if i < t.len() { t[i] } else { 0 }
+}
+
+// The number in a field of a row, and 0 past the end of the table. Ruled out: another row's number, and that of another field.
+pub fn field_of(t: &[u32], row: u32, f: Field) -> u32
+    ensures { λ r. ⌜ r ≡ fieldAt (now (t .entry)) row f ⌝ }
+{
+    number_at(t, cell_at(row, f))
 }
 
 // Sets a field of a row to n. Ruled out: another row's field set, and another field of the row.

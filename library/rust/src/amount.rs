@@ -41,27 +41,31 @@ impl fmt::Debug for Amount {
 impl fmt::Display for Amount {
     fn fmt(&self, f: &mut fmt::Formatter<'_>) -> fmt::Result {
         let size = self.0.unsigned_abs();
-        let (whole, rest) = (size / 1000, size % 1000);
-        let needed = match rest {
-            0 => 0,
-            _ if rest % 100 == 0 => 1,
-            _ if rest % 10 == 0 => 2,
-            _ => 3,
-        };
-        let mut text = Text { bytes: [0; 20], len: 0 };
-        match f.precision().unwrap_or(0).max(needed) {
-            0 => write!(text, "{whole}"),
-            1 => write!(text, "{whole}.{}", rest / 100),
-            2 => write!(text, "{whole}.{:02}", rest / 10),
-            _ => write!(text, "{whole}.{rest:03}"),
-        }?;
-        f.pad_integral(self.0 >= 0, "", text.as_str())
+        decimal(f, self.0 < 0, size / 1000, size % 1000)
     }
 }
 
-/// A line that is short enough for every i64 with a point in it.
+/// A number as the type's own page says it: a sign, the whole part of its size, and thousandths from 0 to 999.
+pub(crate) fn decimal(f: &mut fmt::Formatter<'_>, negative: bool, whole: u64, rest: u64) -> fmt::Result {
+    let needed = match rest {
+        0 => 0,
+        _ if rest % 100 == 0 => 1,
+        _ if rest % 10 == 0 => 2,
+        _ => 3,
+    };
+    let mut text = Text { bytes: [0; 24], len: 0 };
+    match f.precision().unwrap_or(0).max(needed) {
+        0 => write!(text, "{whole}"),
+        1 => write!(text, "{whole}.{}", rest / 100),
+        2 => write!(text, "{whole}.{:02}", rest / 10),
+        _ => write!(text, "{whole}.{rest:03}"),
+    }?;
+    f.pad_integral(!negative, "", text.as_str())
+}
+
+/// A line that is short enough for every u64, a point and three digits.
 struct Text {
-    bytes: [u8; 20],
+    bytes: [u8; 24],
     len: usize,
 }
 

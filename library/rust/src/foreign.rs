@@ -2,8 +2,9 @@
 //! also where the length is 0, and a slice that is written to overlaps no other. So nothing outside this file has to be unsafe to call them.
 #![allow(unsafe_code)]
 
+use crate::sheet::Tables;
 use crate::Shape;
-use lumintayag_sys::{lumintayag_convert_note, lumintayag_read_note_v2, lumintayag_read_v3};
+use lumintayag_sys::{lumintayag_convert_note, lumintayag_read_note_v2, lumintayag_read_v3, lumintayag_totals};
 
 /// A longer document is refused with 1.
 pub const DOCUMENT_MOST: usize = 1_048_576;
@@ -13,12 +14,15 @@ pub const SERIES_ROW: usize = 12;
 pub const SERIES_ROOM: usize = 2_635;
 /// Intervals that are room for every document.
 pub const INTERVALS_ROOM: usize = 23_302;
+/// Series that are added up at most; more are refused with 17.
+pub const TOTALS_MOST: usize = 200;
 
 /// Bytes that the converter asks of the buffer it writes to, which are room for every note. The reader asks for 16.
 pub(crate) const NOTE_ROOM: usize = 24;
 const ANSWER_NUMBERS: usize = 7;
 pub(crate) const NOTE_NUMBERS: usize = 6;
 const CONVERTED_NUMBERS: usize = 2;
+pub(crate) const TOTAL_NUMBERS: usize = 2;
 
 /// The seven numbers of the answer.
 pub(crate) fn read(
@@ -66,4 +70,27 @@ pub(crate) fn convert_note(note: &[u8], shape: Shape) -> Option<([u8; NOTE_ROOM]
     let refusal =
         unsafe { lumintayag_convert_note(note.as_ptr(), note.len(), shape.number(), out.as_mut_ptr(), out.len(), answer.as_mut_ptr(), answer.len()) };
     (refusal == 0).then_some((out, answer[1] as usize))
+}
+
+/// Adds up the first `count` series, and answers the refusal.
+pub(crate) fn totals(kind: u32, quarters: u32, count: usize, tables: Tables<'_>, totals: &mut [i64], sum: &mut [i64]) -> u32 {
+    let Tables { series, positions, amounts } = tables;
+    // SAFETY: each pointer comes with the length of the slice that it is of, and Rust lends the written ones to nobody else.
+    unsafe {
+        lumintayag_totals(
+            kind,
+            quarters,
+            count,
+            series.as_ptr(),
+            series.len(),
+            positions.as_ptr(),
+            positions.len(),
+            amounts.as_ptr(),
+            amounts.len(),
+            totals.as_mut_ptr(),
+            totals.len(),
+            sum.as_mut_ptr(),
+            sum.len(),
+        )
+    }
 }

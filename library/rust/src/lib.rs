@@ -45,6 +45,12 @@
 //! and MeasurementUnit are the same; the last one is not in the tables yet. Quarter hours count from 1, the first of TimePeriodCovered, which need
 //! not begin at midnight, and [`Series::amount_at`] has no amount past the last one, nor in a NetworkConstraintDocument past the last Pos of the series.
 //!
+//! # Totals
+//!
+//! [`Sheet::totals`] adds up each series of a sheet, and all of them: every amount times the quarter hours that it stands. A [`Total`] is exact, and
+//! totals of several sheets are added with [`Total::checked_add`]. What the sum of amounts means is for the caller to say, who knows their units:
+//! megawatts times quarter hours are quarters of megawatt hours.
+//!
 //! # What is not judged
 //!
 //! Dependencies that the format descriptions tell in prose, but for those that the build scope or a request lists (`docs/GUIDELINE.md`, section 7.3). An accepted
@@ -52,9 +58,9 @@
 //!
 //! # What gets into a log
 //!
-//! `Debug` of every type here tells kinds, counts and places, and no byte of a document and no amount; nor does the text of an error. `Display` of
-//! [`Amount`], and what the methods of [`Series`] answer, is what the caller asked for. [`OwnedSheet`] is wiped when it is dropped, and [`wipe`] is
-//! for memory of the caller's own. `docs/PRIVACY.md` says what is left to the caller: swap, core dumps, copies.
+//! `Debug` of every type here tells kinds, counts and places, and no byte of a document, no amount and no total; nor does the text of an error. `Display`
+//! of [`Amount`] and of [`Total`], and what the methods of [`Series`] answer, is what the caller asked for. [`OwnedSheet`] and [`Totals`] are wiped when
+//! they are dropped, and [`wipe`] is for memory of the caller's own. `docs/PRIVACY.md` says what is left to the caller: swap, core dumps, copies.
 //!
 //! # Features and requirements
 //!
@@ -80,15 +86,17 @@ mod numbers;
 mod owned;
 mod room;
 mod sheet;
+mod totals;
 mod wipe;
 
 pub use amount::Amount;
 pub use answer::{read, read_with_shape, Accepted, Lent, Refused};
-pub use foreign::{DOCUMENT_MOST, INTERVALS_ROOM, SERIES_ROOM, SERIES_ROW};
+pub use foreign::{DOCUMENT_MOST, INTERVALS_ROOM, SERIES_ROOM, SERIES_ROW, TOTALS_MOST};
 pub use note::{read_note, NotOneNote, Note, Shape};
 pub use numbers::{Kind, Refusal};
 #[cfg(feature = "alloc")]
 pub use owned::OwnedSheet;
 pub use room::Room;
-pub use sheet::{ByQuarter, Intervals, Series, SeriesIter, Sheet};
+pub use sheet::{ByQuarter, Intervals, Series, SeriesIter, Sheet, Tables};
+pub use totals::{totals, Total, Totals};
 pub use wipe::wipe;

@@ -1,4 +1,5 @@
 //! The numbers of the build scope that have names: kinds and refusals.
+use core::error::Error;
 use core::fmt;
 
 /// What a document is.
@@ -62,7 +63,8 @@ impl fmt::Display for Kind {
     }
 }
 
-/// Why a document, or a note, is refused. The first item with a fault decides; where it has several, the smallest number.
+/// Why a document, a note, or tables that are to be added up are refused. In a document the first item with a fault decides; where it has several, the
+/// smallest number.
 #[derive(Clone, Copy, Debug, PartialEq, Eq, Hash)]
 #[non_exhaustive]
 pub enum Refusal {
@@ -88,6 +90,10 @@ pub enum Refusal {
     NoteTooShort,
     /// 11: the bytes aren't one note. [`read_note`](crate::read_note) tells it by its own error.
     NotOneNote,
+    /// 17: more than [`TOTALS_MOST`](crate::TOTALS_MOST) series are to be added up.
+    TooManySeries,
+    /// 18: a kind, N, rows, a Pos or an amount that is against the rules of the kind. Tables that the reader left are never refused with it.
+    WrongTables,
     /// A refusal that this version of the crate has no name for. Do not match it: a later version may have a name, and [`number`](Refusal::number)
     /// stays.
     #[non_exhaustive]
@@ -110,6 +116,8 @@ impl Refusal {
             9 => Refusal::UsedBefore,
             10 => Refusal::NoteTooShort,
             11 => Refusal::NotOneNote,
+            17 => Refusal::TooManySeries,
+            18 => Refusal::WrongTables,
             _ => Refusal::Other(number),
         })
     }
@@ -128,12 +136,14 @@ impl Refusal {
             Refusal::UsedBefore => 9,
             Refusal::NoteTooShort => 10,
             Refusal::NotOneNote => 11,
+            Refusal::TooManySeries => 17,
+            Refusal::WrongTables => 18,
             Refusal::Other(number) => number,
         }
     }
 }
 
-/// In the words of the program that explains notes.
+/// In the words of the program that explains notes; 17 and 18 are in no note.
 impl fmt::Display for Refusal {
     fn fmt(&self, f: &mut fmt::Formatter<'_>) -> fmt::Result {
         f.pad(match self {
@@ -148,7 +158,11 @@ impl fmt::Display for Refusal {
             Refusal::UsedBefore => "a TimeSeriesIdentification was used before",
             Refusal::NoteTooShort => "the note buffer has fewer than 16 bytes",
             Refusal::NotOneNote => "the bytes are not one note",
+            Refusal::TooManySeries => "more than 200 series are to be added up",
+            Refusal::WrongTables => "the kind, the quarter hours or the tables to be added up are against the rules of the kind",
             Refusal::Other(_) => "an unknown refusal",
         })
     }
 }
+
+impl Error for Refusal {}

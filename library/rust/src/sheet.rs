@@ -1,5 +1,5 @@
 //! The tables of an accepted document, row by row.
-use crate::{Amount, Kind, SERIES_ROW};
+use crate::{totals, Amount, Kind, Refusal, Totals, SERIES_ROW};
 use core::fmt;
 use core::iter::FusedIterator;
 use core::ops::Range;
@@ -10,12 +10,26 @@ fn part<T>(all: &[T], start: u32, len: u32) -> Option<&[T]> {
     all.get(start..start.checked_add(len as usize)?)
 }
 
-/// The three tables.
+/// The three tables, filled: what was [lent](crate::Lent), to be [added up](crate::totals()) by a caller who keeps the tables and not the [`Sheet`].
 #[derive(Clone, Copy, PartialEq, Eq)]
-pub(crate) struct Tables<'a> {
-    pub(crate) series: &'a [u32],
-    pub(crate) positions: &'a [u32],
-    pub(crate) amounts: &'a [i64],
+pub struct Tables<'a> {
+    /// [`SERIES_ROW`] numbers for each series.
+    pub series: &'a [u32],
+    /// One number for each interval.
+    pub positions: &'a [u32],
+    /// One amount for each interval, in thousandths.
+    pub amounts: &'a [i64],
+}
+
+/// How long the tables are, and nothing of what they hold.
+impl fmt::Debug for Tables<'_> {
+    fn fmt(&self, f: &mut fmt::Formatter<'_>) -> fmt::Result {
+        f.debug_struct("Tables")
+            .field("series", &self.series.len())
+            .field("positions", &self.positions.len())
+            .field("amounts", &self.amounts.len())
+            .finish()
+    }
 }
 
 impl<'a> Tables<'a> {
@@ -104,6 +118,29 @@ impl<'a> Sheet<'a> {
     /// The series, in document order.
     pub fn iter(&self) -> SeriesIter<'a> {
         SeriesIter { sheet: *self, rest: 0..self.len() }
+    }
+
+    /// The total of each series and of all of them: every amount times the quarter hours that it stands.
+    ///
+    /// ```
+    /// # #[cfg(feature = "alloc")] {
+    /// # let document = include_bytes!(concat!(env!("CARGO_MANIFEST_DIR"), "/../../crates/samples_run/data/two-plain.xml")).to_vec();
+    /// # let kept = lumintayag::OwnedSheet::read(document)?;
+    /// # let sheet = kept.sheet();
+    /// let totals = sheet.totals()?;
+    /// for (series, total) in sheet.iter().zip(totals.iter()) {
+    ///     println!("{}: {total}", series.identification());
+    /// }
+    /// assert_eq!(totals.get(0), Some(totals.sum()), "one series is all of them");
+    /// # }
+    /// # Ok::<(), Box<dyn std::error::Error>>(())
+    /// ```
+    ///
+    /// # Errors
+    ///
+    /// [`Refusal::TooManySeries`] for a sheet of more than [`TOTALS_MOST`](crate::TOTALS_MOST) series, and nothing else.
+    pub fn totals(&self) -> Result<Totals, Refusal> {
+        totals(self.kind, self.quarters, self.len(), self.tables)
     }
 }
 

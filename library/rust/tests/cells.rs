@@ -31,11 +31,26 @@ extern "C" {
         answer: *mut u32,
         answer_len: usize,
     ) -> u32;
+    fn lumintayag_totals(
+        kind: u32,
+        quarters: u32,
+        count: usize,
+        series: *const u32,
+        series_len: usize,
+        positions: *const u32,
+        positions_len: usize,
+        amounts: *const i64,
+        amounts_len: usize,
+        totals: *mut i64,
+        totals_len: usize,
+        sum: *mut i64,
+        sum_len: usize,
+    ) -> u32;
 }
 
 /// The numbers as far as there are cells, 0 in the cells after them, and old numbers past the slice.
-fn expected(numbers: &[u32], len: usize) -> Vec<u32> {
-    (0..12).map(|i| if i >= len { 77 } else { numbers.get(i).copied().unwrap_or(0) }).collect()
+fn expected<T: Copy + From<u8>>(numbers: &[T], len: usize) -> Vec<T> {
+    (0..12).map(|i| if i >= len { T::from(77) } else { numbers.get(i).copied().unwrap_or(T::from(0)) }).collect()
 }
 
 #[test]
@@ -137,6 +152,44 @@ fn a_converted_note_of_every_size() {
             let (refusal, written) = if room < 24 { (10, none) } else { (if written.is_empty() { 11 } else { 0 }, written) };
             assert_eq!((said, answer.to_vec()), (refusal, expected(&[refusal, written.len() as u32], len)));
             assert!(out.starts_with(written) && out[written.len()..room].iter().all(|&b| b == 0) && out[room..].iter().all(|&b| b == 77));
+        }
+    }
+}
+
+#[test]
+fn totals_of_every_size() {
+    let mut series = [0; 3 * SERIES_ROW];
+    for (i, (first, count)) in [(0, 2), (2, 1), (3, 3)].into_iter().enumerate() {
+        (series[SERIES_ROW * i + 10], series[SERIES_ROW * i + 11]) = (first, count);
+    }
+    let (positions, amounts) = ([1, 3, 1, 1, 2, 4], [12_500, -1, -7, 1, 0, -1_000]);
+    let told = [24, 998, -1, 972, -1, 1, 23, 971]; // 24.998, -0.028 and -0.999; all of them 23.971
+    for len in 0..=12 {
+        for sum_len in 0..=12 {
+            for (quarters, refusal) in [(4, 0), (3, 18)] {
+                let (mut totals, mut sum) = ([77; 12], [77; 12]);
+                // SAFETY: no length is more than that of the array.
+                let said = unsafe {
+                    lumintayag_totals(
+                        2,
+                        quarters,
+                        3,
+                        series.as_ptr(),
+                        series.len(),
+                        positions.as_ptr(),
+                        6,
+                        amounts.as_ptr(),
+                        6,
+                        totals.as_mut_ptr(),
+                        len,
+                        sum.as_mut_ptr(),
+                        sum_len,
+                    )
+                };
+                let (each, all): (&[i64], &[i64]) = if refusal == 0 { told.split_at(6) } else { (&[], &[]) };
+                assert_eq!(said, refusal);
+                assert!(totals.to_vec() == expected(each, len) && sum.to_vec() == expected(all, sum_len), "{len} and {sum_len} cells");
+            }
         }
     }
 }

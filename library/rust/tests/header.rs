@@ -2,7 +2,7 @@
 mod common;
 
 use common::{two_plants, Desk};
-use lumintayag::{Kind, Refusal, Series, Shape, DOCUMENT_MOST, INTERVALS_ROOM, SERIES_ROOM, SERIES_ROW};
+use lumintayag::{Kind, Refusal, Series, Shape, DOCUMENT_MOST, INTERVALS_ROOM, SERIES_ROOM, SERIES_ROW, TOTALS_MOST};
 
 /// The number that the header defines by a name, also in an enum.
 fn defined(name: &str) -> usize {
@@ -18,6 +18,7 @@ fn sizes() {
     assert_eq!(defined("LUMINTAYAG_SERIES_ROW"), SERIES_ROW);
     assert_eq!(defined("LUMINTAYAG_SERIES_ROOM"), SERIES_ROOM);
     assert_eq!(defined("LUMINTAYAG_INTERVALS_ROOM"), INTERVALS_ROOM);
+    assert_eq!(defined("LUMINTAYAG_TOTALS_MOST"), TOTALS_MOST);
 }
 
 /// What the cells that the header names show is what the crate shows.
@@ -65,6 +66,8 @@ fn kinds_and_refusals() {
         ("USED_BEFORE", Refusal::UsedBefore),
         ("NOTE_TOO_SHORT", Refusal::NoteTooShort),
         ("NOT_ONE_NOTE", Refusal::NotOneNote),
+        ("TOO_MANY_SERIES", Refusal::TooManySeries),
+        ("WRONG_TABLES", Refusal::WrongTables),
     ];
     for (name, refusal) in refusals {
         assert_eq!(defined(&format!("LUMINTAYAG_{name}")), refusal.number() as usize, "{name}");

@@ -2,7 +2,7 @@
 mod common;
 
 use common::*;
-use lumintayag::{read_note, Room, Shape};
+use lumintayag::{read_note, totals, Kind, Room, Shape, Tables};
 use std::fmt::Debug;
 
 /// Both forms of `Debug`.
@@ -21,15 +21,25 @@ fn sheet() -> String {
 }
 
 /// Names, objects, Direction, area, and each four digits of a price, which no count and no place of this sheet has. A price in thousandths has them too.
+/// Those of a total are not in the document.
 fn secrets() -> Vec<String> {
     let digits = PRICES.map(|price| price.chars().filter(char::is_ascii_digit).collect::<Vec<_>>());
     let fours = digits.iter().flat_map(|price| price.windows(4)).map(|four| four.iter().collect());
     fours.chain(NAMES.into_iter().chain(OBJECTS).chain([DIRECTION, AREA]).map(String::from)).collect()
 }
 
+/// Each four digits of the whole numbers that the totals of the sheet have.
+fn total_secrets(doc: &str, desk: &mut Desk) -> Vec<String> {
+    let totals = desk.read(doc.as_bytes()).expect("accepted").sheet.totals().expect("totals");
+    let told: Vec<_> = totals.iter().chain([totals.sum()]).map(|total| total.whole().to_string()).collect();
+    told.iter().flat_map(|digits| digits.as_bytes().windows(4)).map(|four| String::from_utf8_lossy(four).into_owned()).collect()
+}
+
 /// One text for each public type, with its name.
 fn all(doc: &str, desk: &mut Desk, refused: &mut Desk) -> Vec<(&'static str, String)> {
     assert!(desk.read(doc.as_bytes()).is_ok());
+    let tables = Tables { series: &desk.series, positions: &desk.positions, amounts: &desk.amounts };
+    let added = formatted(&tables) + &formatted(&totals(Kind::Kostenblatt, 95, 2, tables)) + &formatted(&totals(Kind::Kostenblatt, 80, 2, tables));
     let lent = formatted(&desk.lent());
     let refusal = refused.read(&doc.as_bytes()[..doc.len() - 1]).expect_err("a cut");
     let deep = refused.read_in(Shape::New, &doc.as_bytes()[..doc.len() - 1]).expect_err("a cut").note();
@@ -37,6 +47,7 @@ fn all(doc: &str, desk: &mut Desk, refused: &mut Desk) -> Vec<(&'static str, Str
     let accepted = answer.expect("accepted");
     let (sheet, note) = (accepted.sheet, accepted.note);
     let series = sheet.get(0).expect("a series");
+    let totals = sheet.totals().expect("totals");
     let mut all = vec![
         ("Lent", lent),
         ("Accepted", formatted(&accepted) + &formatted(&answer)),
@@ -53,6 +64,9 @@ fn all(doc: &str, desk: &mut Desk, refused: &mut Desk) -> Vec<(&'static str, Str
         ("Intervals", formatted(&series.intervals())),
         ("ByQuarter", formatted(&series.by_quarter())),
         ("Amount", formatted(&series.amount_at(1)) + &formatted(&series.intervals().collect::<Vec<_>>())),
+        ("Tables", added),
+        ("Totals", formatted(&totals) + &formatted(&sheet.totals())),
+        ("Total", formatted(&totals.sum()) + &formatted(&totals.iter().collect::<Vec<_>>()) + &formatted(&totals.get(1))),
     ];
     #[cfg(feature = "alloc")]
     all.push(("OwnedSheet", formatted(&lumintayag::OwnedSheet::read(doc.into()))));
@@ -83,6 +97,11 @@ fn no_byte_of_a_document_and_no_amount() {
         assert!(digits.contains(secret), "secret {k} is in the document");
         for (name, text) in &texts {
             assert!(!text.contains(secret), "{name} tells secret {k}");
+        }
+    }
+    for (k, secret) in total_secrets(&doc, &mut Desk::large()).iter().enumerate() {
+        for (name, text) in &texts {
+            assert!(!text.contains(secret), "{name} tells digits {k} of the totals");
         }
     }
 }

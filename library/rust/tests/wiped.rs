@@ -1,4 +1,5 @@
-//! Memory is given back empty. The allocator of this program looks for a price, as digits and as thousandths, in each block that it takes back.
+//! Memory is given back empty. The allocator of this program looks for a price, as digits and as thousandths, and for the total of a sheet, in each block
+//! that it takes back.
 #![allow(unsafe_code)]
 mod common;
 
@@ -11,9 +12,12 @@ use std::panic::{catch_unwind, resume_unwind};
 
 const PRICE: &str = "847362514.938";
 const THOUSANDTHS: i64 = 847_362_514_938;
+/// The whole number of the price for a quarter hour and 5 for 95.
+const TOTAL: i64 = 847_362_989;
 
 fn holds_price(block: &[u8]) -> bool {
-    [PRICE.as_bytes(), &THOUSANDTHS.to_ne_bytes()].iter().any(|secret| block.windows(secret.len()).any(|window| window == *secret))
+    let secrets = [PRICE.as_bytes(), &THOUSANDTHS.to_ne_bytes(), &TOTAL.to_ne_bytes()];
+    secrets.iter().any(|secret| block.windows(secret.len()).any(|window| window == *secret))
 }
 
 thread_local! {
@@ -78,6 +82,16 @@ fn a_kept_sheet_is_wiped() {
         assert!(holds_price(kept.document()));
         assert_eq!(given_back(|| drop(kept)).1, (0, 4), "the document and its tables");
     }
+}
+
+#[test]
+fn totals_are_wiped() {
+    let kept = OwnedSheet::read(document("")).expect("accepted");
+    let totals = black_box(Box::new(kept.sheet().totals().expect("totals")));
+    assert!(totals.get(0) == Some(totals.sum()) && totals.sum().whole() == TOTAL);
+    let copied = black_box(vec![totals.sum().whole()]);
+    assert_eq!(given_back(|| drop(totals)).1, (0, 1));
+    assert_eq!(given_back(|| drop(copied)).1, (1, 1), "what is taken out of it is not wiped");
 }
 
 #[test]

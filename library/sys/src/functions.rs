@@ -1,7 +1,7 @@
 //! Also a part of `build.rs` and of `probe.rs`, which ask an archive whether it is the one for these declarations.
 
 /// `LUMINTAYAG_VERSION` of the header: 10000 a + 100 b + c for version a.b.c.
-pub const VERSION: u32 = 400;
+pub const VERSION: u32 = 500;
 
 extern "C" {
     /// The archive's version.
@@ -40,4 +40,21 @@ extern "C" {
 
     /// The place of the first unreadable item, or the document's length.
     pub fn lumintayag_readable_len(doc: *const u8, doc_len: usize) -> usize;
+
+    /// Adds up series: two numbers for each, and two for all of them.
+    pub fn lumintayag_totals(
+        kind: u32,
+        quarters: u32,
+        count: usize,
+        series: *const u32,
+        series_len: usize,
+        positions: *const u32,
+        positions_len: usize,
+        amounts: *const i64,
+        amounts_len: usize,
+        totals: *mut i64,
+        totals_len: usize,
+        sum: *mut i64,
+        sum_len: usize,
+    ) -> u32;
 }

@@ -1,0 +1,11 @@
+pub mod Below
+pub mod Integers
+pub mod Shifts
+pub mod Standing
+pub mod Words
+pub mod Facts
+pub mod Adding
+pub mod Answers
+pub mod Times
+pub mod Promises
+pub mod Unique

@@ -1,0 +1,22 @@
+use Rattle.lists.proofs.Tests.{tests}
+use borrow.Author.Tests.{le-leb, le-ltb}
+use borrow.Author.Needs.{needs}
+use Rattle.totals.proofs.rules.pos_at.Statement.{statement}
+use Rattle.totals.proofs.rules.pos_at.Tie as tie
+use Rattle.totals.proofs.rules.pos_at.Reads as reads
+use Rattle.totals.proofs.rules.pos_at.Lts as lts
+
+mul-result : tie.Need-mul-result
+mul-result c = search needs
+
+shared-slice-read-result : tie.Need-shared-slice-read-result
+shared-slice-read-result c = search needs
+
+returns : tie.Need-returns
+returns c = search needs
+
+returns-2 : tie.Need-returns-2
+returns-2 c = search tests
+
+pub pos-at-spec : {M : Type 1} → statement M
+pos-at-spec = tie.close (tie.spec mul-result shared-slice-read-result returns returns-2)
