@@ -1,5 +1,5 @@
 /*
- * The entry of libFuzzer for documents and notes. An input is sizes and a note's shape in its first bytes and a document after them. What is lent is
+ * The entry of libFuzzer for documents, notes and views. An input is sizes and a note's shape in its first bytes and a document after them. What is lent is
  * allocated to the byte, so that AddressSanitizer sees one byte too far; the plain module reads first, then the module whose assumptions are checked, into
  * buffers that hold other bytes before. What a promise says of one call or of the two together is checked, and a broken one ends the program.
  *
@@ -21,17 +21,19 @@ uint32_t checked_lumintayag_read_note_v2(const uint8_t *note, size_t note_len, u
 uint32_t checked_lumintayag_convert_note(const uint8_t *note, size_t note_len, uint32_t shape, uint8_t *out, size_t out_len, uint32_t *answer,
                                          size_t answer_len);
 
-enum { SIZES = 10, OLD = LUMINTAYAG_NOTE_OLD, NEW = LUMINTAYAG_NOTE_NEW, NEW_MARK = 100 };
+enum { SIZES = 13, OLD = LUMINTAYAG_NOTE_OLD, NEW = LUMINTAYAG_NOTE_NEW, NEW_MARK = 100 };
 
 struct sizes {
     size_t series, positions, amounts, note, answer, six, out;
     uint32_t shape;
+    size_t table, viewed; /* of views */
 };
 
 /* The last byte of a shape's number is that of the input, so that numbers from 256 on are asked for too. */
 static struct sizes sizes_of(const uint8_t *b) {
     struct sizes s = {b[0],      b[1] + 256 * (b[2] & 1), b[3] + 256 * (b[4] & 1), b[5] & 31,
-                      b[6] & 15, b[7] & 7,                b[8] & 63,               b[9] < 128 ? b[9] : b[9] * UINT32_C(0x01010100)};
+                      b[6] & 15, b[7] & 7,                b[8] & 63,               b[9] < 128 ? b[9] : b[9] * UINT32_C(0x01010100),
+                      b[10] + 256 * (b[11] & 1), b[12] & 15};
     return s;
 }
 
@@ -44,14 +46,18 @@ struct outcome {
 
 static struct sizes lent;
 static size_t length;
-static uint64_t refusals[11], notes[3];
+static uint64_t refusals[11], notes[3], views[11];
 
 static void hold(int holds, const char *promise) {
     if (holds) return;
-    fprintf(stderr, "BROKEN: %s\ndocument of %zu bytes; lent: series %zu, positions %zu, amounts %zu, note %zu, answer %zu, six %zu, out %zu; shape %lu\n",
-            promise, length, lent.series, lent.positions, lent.amounts, lent.note, lent.answer, lent.six, lent.out, (unsigned long)lent.shape);
+    fprintf(stderr, "BROKEN: %s\ndocument of %zu bytes; lent: series %zu, positions %zu, amounts %zu, note %zu, answer %zu, six %zu, out %zu; shape %lu; "
+                    "table of views %zu, its answer %zu\n",
+            promise, length, lent.series, lent.positions, lent.amounts, lent.note, lent.answer, lent.six, lent.out, (unsigned long)lent.shape, lent.table,
+            lent.viewed);
     abort();
 }
+
+#include "views.h"
 
 typedef uint32_t reading(const uint8_t *, size_t, uint32_t *, size_t, uint32_t *, size_t, int64_t *, size_t, uint32_t, uint8_t *, size_t, uint32_t *, size_t);
 
@@ -350,6 +356,7 @@ static void judge_digits(const uint8_t *doc, struct outcome first, const uint32_
     turn_digits(other);
     struct outcome o = read_by(lumintayag_read_v3, other, 7, lent.shape, 0x11);
     hold(same_but_amounts(first, o) && memcmp(o.answer, n, 28) == 0, "nothing but the amounts depends on the digits of a price");
+    judge_views(doc, other);
     let_go(o);
     free(other);
 }
@@ -409,16 +416,17 @@ int LLVMFuzzerTestOneInput(const uint8_t *data, size_t size) {
     else judge_note(b, n, lent.shape);
     judge_other_shape(doc, a, n);
     judge_front(doc, length);
+    views[judge_views(doc, NULL)]++;
     let_go(a), let_go(b);
     return 0;
 }
 
-/* Room for all rows; for no series; for one row; for fewer amounts than positions; a note of 15; outputs of 24 and of 23 bytes; both shapes. Each sample is
- * lent one of these. */
+/* Room for all rows; for no series; for one row; for fewer amounts than positions; a note of 15; outputs of 24 and of 23 bytes; both shapes; a table of views
+ * for ten series, for one and a bit more, for a header, and one that is short of that or of a series by a cell. Each sample is lent one of these. */
 static const uint8_t ROOM[][SIZES] = {
-    {255, 255, 1, 255, 1, 16, 7, 6, 24, 0}, {255, 255, 0, 200, 0, 31, 15, 7, 40, 1},   {12, 1, 0, 1, 0, 16, 7, 5, 24, 1},
-    {11, 10, 0, 10, 0, 16, 3, 4, 23, 0},    {255, 255, 1, 255, 1, 16, 0, 0, 24, 200},  {255, 255, 1, 255, 1, 16, 7, 6, 25, 1},
-    {71, 3, 0, 2, 0, 20, 9, 1, 63, 100},    {255, 255, 1, 255, 1, 15, 7, 5, 0, 1},
+    {255, 255, 1, 255, 1, 16, 7, 6, 24, 0, 255, 1, 6},   {255, 255, 0, 200, 0, 31, 15, 7, 40, 1, 120, 0, 15}, {12, 1, 0, 1, 0, 16, 7, 5, 24, 1, 80, 0, 7},
+    {11, 10, 0, 10, 0, 16, 3, 4, 23, 0, 31, 0, 5},       {255, 255, 1, 255, 1, 16, 0, 0, 24, 200, 76, 0, 0},  {255, 255, 1, 255, 1, 16, 7, 6, 25, 1, 208, 0, 6},
+    {71, 3, 0, 2, 0, 20, 9, 1, 63, 100, 119, 0, 6},      {255, 255, 1, 255, 1, 15, 7, 5, 0, 1, 32, 0, 3},
 };
 
 /* libFuzzer's own changes break most documents. Half of the changes are these, which keep a document near to acceptance: another value between quotes, white
@@ -473,9 +481,9 @@ static size_t with_value(uint8_t *data, size_t size, size_t room) {
 }
 
 static size_t with_text(uint8_t *data, size_t size, size_t room) {
-    static const char *const TEXTS[] = {" ", "\n", "\r\n\t", "<!---->", "<!-- - -->", "<!--&\xC3\xA4-->\n"};
+    static const char *const TEXTS[] = {" ", "\n", "\r\n\t", "<!---->", "<!-- - -->", "<!--&\xC3\xA4-->\n", "<!-- <Direction v='A02'/> -->"};
     size_t tag = somewhere(data, size, '>');
-    return tag == size ? size : replaced(data, size, room, tag + 1, tag + 1, TEXTS[below(6)]);
+    return tag == size ? size : replaced(data, size, room, tag + 1, tag + 1, TEXTS[below(7)]);
 }
 
 size_t LLVMFuzzerCustomMutator(uint8_t *data, size_t size, size_t room, unsigned seed) {
@@ -506,6 +514,9 @@ static void tell(void) {
     printf("documents by refusal:");
     for (int k = 0; k <= 10; k++) printf(" %d: %llu", k, (unsigned long long)refusals[k]);
     printf("\nnotes taken: %llu old, %llu new, refused: %llu\n", (unsigned long long)notes[1], (unsigned long long)notes[2], (unsigned long long)notes[0]);
+    printf("views by refusal:");
+    for (int k = 0; k <= 9; k++) printf(" %d: %llu", k, (unsigned long long)views[k]);
+    printf("\n");
 }
 
 int LLVMFuzzerInitialize(int *argc, char ***argv);

@@ -1,6 +1,6 @@
 /* In rattle's own calling convention a slice is the address of a pointer and a length. This hands the slices of the C functions over in that way;
- * in the proved archive the compiler does it. AS is the beginning of the names to define, IN of those in the module. With READABLE or TOTALS it is
- * for the module of crate readable or totals, without for that of crate library. */
+ * in the proved archive the compiler does it. AS is the beginning of the names to define, IN of those in the module. With READABLE, TOTALS or VIEWS it
+ * is for the module of crate readable, totals or views, without for that of crate library. */
 #include "lumintayag.h"
 
 struct slice {
@@ -30,6 +30,15 @@ uint32_t NAMED(AS, _totals)(uint32_t kind, uint32_t quarters, size_t count, cons
                             size_t sum_len) {
     struct slice s = {series, series_len}, p = {positions, positions_len}, a = {amounts, amounts_len}, t = {totals, totals_len}, u = {sum, sum_len};
     return NAMED(IN, _totals)(kind, quarters, count, &s, &p, &a, &t, &u);
+}
+
+#elif defined VIEWS
+
+uint32_t NAMED(IN, _views)(struct slice *doc, struct slice *table, struct slice *answer);
+
+uint32_t NAMED(AS, _views)(const uint8_t *doc, size_t doc_len, uint32_t *table, size_t table_len, uint32_t *answer, size_t answer_len) {
+    struct slice d = {doc, doc_len}, t = {table, table_len}, r = {answer, answer_len};
+    return NAMED(IN, _views)(&d, &t, &r);
 }
 
 #else

@@ -5,8 +5,9 @@
  * The functions below are in liblumintayag.a and liblumintayag.so. They allocate nothing, keep nothing from call
  * to call, open no file and call nothing but memset. They end for every input. What they answer and leave behind
  * is proved for every document and every length of every slice (crates/library, crates/reader, crates/notes,
- * crates/readable, crates/totals); no input is excepted. Threads may call them at the same time, each with slices of
- * its own. lumintayag_read_v3 takes 68 KB of stack, whatever the document; a thread that has 128 KiB has enough.
+ * crates/readable, crates/totals, crates/views); no input is excepted. Threads may call them at the same time, each
+ * with slices of its own. lumintayag_read_v3 takes 68 KB of stack and lumintayag_views 70 KB, whatever the document; a
+ * thread that has 128 KiB has enough.
  *
  * Slices. A lent slice is two arguments: a pointer, and a length in elements (not in bytes). What no proof can see
  * is left to the caller:
@@ -29,12 +30,12 @@ extern "C" {
 #endif
 
 /*
- * The version of this header, a.b.c as 10000 a + 100 b + c: 0.5.0. lumintayag_version answers that of the archive
+ * The version of this header, a.b.c as 10000 a + 100 b + c: 0.6.0. lumintayag_version answers that of the archive
  * or shared object; a program that checks that the two are equal knows that they belong together.
  * A function whose arguments, rows or cells are laid out anew gets a new name, and the old name is gone: a
  * program that knows the old layout is not linked with the new one.
  */
-#define LUMINTAYAG_VERSION 500
+#define LUMINTAYAG_VERSION 600
 uint32_t lumintayag_version(void);
 
 /* A longer document is refused with 1. */
@@ -81,6 +82,17 @@ uint32_t lumintayag_version(void);
 #define LUMINTAYAG_TOTAL_NUMBERS 2
 
 /*
+ * Pairs of u32 numbers that a header and a series take in the table of views, in every kind: as many as the kind with
+ * the most has. The room is that of every document, counted as above.
+ */
+#define LUMINTAYAG_HEADER_PAIRS 16
+#define LUMINTAYAG_SERIES_PAIRS 22
+#define LUMINTAYAG_VIEWS_ROOM (2 * (LUMINTAYAG_HEADER_PAIRS + LUMINTAYAG_SERIES_PAIRS * LUMINTAYAG_SERIES_ROOM))
+
+/* Numbers in the answer of lumintayag_views. */
+#define LUMINTAYAG_VIEWS_NUMBERS 6
+
+/*
  * Refusals. The place of 2 to 9 is the index of the first byte of the item (tag, text or comment) with the first
  * fault, with 0 for the document's first byte; a document that is over too early has the place that is its length.
  * Where the item has several faults, the smallest number is given. 10 is looked at first, then 1.
@@ -90,7 +102,8 @@ uint32_t lumintayag_version(void);
 #define LUMINTAYAG_UNREADABLE 2      /* the item is unreadable */
 #define LUMINTAYAG_NOT_DUE 3         /* element not due, too many, too few, wrong end tag, other text, second
                                         root, document over too early */
-#define LUMINTAYAG_TABLE_FULL 4      /* a due series or Interval start finds its table full */
+#define LUMINTAYAG_TABLE_FULL 4      /* a due series or Interval start finds its table full; in lumintayag_views also a
+                                        table with no room for the header, place 0 */
 #define LUMINTAYAG_ATTRIBUTE 5       /* attribute missing or unknown */
 #define LUMINTAYAG_FORM 6            /* value against its form or fixed value */
 #define LUMINTAYAG_CODE 7            /* value outside its code list */
@@ -148,6 +161,117 @@ enum {
     LUMINTAYAG_INTERVAL_COUNT = 11  /* and how many rows it has there */
 };
 
+/* Of the six numbers that lumintayag_views answers the first four have the cells of the reader's answer. */
+enum {
+    LUMINTAYAG_FROM = 4, /* minutes from 2000-01-01T00:00Z to the start of TimePeriodCovered; 0 on every refusal */
+    LUMINTAYAG_TO = 5    /* and to its end */
+};
+
+/*
+ * The pairs of the table of views. A pair is the start and the length of a value, as in a series row: an index into the
+ * document, and bytes between the quotes. Where the guideline says collapse the spaces at both ends are left out, and
+ * always of a codingScheme. A value that the document does not have, or its kind does not know, is 0 and 0; one that it
+ * has never starts at 0, also where it is empty. Pair k of the header is in cells 2 * k and 2 * k + 1; a pair of series
+ * i, counted from 0, is 22 * i pairs after that of the first one. LUMINTAYAG_PAIR is the cell of its start, with i of 0
+ * for a pair of the header; the length is in the cell after it.
+ */
+#define LUMINTAYAG_PAIR(k, i) (2 * ((size_t)(k) + LUMINTAYAG_SERIES_PAIRS * (size_t)(i)))
+
+/* The header, in every kind. Kinds 1 and 2 know neither of the first two, and kind 3 alone knows the last one. */
+enum {
+    LUMINTAYAG_VIEW_DTD_VERSION = 0,
+    LUMINTAYAG_VIEW_DTD_RELEASE = 1,
+    LUMINTAYAG_VIEW_DTD_BDEW_NACHRICHTEN_VERSION = 2,
+    LUMINTAYAG_VIEW_DOCUMENT_IDENTIFICATION = 3,
+    LUMINTAYAG_VIEW_DOCUMENT_VERSION = 4,
+    LUMINTAYAG_VIEW_DOCUMENT_TYPE = 5,
+    LUMINTAYAG_VIEW_PROCESS_TYPE = 6,
+    LUMINTAYAG_VIEW_SENDER_IDENTIFICATION = 7,
+    LUMINTAYAG_VIEW_SENDER_SCHEME = 8,
+    LUMINTAYAG_VIEW_SENDER_ROLE = 9,
+    LUMINTAYAG_VIEW_RECEIVER_IDENTIFICATION = 10,
+    LUMINTAYAG_VIEW_RECEIVER_SCHEME = 11,
+    LUMINTAYAG_VIEW_RECEIVER_ROLE = 12,
+    LUMINTAYAG_VIEW_DOCUMENT_DATE_TIME = 13,
+    LUMINTAYAG_VIEW_TIME_PERIOD_COVERED = 14,
+    LUMINTAYAG_VIEW_DOC_STATUS = 15
+};
+
+/* A series of kind 1, Beschaffungsanforderung. */
+enum {
+    LUMINTAYAG_VIEW_1_TIME_SERIES_IDENTIFICATION = 16,
+    LUMINTAYAG_VIEW_1_BUSINESS_TYPE = 17,
+    LUMINTAYAG_VIEW_1_PRODUCT = 18,
+    LUMINTAYAG_VIEW_1_IN_AREA = 19,
+    LUMINTAYAG_VIEW_1_IN_AREA_SCHEME = 20,
+    LUMINTAYAG_VIEW_1_OUT_AREA = 21,
+    LUMINTAYAG_VIEW_1_OUT_AREA_SCHEME = 22,
+    LUMINTAYAG_VIEW_1_IN_PARTY = 23,
+    LUMINTAYAG_VIEW_1_IN_PARTY_SCHEME = 24,
+    LUMINTAYAG_VIEW_1_OUT_PARTY = 25,
+    LUMINTAYAG_VIEW_1_OUT_PARTY_SCHEME = 26,
+    LUMINTAYAG_VIEW_1_MEASUREMENT_UNIT = 27,
+    LUMINTAYAG_VIEW_1_ORIGINAL_SENDER_IDENTIFICATION = 28,
+    LUMINTAYAG_VIEW_1_ORIGINAL_SENDER_SCHEME = 29,
+    LUMINTAYAG_VIEW_1_ORIGINAL_DOCUMENT_IDENTIFICATION = 30,
+    LUMINTAYAG_VIEW_1_ORIGINAL_DOCUMENT_VERSION = 31,
+    LUMINTAYAG_VIEW_1_ORIGINAL_DOCUMENT_DATE_TIME = 32,
+    LUMINTAYAG_VIEW_1_ORIGINAL_TIME_SERIES_IDENTIFICATION = 33,
+    LUMINTAYAG_VIEW_1_TIME_INTERVAL = 34,
+    LUMINTAYAG_VIEW_1_RESOLUTION = 35
+};
+
+/* A series of kind 2, Kostenblatt. */
+enum {
+    LUMINTAYAG_VIEW_2_TIME_SERIES_IDENTIFICATION = 16,
+    LUMINTAYAG_VIEW_2_BUSINESS_TYPE = 17,
+    LUMINTAYAG_VIEW_2_DIRECTION = 18,
+    LUMINTAYAG_VIEW_2_PRODUCT = 19,
+    LUMINTAYAG_VIEW_2_CONNECTING_AREA = 20,
+    LUMINTAYAG_VIEW_2_CONNECTING_AREA_SCHEME = 21,
+    LUMINTAYAG_VIEW_2_RESOURCE_OBJECT = 22,
+    LUMINTAYAG_VIEW_2_RESOURCE_OBJECT_SCHEME = 23,
+    LUMINTAYAG_VIEW_2_RESOURCE_PROVIDER = 24,
+    LUMINTAYAG_VIEW_2_RESOURCE_PROVIDER_SCHEME = 25,
+    LUMINTAYAG_VIEW_2_CURVE_TYPE = 26,
+    LUMINTAYAG_VIEW_2_MEASUREMENT_UNIT = 27,
+    LUMINTAYAG_VIEW_2_STATUS = 28,
+    LUMINTAYAG_VIEW_2_ORIGINAL_SENDER_IDENTIFICATION = 29,
+    LUMINTAYAG_VIEW_2_ORIGINAL_SENDER_SCHEME = 30,
+    LUMINTAYAG_VIEW_2_ORIGINAL_DOCUMENT_IDENTIFICATION = 31,
+    LUMINTAYAG_VIEW_2_ORIGINAL_DOCUMENT_VERSION = 32,
+    LUMINTAYAG_VIEW_2_ORIGINAL_DOCUMENT_DATE_TIME = 33,
+    LUMINTAYAG_VIEW_2_ORIGINAL_TIME_SERIES_IDENTIFICATION = 34,
+    LUMINTAYAG_VIEW_2_TIME_INTERVAL = 35,
+    LUMINTAYAG_VIEW_2_RESOLUTION = 36
+};
+
+/* A series of kind 3, NetworkConstraintDocument. */
+enum {
+    LUMINTAYAG_VIEW_3_TIME_SERIES_IDENTIFICATION = 16,
+    LUMINTAYAG_VIEW_3_BUSINESS_TYPE = 17,
+    LUMINTAYAG_VIEW_3_DIRECTION = 18,
+    LUMINTAYAG_VIEW_3_CONNECTING_AREA = 19,
+    LUMINTAYAG_VIEW_3_CONNECTING_AREA_SCHEME = 20,
+    LUMINTAYAG_VIEW_3_RESOURCE_OBJECT = 21,
+    LUMINTAYAG_VIEW_3_RESOURCE_OBJECT_SCHEME = 22,
+    LUMINTAYAG_VIEW_3_RESOURCE_PROVIDER = 23,
+    LUMINTAYAG_VIEW_3_RESOURCE_PROVIDER_SCHEME = 24,
+    LUMINTAYAG_VIEW_3_REQUESTING_GRID_OPERATOR = 25,
+    LUMINTAYAG_VIEW_3_REQUESTING_GRID_OPERATOR_SCHEME = 26,
+    LUMINTAYAG_VIEW_3_GRID_ELEMENT = 27,
+    LUMINTAYAG_VIEW_3_GRID_ELEMENT_SCHEME = 28,
+    LUMINTAYAG_VIEW_3_MEASUREMENT_UNIT = 29,
+    LUMINTAYAG_VIEW_3_ORIGINAL_SENDER_IDENTIFICATION = 30,
+    LUMINTAYAG_VIEW_3_ORIGINAL_SENDER_SCHEME = 31,
+    LUMINTAYAG_VIEW_3_ORIGINAL_DOCUMENT_IDENTIFICATION = 32,
+    LUMINTAYAG_VIEW_3_ORIGINAL_DOCUMENT_VERSION = 33,
+    LUMINTAYAG_VIEW_3_ORIGINAL_DOCUMENT_DATE_TIME = 34,
+    LUMINTAYAG_VIEW_3_ORIGINAL_TIME_SERIES_IDENTIFICATION = 35,
+    LUMINTAYAG_VIEW_3_TIME_INTERVAL = 36,
+    LUMINTAYAG_VIEW_3_RESOLUTION = 37
+};
+
 /* The cells of a total. */
 enum {
     LUMINTAYAG_WHOLE = 0,      /* the whole number at or below it */
@@ -177,13 +301,15 @@ enum {
  * none.
  *
  * An amount is megawatts in kind 1; in kind 2 euros by MeasurementUnit: per piece (Z01), per megawatt hour (Z02)
- * or per hour (Z03); in kind 3 megawatts (MAW) or a share (C62). The unit is no cell of the row. What the format
- * descriptions tell in prose of one value beside another is judged only where the build scope or a request lists it:
- * in kind 2 a Direction may be absent, and a unit may stand with any BusinessType. So amounts of two series can be
- * compared where kind, BusinessType, Direction and MeasurementUnit are the same, which the caller has to see to.
+ * or per hour (Z03); in kind 3 megawatts (MAW) or a share (C62). The unit is no cell of the row: lumintayag_views shows
+ * it. What the format descriptions tell in prose of one value beside another is judged only where the build scope or a
+ * request lists it: in kind 2 a Direction may be absent, and a unit may stand with any BusinessType. So amounts of two
+ * series can be compared where kind, BusinessType, Direction and MeasurementUnit are the same, which the caller has to
+ * see to.
  *
  * Kind 3 has no series, or with no DocStatus one or two of BusinessType A77, two only with different Direction, and
- * at least one of B59; with a DocStatus (A13, withdrawn) at most one series, of either. DocStatus is no cell.
+ * at least one of B59; with a DocStatus (A13, withdrawn) at most one series, of either. DocStatus is no cell:
+ * lumintayag_views shows it.
  *
  * Nothing but the amounts depends on the digits of a price: two documents of equal length that differ only in
  * digits of readable Qty values get the same answer and, in the same shape, the same note, and the same cells but for
@@ -261,6 +387,28 @@ uint32_t lumintayag_totals(uint32_t kind, uint32_t quarters, size_t count,
                            const int64_t *amounts, size_t amounts_len,
                            int64_t *totals, size_t totals_len,
                            int64_t *sum, size_t sum_len);
+
+/*
+ * Shows where every attribute value of a document stands, but for those of Pos and Qty, and when its period begins and
+ * ends. It judges the document as lumintayag_read_v3 does, and answers the refusal: the same number as answer[0].
+ *
+ * table   the pairs of the header, then those of each series in document order, as they are named above. A table of
+ *         fewer than 32 cells, which has no room for the header, is refused with 4 at place 0 before the document is
+ *         looked at, so before 1 as well. Otherwise there is room for (table_len - 32) / 44 series, rounded down, and a
+ *         due series start that finds none is 4 at its place. Intervals never lack room, and there is no 10.
+ * answer  six numbers: refusal, place, kind and series, which are the reader's, and the period's two ends in minutes
+ *         since 2000-01-01T00:00Z. Quarter hour n, counted from 1, begins at the first one plus 15 * (n - 1). Where
+ *         answer_len is smaller, the first ones; where it is larger, the cells past the sixth are 0.
+ *
+ * On acceptance all cells of the table past the last series are 0. On every refusal all cells of the table are 0, and so
+ * are the two ends.
+ *
+ * Nothing here depends on the digits of a price: two documents of equal length that differ only in digits of readable
+ * Qty values get the same answer and the same table (proved: crates/sights).
+ */
+uint32_t lumintayag_views(const uint8_t *doc, size_t doc_len,
+                          uint32_t *table, size_t table_len,
+                          uint32_t *answer, size_t answer_len);
 
 #ifdef __cplusplus
 }

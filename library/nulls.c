@@ -16,6 +16,7 @@ int main(void) {
     uint32_t answer[LUMINTAYAG_ANSWER_NUMBERS], six[LUMINTAYAG_NOTE_NUMBERS], two[LUMINTAYAG_CONVERTED_NUMBERS], numbers[ROW];
     static const uint32_t row[ROW] = {[LUMINTAYAG_INTERVAL_COUNT] = 1}, position[] = {1};
     static const int64_t amount[] = {-1};
+    uint32_t table[2 * LUMINTAYAG_HEADER_PAIRS], told_of[LUMINTAYAG_VIEWS_NUMBERS];
     int64_t amounts[1], total[LUMINTAYAG_TOTAL_NUMBERS], sum[LUMINTAYAG_TOTAL_NUMBERS];
     int bad = wrong(lumintayag_version() != LUMINTAYAG_VERSION, "the version");
     bad |= wrong(lumintayag_read_v3(NULL, 0, numbers, ROW, numbers + ROW, 0, amounts, 1, OLD, note, sizeof note, answer, 7) != 3 || answer[LUMINTAYAG_PLACE] != 0, "no document");
@@ -37,5 +38,10 @@ int main(void) {
     bad |= wrong(lumintayag_totals(2, 1, 1, row, ROW, position, 1, amount, 1, NULL, 0, sum, 2) != 0 || sum[LUMINTAYAG_WHOLE] != -1, "no totals");
     bad |= wrong(lumintayag_totals(2, 1, 1, row, ROW, position, 1, amount, 1, total, 2, NULL, 0) != 0 || total[LUMINTAYAG_THOUSANDTHS] != 999, "no sum");
     bad |= wrong(lumintayag_totals(2, 1, 201, NULL, 0, NULL, 0, NULL, 0, NULL, 0, NULL, 0) != 17, "nothing to add up");
+    bad |= wrong(lumintayag_views(NULL, 0, table, 32, told_of, 6) != 3 || told_of[LUMINTAYAG_PLACE] != 0 || table[0] != 0, "no document to view");
+    bad |= wrong(lumintayag_views(root, 45, NULL, 0, told_of, 6) != 4 || told_of[LUMINTAYAG_PLACE] != 0 || told_of[LUMINTAYAG_KIND] != 0, "no table of views");
+    bad |= wrong(lumintayag_views(root, 45, table, 31, told_of, 6) != 4 || told_of[LUMINTAYAG_KIND] != 0, "a table that is short of a header");
+    bad |= wrong(lumintayag_views(root, 45, table, 32, NULL, 0) != 3, "views with no answer");
+    bad |= wrong(lumintayag_views(NULL, 0, NULL, 0, NULL, 0) != 4, "nothing to view");
     return bad;
 }

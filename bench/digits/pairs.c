@@ -1,5 +1,6 @@
-/* 200 pairs of documents that differ only in digits of readable Qty values, each read once with a note in the old shape and once in the new. Under callgrind,
- * which counts the instructions of lumintayag_read_v3 alone, each call leaves one count. No document and no amount is written anywhere. */
+/* 200 pairs of documents that differ only in digits of readable Qty values, each read once with a note in the old shape and once in the new, or,
+ * with an argument, viewed once. Under callgrind, which counts the instructions of lumintayag_read_v3 or of lumintayag_views alone, each call leaves one count.
+ * No document and no amount is written anywhere. */
 #include <stdint.h>
 #include <stdio.h>
 #include <string.h>
@@ -7,7 +8,8 @@
 
 #include "../../library/lumintayag.h"
 
-enum { PAIRS = 200, ROOM = 65536 };
+/* VIEWS stands in the place of a shape: the document is viewed. */
+enum { PAIRS = 200, ROOM = 65536, CELLS = 2 * (LUMINTAYAG_HEADER_PAIRS + LUMINTAYAG_SERIES_PAIRS), VIEWS = 2 };
 
 static uint64_t seed = 20261115;
 
@@ -74,35 +76,39 @@ static void document(unsigned pair) {
 
 /* Both documents of a pair are read from one place into the same buffers: what the C library does depends on how they lie in memory. */
 static uint8_t doc[ROOM], note[16], notes[2][16];
-static uint32_t series[64], positions[128], answer[7], answers[2][7];
+static uint32_t series[64], positions[128], answer[7], answers[2][7], table[CELLS], tables[2][CELLS];
 static int64_t amounts[128];
 
 static void count(int k, size_t rows, uint32_t shape) {
     memcpy(doc, text[k], at);
     CALLGRIND_ZERO_STATS;
-    lumintayag_read_v3(doc, at, series, 64, positions, rows, amounts, 128, shape, note, 16, answer, 7);
+    if (shape == VIEWS) lumintayag_views(doc, at, table, rows < 128 ? 40 : CELLS, answer, 7);
+    else lumintayag_read_v3(doc, at, series, 64, positions, rows, amounts, 128, shape, note, 16, answer, 7);
     CALLGRIND_DUMP_STATS;
+    memcpy(tables[k], table, sizeof table);
     memcpy(answers[k], answer, sizeof answer);
     memcpy(notes[k], note, sizeof note);
 }
 
-/* The shape and the refusal; 0 where the answers or the notes differ. */
+/* What is asked for and the refusal; 0 where answers, notes or views differ. */
 static int compared(unsigned pair, uint32_t shape) {
     for (int k = 0; k < 2; k++) count(k, pair % 7 == 6 ? 20 : 128, shape); /* now and then a table that is full */
-    if (memcmp(answers[0], answers[1], sizeof answer) != 0 || memcmp(notes[0], notes[1], sizeof note) != 0) {
+    if (memcmp(answers[0], answers[1], sizeof answer) != 0 || memcmp(notes[0], notes[1], sizeof note) != 0 || memcmp(tables[0], tables[1], sizeof table) != 0) {
         printf("pair %u: the answers differ\n", pair);
         return 0;
     }
-    printf("%s %u\n", shape == LUMINTAYAG_NOTE_OLD ? "old" : "new", (unsigned)answer[0]);
+    printf("%s %u\n", shape == VIEWS ? "views" : shape == LUMINTAYAG_NOTE_OLD ? "old" : "new", (unsigned)answer[0]);
     return 1;
 }
 
-int main(void) {
+int main(int argc, char **argv) {
+    int viewed = argc > 1 && argv[1] != NULL;
     /* the linker's work is done here */
-    lumintayag_read_v3(doc, 0, series, 64, positions, 128, amounts, 128, LUMINTAYAG_NOTE_OLD, note, 16, answer, 7);
+    if (viewed) lumintayag_views(doc, 0, table, CELLS, answer, 7);
+    else lumintayag_read_v3(doc, 0, series, 64, positions, 128, amounts, 128, LUMINTAYAG_NOTE_OLD, note, 16, answer, 7);
     for (unsigned pair = 0; pair < PAIRS; pair++) {
         document(pair);
-        if (!compared(pair, LUMINTAYAG_NOTE_OLD) || !compared(pair, LUMINTAYAG_NOTE_NEW)) return 1;
+        if (viewed ? !compared(pair, VIEWS) : !compared(pair, LUMINTAYAG_NOTE_OLD) || !compared(pair, LUMINTAYAG_NOTE_NEW)) return 1;
     }
     return 0;
 }

@@ -1,5 +1,5 @@
-"""The longest way down from lumintayag_read_v3: frames.py MODULE.su OPTIMIZED.ll BYTES, the frames of each function that clang tells, the calls of the
-optimized module, and the bytes that a call takes beside its frame."""
+"""The longest way down from a function: frames.py MODULE.su OPTIMIZED.ll BYTES NAME, the frames of each function that clang tells, the calls of the optimized
+module, the bytes that a call takes beside its frame, and the function."""
 import re
 import sys
 
@@ -26,5 +26,5 @@ def deepest(name, above=()):
     return frames[name] + int(sys.argv[3]) + most[0], [f"{name} {frames[name]}"] + most[1]
 
 
-total, way = deepest("lumintayag_read_v3")
+total, way = deepest(sys.argv[4])
 print(f"{total} bytes:", ", ".join(way))

@@ -1,5 +1,6 @@
-/* How much stack a call of lumintayag_read_v3 takes, with its caller's frame: the deepest byte that is written on a painted stack, and the smallest stack on
- * which every call comes back, over the samples of a folder and over documents of 1 MiB that are made in memory. Nothing is written to a file. */
+/* How much stack a call of lumintayag_read_v3 takes, and one of lumintayag_views, with its caller's frame: the deepest byte that is written on a painted stack,
+ * and the smallest stack on which every call comes back, over the samples of a folder and over documents of 1 MiB that are made in memory. Nothing is written to
+ * a file. */
 #define _GNU_SOURCE
 #include <dirent.h>
 #include <stdio.h>
@@ -27,13 +28,20 @@ static size_t count;
 static uint32_t series[LUMINTAYAG_SERIES_ROW * LUMINTAYAG_SERIES_ROOM], positions[LUMINTAYAG_INTERVALS_ROOM], answer[7];
 static int64_t amounts[LUMINTAYAG_INTERVALS_ROOM];
 static uint8_t note[16];
+static uint32_t table[LUMINTAYAG_VIEWS_ROOM];
 static const struct document *read_now;
 static ucontext_t here, there;
 
-static void call(void) {
+static void view(void) {
+    lumintayag_views(read_now->bytes, read_now->length, table, LUMINTAYAG_VIEWS_ROOM, answer, 6);
+}
+
+static void read_it(void) {
     lumintayag_read_v3(read_now->bytes, read_now->length, series, sizeof series / sizeof *series, positions, LUMINTAYAG_INTERVALS_ROOM,
                        amounts, LUMINTAYAG_INTERVALS_ROOM, LUMINTAYAG_NOTE_NEW, note, 16, answer, 7);
 }
+
+static void (*call)(void);
 
 /* The lowest address of a stack below which nothing can be touched. */
 static uint8_t *stack_bottom(void) {
@@ -129,18 +137,10 @@ static void take(const char *folder) {
     }
 }
 
-int main(int argc, char **argv) {
-    if (argc != 2) return 2;
-    take(argv[1]);
-    make("a root of xmlns: attributes", ROOT, " xmlns:a%u=''", ">" HEAD "</Kostenblatt>");
-    make("a root of unknown attributes", ROOT, " a%u=''", "/>");
-    make("many series", ROOT ">" HEAD, SERIES, "</Kostenblatt>");
-    make("comments", ROOT ">", "<!--%u-->\n", "</Kostenblatt>");
-    make("one long text", "", "%u", "");
-    make("one long value", ROOT ">\n<DocumentIdentification v=\"", "%u", "\"/>");
-    make("start tags one in the other", "", "<a%u>", "");
-
+/* 0 where every call comes back on some stack. */
+static int measure(const char *name, void (*function)(void)) {
     uint8_t *bottom = stack_bottom();
+    call = function;
     size_t most = 0, accepted = 0;
     const char *deepest = "";
     for (size_t i = 0; i < count; i++) {
@@ -148,7 +148,7 @@ int main(int argc, char **argv) {
         accepted += answer[0] == 0;
         if (used > most) most = used, deepest = documents[i].name;
     }
-    printf("%zu documents, %zu accepted\n", count, accepted);
+    printf("%s: %zu documents, %zu accepted\n", name, count, accepted);
     printf("painted stack: %zu bytes at most (first by: %s)\n", most, deepest);
 
     size_t little = 0, enough = ROOM;
@@ -160,4 +160,17 @@ int main(int argc, char **argv) {
     }
     printf("smallest stack on which every call comes back: %zu bytes\n", enough);
     return 0;
+}
+
+int main(int argc, char **argv) {
+    if (argc != 2) return 2;
+    take(argv[1]);
+    make("a root of xmlns: attributes", ROOT, " xmlns:a%u=''", ">" HEAD "</Kostenblatt>");
+    make("a root of unknown attributes", ROOT, " a%u=''", "/>");
+    make("many series", ROOT ">" HEAD, SERIES, "</Kostenblatt>");
+    make("comments", ROOT ">", "<!--%u-->\n", "</Kostenblatt>");
+    make("one long text", "", "%u", "");
+    make("one long value", ROOT ">\n<DocumentIdentification v=\"", "%u", "\"/>");
+    make("start tags one in the other", "", "<a%u>", "");
+    return measure("lumintayag_read_v3", read_it) || measure("lumintayag_views", view);
 }

@@ -1,4 +1,4 @@
-//! An independent reader of document 01 as 02 changes it, totals of 02, and generators of documents and of tables, to be held against the proved library.
+//! An independent reader of document 01 as 02 changes it, totals of 02, views, and generators of documents and of tables, to be held against the proved library.
 
 pub mod documents;
 pub mod model;
@@ -9,6 +9,7 @@ pub mod spelling;
 pub mod tables;
 pub mod totals;
 pub mod values;
+pub mod views;
 
 #[cfg(test)]
 mod tests;

@@ -2,7 +2,8 @@
 
 use differential::model::{Lengths, Outcome};
 use differential::totals::{Added, Asked};
-use lumintayag_sys::{lumintayag_convert_note, lumintayag_read_note_v2, lumintayag_read_v3, lumintayag_totals};
+use differential::views::Viewed;
+use lumintayag_sys::{lumintayag_convert_note, lumintayag_read_note_v2, lumintayag_read_v3, lumintayag_totals, lumintayag_views};
 
 /// Cells after those that are lent; none of them may change.
 const GUARD: usize = 3;
@@ -92,4 +93,11 @@ pub fn add_up(asked: &Asked) -> Result<Added, &'static str> {
         )
     };
     Ok(Added { refusal, totals: lent(totals, LONG)?, sum: lent(sum, LONG)? })
+}
+
+pub fn view(doc: &[u8], table_len: usize, answer_len: usize) -> Result<Viewed, &'static str> {
+    let (mut table, mut answer) = (full(table_len, WORD), full(answer_len, WORD));
+    // Each length is at most that of the slice its pointer is from.
+    let refusal = unsafe { lumintayag_views(doc.as_ptr(), doc.len(), table.as_mut_ptr(), table_len, answer.as_mut_ptr(), answer_len) };
+    Ok(Viewed { refusal, table: lent(table, WORD)?, answer: lent(answer, WORD)? })
 }

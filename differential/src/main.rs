@@ -1,4 +1,4 @@
-//! Reads generated documents with the proved library and with the model, adds up their tables and generated ones, and stops at the first difference.
+//! Reads and views generated documents with the proved library and with the model, adds up their tables and generated ones, and stops at the first difference.
 //!
 //!     differential COUNT [SEED [FIRST]]
 //!
@@ -10,6 +10,7 @@ use differential::random::Random;
 use differential::renaming::renamed;
 use differential::tables::tables;
 use differential::totals::{add_up, Asked, MOST_SERIES};
+use differential::views::{lent, view};
 use std::process::ExitCode;
 
 mod library;
@@ -29,6 +30,9 @@ struct Tally {
     /// Tables of accepted documents that were added up, those refused with 17; and of generated tables 0, 17 and 18.
     documents_added: [u64; 2],
     tables: [u64; 3],
+    /// Views by refusal, and the values that those of accepted documents show.
+    views: [u64; 11],
+    shown: u64,
 }
 
 fn main() -> ExitCode {
@@ -49,6 +53,8 @@ fn main() -> ExitCode {
         bytes: 0,
         documents_added: [0; 2],
         tables: [0; 3],
+        views: [0; 11],
+        shown: 0,
     };
     let Some(edges) = notes::edges() else { return ExitCode::FAILURE };
     for number in first..first.saturating_add(arguments[0]) {
@@ -57,6 +63,7 @@ fn main() -> ExitCode {
             || !notes::same(seed, number, &mut tally.notes)
             || !same_renamed(&made, seed, number, &mut tally)
             || !same_tables(seed, number, &mut tally)
+            || !same_views(&made, seed, number, &mut tally)
         {
             return ExitCode::FAILURE;
         }
@@ -76,6 +83,8 @@ fn print_tally(count: u64, edges: usize, tally: &Tally) {
     println!("{} documents with other identifications, {} accepted", tally.renamed, tally.renamed_taken);
     println!("tables of accepted documents: {} added up, refusal 17: {}", tally.documents_added[0], tally.documents_added[1]);
     println!("generated tables: {} added up, refusal 17: {}, 18: {}", tally.tables[0], tally.tables[1], tally.tables[2]);
+    let refused: Vec<String> = tally.views.iter().enumerate().skip(1).map(|(number, many)| format!("{number}: {many}")).collect();
+    println!("views: {} of accepted documents, {} values; refusal {}", tally.views[0], tally.shown, refused.join(", "));
     println!("no difference");
 }
 
@@ -123,7 +132,10 @@ fn same_reading(made: &Document, seed: u64, number: u64, tally: &mut Tally) -> b
     }
     println!("difference: seed {seed}, number {number}, {} bytes, {:?}, shape {}", made.bytes.len(), made.lengths, call.shape);
     call.print_both();
-    let smallest = shrunk(&call);
+    let smallest = shrunk(call.doc, &|doc| {
+        let shorter = Call { doc, ..call };
+        shorter.differs(&shorter.by_model())
+    });
     println!("smallest document found, {} bytes: {}", smallest.len(), smallest.escape_ascii());
     Call { doc: &smallest, ..call }.print_both();
     false
@@ -179,13 +191,13 @@ fn same_totals(asked: &Asked, seed: u64, number: u64) -> bool {
 const PATIENCE: usize = 2_000_000_000;
 
 /// The document with as many pieces left out as can be, within patience, while the two still differ.
-fn shrunk(call: &Call) -> Vec<u8> {
-    let mut doc = call.doc.to_vec();
+fn shrunk(found: &[u8], differs: &dyn Fn(&[u8]) -> bool) -> Vec<u8> {
+    let mut doc = found.to_vec();
     let mut size = doc.len().div_ceil(2);
     let mut patience = PATIENCE;
     while size > 0 && patience > 0 {
         let before = doc.len();
-        doc = without_pieces(doc, size, call, &mut patience);
+        doc = without_pieces(doc, size, differs, &mut patience);
         if doc.len() == before {
             size /= 2;
         }
@@ -193,21 +205,39 @@ fn shrunk(call: &Call) -> Vec<u8> {
     doc
 }
 
-fn without_pieces(doc: Vec<u8>, size: usize, call: &Call, patience: &mut usize) -> Vec<u8> {
+fn without_pieces(doc: Vec<u8>, size: usize, differs: &dyn Fn(&[u8]) -> bool, patience: &mut usize) -> Vec<u8> {
     let mut doc = doc;
     let mut at = 0;
     while at < doc.len() && *patience > 0 {
         *patience = patience.saturating_sub(doc.len());
         let mut less = doc.clone();
         less.drain(at..(at + size).min(doc.len()));
-        let shorter = Call { doc: &less, ..*call };
-        if shorter.differs(&shorter.by_model()) {
+        if differs(&less) {
             doc = less;
         } else {
             at += size;
         }
     }
     doc
+}
+
+/// The values of a document, in a table that has room for them, and in one of another length.
+fn same_views(made: &Document, seed: u64, number: u64, tally: &mut Tally) -> bool {
+    for (table, answer) in lent(seed, number, &made.bytes) {
+        let expected = view(&made.bytes, table, answer);
+        tally.views[expected.refusal as usize] += 1;
+        tally.shown += expected.table.chunks(2).filter(|pair| pair[0] != 0).count() as u64;
+        let differs = |doc: &[u8]| library::view(doc, table, answer) != Ok(view(doc, table, answer));
+        if !differs(&made.bytes) {
+            continue;
+        }
+        println!("difference: seed {seed}, number {number}, viewed in {table} and {answer} cells");
+        let smallest = shrunk(&made.bytes, &differs);
+        println!("smallest document found, {} bytes: {}", smallest.len(), smallest.escape_ascii());
+        println!("model:   {:?}\nlibrary: {:?}", view(&smallest, table, answer), library::view(&smallest, table, answer));
+        return false;
+    }
+    true
 }
 
 /// K12: with its identifications replaced by a one-to-one rule, a document is read by the library as it was: "number, place, note and all tables are the same".

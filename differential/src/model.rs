@@ -515,14 +515,45 @@ struct Reading<'d> {
     series: Vec<[u32; ROW]>,
     positions: Vec<u32>,
     amounts: Vec<i64>,
+    /// The two ends of TimePeriodCovered, in minutes from 2000-01-01, and every attribute value that was taken.
+    period: (i64, i64),
+    values: Vec<Value>,
+}
+
+/// An attribute value of an accepted element: in which series, counted from 1 and 0 in the header; its element and attribute; where it is.
+pub struct Value {
+    pub series: usize,
+    pub element: &'static str,
+    pub attribute: &'static str,
+    pub place: Range<usize>,
+}
+
+/// What a reading with this room for series, and room for every interval, finds.
+pub struct Judged {
+    pub refusal: u32,
+    pub place: usize,
+    pub kind: u32,
+    pub series: usize,
+    pub period: (i64, i64),
+    pub values: Vec<Value>,
+}
+
+pub fn judge(doc: &[u8], series_room: usize) -> Judged {
+    let mut reading = Reading::with_room(doc, series_room, usize::MAX);
+    let (refusal, place) = reading.items();
+    Judged { refusal, place, kind: reading.kind, series: reading.series.len(), period: reading.period, values: reading.values }
 }
 
 impl<'d> Reading<'d> {
     fn new(doc: &'d [u8], lengths: &Lengths) -> Reading<'d> {
+        Reading::with_room(doc, lengths.series / ROW, lengths.positions.min(lengths.amounts))
+    }
+
+    fn with_room(doc: &'d [u8], series_room: usize, interval_room: usize) -> Reading<'d> {
         Reading {
             doc,
-            series_room: lengths.series / ROW,
-            interval_room: lengths.positions.min(lengths.amounts),
+            series_room,
+            interval_room,
             kind: 0,
             open: Vec::new(),
             starts: 0,
@@ -535,6 +566,8 @@ impl<'d> Reading<'d> {
             series: Vec::new(),
             positions: Vec::new(),
             amounts: Vec::new(),
+            period: (0, 0),
+            values: Vec::new(),
         }
     }
 
@@ -588,6 +621,7 @@ impl<'d> Reading<'d> {
             return Err(smallest);
         }
         self.take(row, attributes);
+        self.take_values(row, attributes);
         if !empty {
             self.open.push(Open { row, child: 0, count: 0 });
         }
@@ -741,8 +775,21 @@ impl<'d> Reading<'d> {
         }
     }
 
+    /// Every attribute value, with the series that it is in. "Qty and Pos are not among them."
+    fn take_values(&mut self, row: &Row, attributes: &[Given]) {
+        if matches!(row.task, Task::Pos | Task::Qty) {
+            return;
+        }
+        for wanted in row.attributes {
+            if let Some(place) = self.value(wanted, attributes) {
+                self.values.push(Value { series: self.series.len(), element: row.name, attribute: wanted.name, place });
+            }
+        }
+    }
+
     fn take_covered(&mut self, value: &'d [u8]) {
         let (start, end) = interval(value).unwrap_or((0, 0));
+        self.period = (start, end);
         self.n = u32::try_from((end - start) / 15).unwrap_or(0);
         self.covered = value;
     }

@@ -40,7 +40,10 @@ fn happens(random: &mut Random, rarely: usize) -> bool {
 }
 
 const WHITE: &[&[u8]] = &[b" ", b"\n", b"\r\n", b"\t", b"\n  ", b" \t\r\n", b"\n\n"];
-const COMMENTS: &[&str] = &["<!---->", "<!-- a -->", "<!--->-->", "<!--<Qty v=\"1\"/>-->", "<!--&]]>\n\t-->", "<!--ä€𝄞-->", "<!-- - - -->"];
+const COMMENTS: &[&str] = &[
+    "<!---->", "<!-- a -->", "<!--->-->", "<!--<Qty v=\"1\"/>-->", "<!--&]]>\n\t-->", "<!--ä€𝄞-->", "<!-- - - -->", "<!--<Direction v=\"A02\"/>-->",
+    "<!-- <MeasurementUnit v=' Z03'/> -->", "<!--<SenderRole v=\"A18\"/>-->",
+];
 const MARKS: &[&str] = &[
     "<?xml version=\"1.0\"?>", "<?xml version='1.0' encoding='UTF-8'?>", "<?xml version=\"1.0\" encoding='utf-8'?>",
     "<?xml\tversion = '1.0'\n encoding\r=\t\"Utf-8\" ?>", "<?xml version=\"1.0\" encoding=\"UTF-8\"\n?>", "<?xml version=\"1.0\"\t?>",

@@ -6,6 +6,7 @@ use crate::random::Random;
 use crate::renaming::{clean, renamed};
 use crate::tables::tables;
 use crate::totals::{add_up, causes, Asked, Cause, CAUSES, MOST_SERIES, TOO_LARGE};
+use crate::views::{lent, view, Viewed, HEADER_CELLS, SERIES_CELLS};
 
 const ROOM: Lengths = Lengths { series: 64 * ROW, positions: 2048, amounts: 2048, note: 16 };
 const ROOT: &str = "<Kostenblatt DtdBDEWNachrichtenVersion=\"1.0\">";
@@ -696,4 +697,123 @@ fn generated_tables() {
     assert!(kinds.iter().chain(&lent).all(|many| *many > 1_000) && most.iter().all(|many| *many > 50), "{kinds:?} {lent:?} {most:?}");
     assert!([0, 17, 18].iter().all(|refusal| refusals[*refusal] > 500), "{refusals:?}");
     assert_eq!(tables(5, 77), tables(5, 77));
+}
+
+/// A document viewed with room for eight series.
+fn viewed(doc: &str) -> Viewed {
+    view(doc.as_bytes(), HEADER_CELLS + 8 * SERIES_CELLS, 6)
+}
+
+/// What pair k shows, in the header or in series i; nothing where it is absent.
+fn shown<'d>(doc: &'d str, views: &Viewed, k: usize, i: usize) -> Option<&'d str> {
+    let at = 2 * (k + 22 * i);
+    let (start, length) = (views.table[at] as usize, views.table[at + 1] as usize);
+    assert!(start != 0 || length == 0);
+    (start != 0).then(|| &doc[start..start + length])
+}
+
+fn all_shown<'d>(doc: &'d str, views: &Viewed, pairs: std::ops::Range<usize>, i: usize) -> Vec<&'d str> {
+    pairs.map(|k| shown(doc, views, k, i).unwrap_or("-")).collect()
+}
+
+#[test]
+fn views_of_a_header() {
+    let doc = kind_2().replace("<DocumentVersion v=\"1\"/>", "<DocumentVersion v=\"  12 \"/>").replace("\"A10\"", "' A10 '");
+    let views = viewed(&doc);
+    // 29 February 2024 is day 8825 from 2000-01-01
+    let from = 8825 * 1440 + 7;
+    assert_eq!((views.refusal, &views.answer[..]), (0, &[0, doc.len() as u32, 2, 1, from, from + 60][..]));
+    let told = [
+        "-", "-", "1.0", "d", "12", "Z05", "A14", "9900000000001", "NDE", "A27", "9900000000002", "A10", "A18", "2024-02-29T00:00:59Z",
+        "2024-02-29T00:07Z/2024-02-29T01:07Z", "-",
+    ];
+    assert_eq!(all_shown(&doc, &views, 0..16, 0), told);
+    let of_three = kind_3(WITHDRAWN, &[]);
+    let header = all_shown(&of_three, &viewed(&of_three), 0..16, 0);
+    assert_eq!((&header[..3], header[15]), (&["4", "1", "-"][..], "A13"));
+    assert!(viewed(&of_three).table[HEADER_CELLS..].iter().all(|cell| *cell == 0));
+}
+
+#[test]
+fn views_of_series() {
+    let period = "2024-02-29T00:07Z/2024-02-29T01:07Z";
+    let doc = kind_2();
+    let two = [
+        "s1", "A01", "-", "8716867000016", "-", "-", "A0000000001", "NDE", "9900000000003", "NDE", "A03", "Z01", "-", "-", "-", "-", "-", "-", "-",
+        period, "PT15M", "-",
+    ];
+    assert_eq!(all_shown(&doc, &viewed(&doc), 16..38, 0), two);
+    let day = "2024-03-30T23:00Z/2024-03-31T22:00Z";
+    let doc = kind_1(day, 92);
+    let one = [
+        "s", "A02", "8716867000016", "10YDE-VE-------2", "A01", "10YFLENSBURG---3", "A01", "11XIN----------A", "A01", "11XOUT---------B", "A01",
+        "MAW", "-", "-", "-", "-", "-", "-", day, "PT15M", "-", "-",
+    ];
+    assert_eq!(all_shown(&doc, &viewed(&doc), 16..38, 0), one);
+    let doc = kind_3("", &plain_3());
+    for (i, (id, business)) in [("p", "A77"), ("n", "B59")].into_iter().enumerate() {
+        let three = [
+            id, business, "A01", "10YDE-VE-------2", "A01", "nbm ä", "Z01", "-", "-", "-", "-", "-", "-", "C62", "-", "-", "-", "-", "-", "-",
+            period, "PT15M",
+        ];
+        assert_eq!(all_shown(&doc, &viewed(&doc), 16..38, i), three);
+    }
+}
+
+/// A comment says nothing, and the spaces of a collapsed value are not shown.
+#[test]
+fn a_view_is_of_the_element() {
+    let product = "<Product v=\"8716867000016\"/>";
+    let doc = kind_2().replace(product, &["<!-- <Direction v=\"A02\"/> --><Direction v=\" A01 \"/>", product].concat());
+    assert_eq!(shown(&doc, &viewed(&doc), 18, 0), Some("A01"));
+    let empty = kind_2().replace("v=\"s1\"", "v=\"\"");
+    assert_eq!(shown(&empty, &viewed(&empty), 16, 0), Some(""));
+    let kept = kind_2().replace("v=\"s1\"", "v=\" s \"");
+    assert_eq!(shown(&kept, &viewed(&kept), 16, 0), Some(" s "));
+}
+
+#[test]
+fn views_in_short_tables() {
+    let doc = kind_3("", &plain_3());
+    let second = last(&doc, 4, "<NetworkConstraintTimeSeries>").1;
+    let first = at(&doc, 4, "<NetworkConstraintTimeSeries>").1;
+    for (cells, six) in [
+        (0, [4, 0, 0, 0]),
+        (31, [4, 0, 0, 0]),
+        (32, [4, first, 3, 0]),
+        (75, [4, first, 3, 0]),
+        (76, [4, second, 3, 1]),
+        (119, [4, second, 3, 1]),
+        (120, [0, doc.len() as u32, 3, 2]),
+    ] {
+        let views = view(doc.as_bytes(), cells, 9);
+        assert_eq!((views.refusal, &views.answer[..4]), (six[0], &six[..]), "{cells} cells");
+        assert!(views.answer[6..] == [0, 0, 0] && (views.answer[5] == 0) == (six[0] != 0));
+        assert!(views.table.len() == cells && (six[0] == 0 || views.table.iter().all(|cell| *cell == 0)));
+    }
+    let long = vec![b' '; LONGEST + 1];
+    assert_eq!((view(&long, 31, 6).answer, view(&long, 32, 2).answer), (vec![4, 0, 0, 0, 0, 0], vec![1, 0]));
+}
+
+/// Every pair that a kind has is shown in many generated documents, every one that it has not in none; tables are short of a header, of a series and of nothing.
+#[test]
+fn generated_views() {
+    const PAIRS: [usize; 3] = [36, 37, 38];
+    let (mut shown, mut refusals) = ([[0; 38]; 3], [0; 10]);
+    for number in 0..12_000 {
+        let made = document(8, number);
+        for (table, answer) in lent(8, number, &made.bytes) {
+            let views = view(&made.bytes, table, answer);
+            refusals[views.refusal as usize] += 1;
+            if let (0, Some(kind)) = (views.refusal, views.answer.get(2)) {
+                let there = |k: usize| views.table.get(2 * k).is_some_and(|start| *start != 0);
+                (0..38).filter(|k| there(*k)).for_each(|k| shown[*kind as usize - 1][k] += 1);
+            }
+        }
+    }
+    for (kind, shown) in shown.iter().enumerate() {
+        let known = |k: usize| k < PAIRS[kind] && (kind == 2 || !matches!(k, 0 | 1 | 15));
+        assert!((0..38).all(|k| if known(k) { shown[k] > 5 } else { shown[k] == 0 }), "kind {}: {shown:?}", kind + 1);
+    }
+    assert!(refusals[2..9].iter().all(|many| *many > 100) && refusals[0] > 1_000, "{refusals:?}");
 }

@@ -1,10 +1,9 @@
 /*
- * The plants of a sheet by price in a quarter hour, cheapest first and like with like. The sheet is invented.
- * usage: plants QUARTER (1 is the first of TimePeriodCovered)
+ * The plants of a sheet by price, cheapest first and like with like, with the UTC time at which each quarter hour begins. The sheet is invented.
+ * usage: plants [QUARTER]     the quarter hour, of which 1 is the first of TimePeriodCovered; else each one in which a price changes
  *
- * A price is ranked beside those of the same BusinessType, Direction and area of a Kostenblatt alone; `-` stands for a Direction or an area that a
- * series does not have. MeasurementUnit (euros per piece, per megawatt hour or per hour) has to be the same too. It is not in the tables yet, so that
- * this program cannot tell units apart: its own sheet has one unit for each BusinessType, and a sheet that mixes them may not be ranked like this.
+ * A price is ranked beside those of the same BusinessType, Direction, MeasurementUnit and area of a Kostenblatt alone; `-` stands for a Direction or an
+ * area that a series does not have. The unit (euros per piece, per megawatt hour or per hour) and the times are shown by lumintayag_views.
  */
 #include <inttypes.h>
 #include <stdio.h>
@@ -24,8 +23,8 @@
     "<MeasurementUnit v=\"" unit "\"/><Period><TimeInterval v=\"" DAY "\"/><Resolution v=\"PT15M\"/>" prices "</Period></CostTimeSeries>"
 #define FROM(pos, price) "<Interval><Pos v=\"" pos "\"/><Qty v=\"" price "\"/></Interval>"
 
-/* Energy of three plants, up and down, in euros per megawatt hour; what a start costs, in euros per piece; and an hour more, in euros, which has no
- * Direction. */
+/* Energy of three plants, up and down, in euros per megawatt hour; what a start costs, in euros per piece and of one plant in euros per hour, which may not
+ * be ranked beside the others; and an hour more, in euros, which has no Direction. */
 static const char sheet[] =
     "<Kostenblatt DtdBDEWNachrichtenVersion=\"1.0\"><DocumentIdentification v=\"KB-7\"/><DocumentVersion v=\"1\"/><DocumentType v=\"Z05\"/>"
     "<ProcessType v=\"A14\"/><SenderIdentification v=\"9900000000017\" codingScheme=\"NDE\"/><SenderRole v=\"A27\"/>"
@@ -39,69 +38,102 @@ static const char sheet[] =
     PLANT("Isar, down", "A01", DOWN, SOUTH, "C0000000025", "Z02", FROM("1", "3.25"))
     PLANT("Isar, start", "Z01", UP, SOUTH, "C0000000025", "Z01", FROM("1", "980") FROM("41", "1400.5"))
     PLANT("Oste, up", "A01", UP, NORTH, "C0000000033", "Z02", FROM("1", "55.125") FROM("41", "-3.75") FROM("57", "120.001"))
+    PLANT("Oste, start", "Z01", UP, SOUTH, "C0000000033", "Z03", FROM("1", "40.5"))
     PLANT("Oste, hour", "Z02", "", "", "C0000000033", "Z03", FROM("1", "275.5"))
     "</Kostenblatt>";
 
-struct offer { const uint32_t *row; int64_t price; };
+enum { SERIES = 64, INTERVALS = 2048, PAIRS = 2 * (LUMINTAYAG_HEADER_PAIRS + SERIES * LUMINTAYAG_SERIES_PAIRS) };
 
-/* By what two rows show at a cell. */
-static int by_view(const uint32_t *a, const uint32_t *b, int cell) {
-    uint32_t n = a[cell + 1], m = b[cell + 1];
-    int order = memcmp(sheet + a[cell], sheet + b[cell], n < m ? n : m);
+static uint32_t series[SERIES * LUMINTAYAG_SERIES_ROW], positions[INTERVALS], answer[LUMINTAYAG_ANSWER_NUMBERS];
+static int64_t amounts[INTERVALS];
+static uint8_t note[LUMINTAYAG_NOTE_ROOM];
+static uint32_t views[PAIRS], told[LUMINTAYAG_VIEWS_NUMBERS];
+
+/* A series by its number, and its price. */
+struct offer { uint32_t i; int64_t price; };
+
+/* By what pair k shows of two series. */
+static int by_view(uint32_t i, uint32_t j, int k) {
+    const uint32_t *a = views + LUMINTAYAG_PAIR(k, i), *b = views + LUMINTAYAG_PAIR(k, j);
+    uint32_t n = a[1], m = b[1];
+    int order = memcmp(sheet + a[0], sheet + b[0], n < m ? n : m);
     return order != 0 ? order : (n > m) - (n < m);
 }
 
+static const int like[] = {LUMINTAYAG_VIEW_2_BUSINESS_TYPE, LUMINTAYAG_VIEW_2_DIRECTION, LUMINTAYAG_VIEW_2_MEASUREMENT_UNIT, LUMINTAYAG_VIEW_2_CONNECTING_AREA};
+enum { LIKE = sizeof like / sizeof *like };
+
 static int by_price(const void *a, const void *b) {
-    static const int like[] = {LUMINTAYAG_BUSINESS_TYPE, LUMINTAYAG_DIRECTION, LUMINTAYAG_AREA};
     const struct offer *x = a, *y = b;
-    for (size_t i = 0; i < sizeof like / sizeof *like; i++) {
-        int order = by_view(x->row, y->row, like[i]);
+    for (int l = 0; l < LIKE; l++) {
+        int order = by_view(x->i, y->i, like[l]);
         if (order != 0) return order;
     }
     if (x->price != y->price) return x->price < y->price ? -1 : 1;
-    return by_view(x->row, y->row, LUMINTAYAG_OBJECT);
+    return by_view(x->i, y->i, LUMINTAYAG_VIEW_2_RESOURCE_OBJECT);
 }
 
 /* The amount of a quarter hour from 1 to N: an amount stands until the next Pos. */
-static int64_t amount_at(const uint32_t *row, const uint32_t *positions, const int64_t *amounts, unsigned long quarter) {
+static int64_t amount_at(const uint32_t *row, uint32_t quarter) {
     uint32_t k = row[LUMINTAYAG_FIRST_INTERVAL], end = k + row[LUMINTAYAG_INTERVAL_COUNT];
     while (k + 1 < end && positions[k + 1] <= quarter) k++;
     return amounts[k];
 }
 
+/* Minutes since 2000-01-01T00:00Z as a time. From 2000 to 2099 every fourth year is a leap year. */
+static void print_time(uint32_t minutes) {
+    static const uint32_t before[] = {0, 31, 60, 91, 121, 152, 182, 213, 244, 274, 305, 335}; /* days before each month of a leap year */
+    uint32_t day = minutes / 1440 % 1461, year = minutes / 1440 / 1461 * 4, month = 11;
+    if (day >= 366) year += 1 + (day - 366) / 365, day = (day - 366) % 365, day += day >= 59; /* as if it had a 29 February */
+    while (before[month] > day) month--;
+    printf("%04" PRIu32 "-%02" PRIu32 "-%02" PRIu32 "T%02" PRIu32 ":%02" PRIu32 "Z", 2000 + year, month + 1, day - before[month] + 1, minutes / 60 % 24,
+           minutes % 60);
+}
+
 /* A value that starts at 0 is absent. */
-static void print_view(const uint32_t *row, int cell) {
-    if (row[cell] == 0) printf("-");
-    else printf("%.*s", (int)row[cell + 1], sheet + row[cell]);
+static void print_view(int k, uint32_t i) {
+    const uint32_t *pair = views + LUMINTAYAG_PAIR(k, i);
+    if (pair[0] == 0) printf("-");
+    else printf("%.*s", (int)pair[1], sheet + pair[0]);
 }
 
 static void print_offer(struct offer o) {
-    static const int shown[] = {LUMINTAYAG_BUSINESS_TYPE, LUMINTAYAG_DIRECTION, LUMINTAYAG_AREA, LUMINTAYAG_OBJECT};
     uint64_t size = (uint64_t)llabs(o.price);
-    for (size_t i = 0; i < sizeof shown / sizeof *shown; i++) print_view(o.row, shown[i]), printf(" ");
-    printf("%s%" PRIu64 ".%03" PRIu64 " (", o.price < 0 ? "-" : "", size / 1000, size % 1000);
-    print_view(o.row, LUMINTAYAG_IDENTIFICATION), printf(")\n");
+    for (int l = 0; l < LIKE; l++) printf(" "), print_view(like[l], o.i);
+    printf(" "), print_view(LUMINTAYAG_VIEW_2_RESOURCE_OBJECT, o.i);
+    printf(" %s%" PRIu64 ".%03" PRIu64 " (", o.price < 0 ? "-" : "", size / 1000, size % 1000);
+    print_view(LUMINTAYAG_VIEW_2_TIME_SERIES_IDENTIFICATION, o.i), printf(")\n");
+}
+
+/* A line for each series, from the time at which the quarter hour begins on. */
+static void print_quarter(uint32_t quarter) {
+    static struct offer offers[SERIES];
+    uint32_t count = answer[LUMINTAYAG_SERIES];
+    for (uint32_t i = 0; i < count; i++) offers[i] = (struct offer){i, amount_at(series + i * LUMINTAYAG_SERIES_ROW, quarter)};
+    qsort(offers, count, sizeof *offers, by_price);
+    for (uint32_t i = 0; i < count; i++) print_time(told[LUMINTAYAG_FROM] + 15 * (quarter - 1)), print_offer(offers[i]);
+}
+
+static int changes_at(uint32_t quarter) {
+    for (uint32_t k = 0; k < answer[LUMINTAYAG_INTERVALS]; k++)
+        if (positions[k] == quarter) return 1;
+    return 0;
 }
 
 int main(int argc, char **argv) {
-    static uint32_t series[64 * LUMINTAYAG_SERIES_ROW], positions[2048], answer[LUMINTAYAG_ANSWER_NUMBERS];
-    static int64_t amounts[2048];
-    static uint8_t note[LUMINTAYAG_NOTE_ROOM];
-    static struct offer offers[64];
-    unsigned long quarter = argc == 2 ? strtoul(argv[1], NULL, 10) : 0;
+    unsigned long quarter = argc > 1 ? strtoul(argv[1], NULL, 10) : 1;
     const uint8_t *doc = (const uint8_t *)sheet;
-    if (lumintayag_read_v3(doc, sizeof sheet - 1, series, 64 * LUMINTAYAG_SERIES_ROW, positions, 2048, amounts, 2048, LUMINTAYAG_NOTE_OLD, note, sizeof note,
-                           answer, LUMINTAYAG_ANSWER_NUMBERS))
+    if (lumintayag_read_v3(doc, sizeof sheet - 1, series, SERIES * LUMINTAYAG_SERIES_ROW, positions, INTERVALS, amounts, INTERVALS, LUMINTAYAG_NOTE_OLD, note,
+                           sizeof note, answer, LUMINTAYAG_ANSWER_NUMBERS))
         return fprintf(stderr, "refusal %" PRIu32 " at %" PRIu32 "\n", answer[LUMINTAYAG_REFUSAL], answer[LUMINTAYAG_PLACE]), 1;
+    if (lumintayag_views(doc, sizeof sheet - 1, views, PAIRS, told, LUMINTAYAG_VIEWS_NUMBERS))
+        return fprintf(stderr, "refusal %" PRIu32 " at %" PRIu32 "\n", told[LUMINTAYAG_REFUSAL], told[LUMINTAYAG_PLACE]), 1;
     if (answer[LUMINTAYAG_KIND] != LUMINTAYAG_KOSTENBLATT)
         return fprintf(stderr, "a document of kind %" PRIu32 " has no prices\n", answer[LUMINTAYAG_KIND]), 1;
-    if (quarter < 1 || quarter > answer[LUMINTAYAG_QUARTERS])
-        return fprintf(stderr, "usage: plants QUARTER, from 1 to %" PRIu32 "\n", answer[LUMINTAYAG_QUARTERS]), 2;
-    for (uint32_t i = 0; i < answer[LUMINTAYAG_SERIES]; i++) {
-        const uint32_t *row = series + i * LUMINTAYAG_SERIES_ROW;
-        offers[i] = (struct offer){row, amount_at(row, positions, amounts, quarter)};
-    }
-    qsort(offers, answer[LUMINTAYAG_SERIES], sizeof *offers, by_price);
-    for (uint32_t i = 0; i < answer[LUMINTAYAG_SERIES]; i++) print_offer(offers[i]);
+    if (argc > 2 || quarter < 1 || quarter > answer[LUMINTAYAG_QUARTERS])
+        return fprintf(stderr, "usage: plants [QUARTER], from 1 to %" PRIu32 "\n", answer[LUMINTAYAG_QUARTERS]), 2;
+    if (argc == 2) return print_quarter((uint32_t)quarter), 0;
+    for (uint32_t q = 1; q <= answer[LUMINTAYAG_QUARTERS]; q++)
+        if (changes_at(q)) print_quarter(q);
     return 0;
 }

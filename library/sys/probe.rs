@@ -2,7 +2,9 @@
 #[path = "src/functions.rs"]
 mod functions;
 
-use functions::{lumintayag_convert_note, lumintayag_read_note_v2, lumintayag_read_v3, lumintayag_readable_len, lumintayag_totals, lumintayag_version};
+use functions::{
+    lumintayag_convert_note, lumintayag_read_note_v2, lumintayag_read_v3, lumintayag_readable_len, lumintayag_totals, lumintayag_version, lumintayag_views,
+};
 
 fn main() {
     let others = [
@@ -11,6 +13,7 @@ fn main() {
         lumintayag_convert_note as *const (),
         lumintayag_readable_len as *const (),
         lumintayag_totals as *const (),
+        lumintayag_views as *const (),
     ];
     std::hint::black_box(others);
     // It takes no argument, and every version has it.

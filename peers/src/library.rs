@@ -1,6 +1,6 @@
 //! The proved library, called as C calls it.
 
-use lumintayag_sys::lumintayag_read_v3;
+use lumintayag_sys::{lumintayag_read_v3, lumintayag_views};
 
 #[derive(Clone, Copy)]
 pub struct Answer {
@@ -44,4 +44,12 @@ pub fn read(doc: &[u8]) -> Answer {
         );
     }
     Answer { refusal: answer[0], place: answer[1] as usize, kind: answer[2] }
+}
+
+/// The table of views of an accepted document, and its kind.
+pub fn views(doc: &[u8]) -> Option<(u32, Vec<u32>)> {
+    let (mut table, mut answer) = (vec![0_u32; 32 + 44 * (doc.len() / SHORTEST_SERIES + 1)], [0_u32; 6]);
+    // Each length is that of the slice its pointer is from.
+    let refusal = unsafe { lumintayag_views(doc.as_ptr(), doc.len(), table.as_mut_ptr(), table.len(), answer.as_mut_ptr(), answer.len()) };
+    (refusal == 0).then_some((answer[2], table))
 }

@@ -4,6 +4,7 @@
 //!
 //! What the library accepts has to be well-formed to both peers and accepted by the schema of its kind. What it refuses though the
 //! schema takes it has to fall under a rule of 01 that no schema says, and what it can't read though both peers can, under a cut of 01.
+//! The values that views show of what it accepts have to be those that expat tells.
 
 use differential::documents::document;
 use differential::random::Random;
@@ -16,6 +17,7 @@ mod library;
 mod libxml;
 mod neighbours;
 mod tags;
+mod views;
 
 use library::Answer;
 use libxml::{Schema, Tree};
@@ -58,6 +60,8 @@ struct Tally {
     one_peer: u64,
     /// Refused by the library, taken by the schema: by refusal and class.
     narrower: BTreeMap<(u32, &'static str), u64>,
+    /// Values that views show.
+    shown: u64,
     /// Unreadable to the library, well-formed to both peers: by cut.
     cuts: BTreeMap<&'static str, u64>,
     faults: u64,
@@ -121,8 +125,11 @@ fn count(doc: &[u8], answer: Answer, verdict: &Verdict, tally: &mut Tally) {
 fn fault(doc: &[u8], answer: Answer, verdict: &Verdict, tally: &mut Tally) -> Option<&'static str> {
     let both = verdict.expat && verdict.libxml;
     if answer.refusal == 0 {
+        let shown = views::agreed(doc);
+        tally.shown += shown.unwrap_or(0);
         return match (verdict.expat, verdict.libxml, verdict.schema == answer.kind) {
-            (true, true, true) => None,
+            (true, true, true) if shown.is_some() => None,
+            (true, true, true) => Some("accepted, and views show other values than expat"),
             (false, _, _) => Some("accepted, and not well-formed to expat"),
             (_, false, _) => Some("accepted, and not well-formed to libxml2"),
             _ => Some("accepted, and refused by the schema"),
@@ -155,6 +162,7 @@ fn print_tally(title: &str, tally: &Tally) {
     for (cut, many) in &tally.cuts {
         println!("  well-formed to both, unreadable: {many} ({cut})");
     }
+    println!("  values shown by views of accepted ones, as expat tells them: {}", tally.shown);
     println!("  faults: {}", tally.faults);
 }
 

@@ -1,22 +1,20 @@
 -- "The answer is the reader's": what is found with the room of a table of views is what the reader finds with as much room for series, and room for every
 -- interval. Assumes nothing.
-use Prim.Native.Nat.{ℕ, zero, suc, pred, _+_, _*_, _-_, _/_, _≤_, _<_}
+use Prim.Native.Nat.{ℕ, zero, suc, pred, _+_, _-_, _≤_, _<_}
 use mathlib.Core.Path.{_≡_, refl, sym, ap, _∙_}
 use mathlib.Core.List.{List, [], _∷_}
 use mathlib.Core.Bool.{Bool, true, false, cond}
 use mathlib.Core.Logic.{⊎-elim}
 use native.Mathlib.Omega.{arith}
 use native.Mathlib.Nat.{le-refl}
-use lib.Dec.{eqb, leb, ltb}
+use lib.Dec.{eqb}
 use lib.ListN.{length, getD, set, length-set}
 use lib.Seq.{getD-set-same, getD-set-other}
 use borrow.Author.Tests.{lt-leb}
 use Rattle.lists.proofs.Cases.{eqb-cases, zero-not-one}
 use Rattle.slices.specs.Run.{run}
 use Rattle.trims.specs.Trim.{space, dropped}
-use Rattle.slices.specs.Part.{partOf}
 use Rattle.slices.specs.declared.Span.{Span}
-use Rattle.elements.specs.Names.{elementNo}
 use Rattle.items.specs.Parts.{spanOf}
 use Rattle.items.specs.Item.{item, itemEnd}
 use Rattle.items.specs.declared.Tag.{Tag}
@@ -24,11 +22,10 @@ use Rattle.items.specs.declared.Item.{Item}
 use Rattle.items.specs.declared.Item.the-variants.{Start, Empty, End, Text, Comment, Unreadable}
 use Rattle.structure.specs.declared.Due.{Due}
 use Rattle.structure.specs.declared.Due.the-variants.{Row, NotDue}
-use Rattle.structure.specs.Rows.{startOf}
 use Rattle.series.specs.Row.{isView, dropsSpaces, cellsOf, cellAt, withField, withView, view}
 use Rattle.series.specs.declared.Field.{Field}
 use Rattle.series.specs.declared.Field.the-variants.{Identification, Object, BusinessType, Direction, Area, FirstRow, Count}
-use Rattle.states.specs.Moves.{noRoom, judgedAt, startJudged, startedBy, startedAt, started, moved, kindTold, step}
+use Rattle.states.specs.Moves.{noRoom, judgedAt, startJudged, startedAt, started, moved, step}
 use Rattle.states.specs.declared.State.{State}
 use Rattle.states.specs.declared.Room.{Room}
 use Rattle.states.specs.declared.Entry.{Entry}

@@ -1,8 +1,8 @@
 -- Two documents that differ in digits of readable Qty values alone get the same views, cell by cell. Assumes nothing.
 use Prim.Native.Nat.{ℕ, _+_, _≤_}
-use mathlib.Core.Path.{_≡_, refl, sym, ap, _∙_}
-use mathlib.Core.List.{List, [], _∷_}
-use mathlib.Core.Bool.{Bool, true, false, cond}
+use mathlib.Core.Path.{_≡_, refl, sym, _∙_}
+use mathlib.Core.List.{List}
+use mathlib.Core.Bool.{Bool, true, false}
 use mathlib.Core.Logic.{⊎-elim}
 use native.Mathlib.Omega.{arith}
 use lib.Dec.{eqb, ltb}
@@ -20,8 +20,6 @@ use Rattle.columns.specs.Columns.{collapsed, roleOf, formOf, schemeOf}
 use Rattle.items.specs.declared.Tag.{Tag}
 use Rattle.items.specs.declared.Item.{Item}
 use Rattle.items.specs.declared.Item.the-variants.{Start, Empty, End, Text, Comment, Unreadable}
-use Rattle.prolog.specs.Prolog.{begin}
-use Rattle.prolog.specs.declared.Begin.the-variants.{From}
 use Rattle.tables.specs.Cells.{noAmounts}
 use Rattle.guideline.specs.Rows.{beschaffungsanforderung, kostenblatt, networkConstraintDocument, rowsOf}
 use Rattle.guideline.proofs.Each.{eachTable, of-table}
@@ -33,7 +31,6 @@ use Rattle.reader.specs.Items.{Placed, itemsFrom}
 use Rattle.reader.specs.Rows.{quoted}
 use Rattle.reader.specs.Reading.{tab, Tables, refusedAt, readItems, itemsRead}
 use Rattle.reader.specs.Judging.{judgedAfter, judgedInto, judged}
-use Rattle.reader.specs.declared.Found.{Found}
 use Rattle.numbers.specs.Alike.{Alike}
 use Rattle.digits.proofs.Chars.{digits-unseen}
 use Rattle.blindness.specs.Readable.{DifferInQty}
@@ -49,7 +46,7 @@ use Rattle.contents.specs.Spelled.{allowed, AllAllowed}
 use Rattle.contents.proofs.Bridge.{forth}
 use Rattle.views.specs.Layout.{valuesOf, rowNamed, viewRoom}
 use Rattle.views.specs.Shown.{valueStart, valueLength, withValue, rootShown, vShown, schemeShown, tagShown, tagRow, tagCounts, tagShows, itemCounts, itemShows, itemsShown}
-use Rattle.views.specs.Views.{shownAfter, sheetShown, Sight, sightBy, sheetViewed}
+use Rattle.views.specs.Views.{shownAfter, sheetShown, sightBy, sheetViewed}
 
 abbrev qty : List ℕ
 qty = text "Qty"

@@ -3,4 +3,9 @@ pub mod Answered
 pub mod Pairs
 pub mod Slots
 pub mod Parts
+pub mod Shared
+pub mod Named
 pub mod Promises
+pub mod Same
+pub mod Past
+pub mod Witness

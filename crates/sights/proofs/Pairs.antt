@@ -1,15 +1,14 @@
 -- What a pair shows after a tag: its own values, and those of the pairs of others stay. Assumes nothing.
-use Prim.Native.Nat.{ℕ, zero, suc, _+_, _*_, _≤_, _<_}
-use mathlib.Core.Path.{_≡_, refl, sym, ap, subst, _∙_}
+use Prim.Native.Nat.{ℕ, zero, suc, _+_, _≤_, _<_}
+use mathlib.Core.Path.{_≡_, refl, sym, ap, _∙_}
 use mathlib.Core.List.{List, [], _∷_, _++_}
 use mathlib.Core.Bool.{Bool, true, false, cond}
-use mathlib.Core.Logic.{_⊎_, inl, inr, ⊎-elim}
+use mathlib.Core.Logic.{_⊎_, ⊎-elim}
 use native.Mathlib.Omega.{arith}
 use native.Mathlib.Nat.{add-zero}
 use lib.Dec.{eqb}
 use lib.ListN.{length, drop, getD, set, length-set}
 use lib.Seq.{getD-set-same, getD-set-other}
-use borrow.Author.Tests.{eqb-true}
 use Rattle.lists.proofs.Cases.{bool-cases, never}
 use Rattle.slices.specs.Run.{run}
 use Rattle.slices.specs.Part.{partOf}
@@ -20,7 +19,7 @@ use Rattle.items.specs.declared.Tag.{Tag}
 use Rattle.tags.specs.declared.Dtd.{Dtd}
 use Rattle.states.specs.Attributes.{there, asksV, asksScheme}
 use Rattle.reader.specs.Rows.{quoted}
-use Rattle.contents.specs.Said.{AttributeValue, Absent, Given, TagSaid}
+use Rattle.contents.specs.Said.{AttributeValue, Absent, Given}
 use Rattle.contents.specs.Spelled.{valueGiven, dtdOfTag, saidOfTag}
 use Rattle.contents.proofs.Views.{part-in, trimmed-part}
 use Rattle.views.specs.Layout.{oneIf, valuesOf, cellOf}
@@ -64,10 +63,12 @@ module _ (doc : List ℕ) where
   in-cells t k Absent h = h
   in-cells t k (Given b) h = h
 
-  kept-pair : (t : List ℕ) (k l a n : ℕ) (v : AttributeValue) → (k ≡ l → ⊥) → PairShows doc t l v → PairShows doc (withPair t k a n) l v
-  kept-pair t k l a n v d h =
-      let e = pair-kept t k l a n d in
-      by-cells (withPair t k a n) l v (rw (e .0, e .1) (in-cells t l v h))
+  -- the two cells of pair l are the same
+  abbrev pub Kept : List ℕ → List ℕ → ℕ → Type 0
+  Kept t u l = (getD u (cellOf l) 0 ≡ getD t (cellOf l) 0) × (getD u (cellOf l + 1) 0 ≡ getD t (cellOf l + 1) 0)
+
+  kept-shows : (t u : List ℕ) (l : ℕ) (v : AttributeValue) → Kept t u l → PairShows doc t l v → PairShows doc u l v
+  kept-shows t u l v k h = by-cells u l v (rw (k .0, k .1) (in-cells t l v h))
 
   -- ---- a value
 
@@ -96,9 +97,17 @@ module _ (doc : List ℕ) where
         let e = pair-set t k (valueStart drops at x s) (valueLength drops x s) h in
         by-cells (withPair t k (valueStart drops at x s) (valueLength drops x s)) k (withoutSpaces drops (valueGiven x s)) (rw (e .0, e .1) (said-cells drops x))
 
-    value-kept : (t : List ℕ) (k l : ℕ) (drops : Bool) (x : Span) (v : AttributeValue) → (k ≡ l → ⊥) → PairShows doc t l v → PairShows doc (withValue k drops at x s t) l v
+    value-kept : (t : List ℕ) (k l : ℕ) (drops : Bool) (x : Span) → (k ≡ l → ⊥) → Kept t (withValue k drops at x s t) l
     unfolding withValue
-    value-kept t k l drops x v d h = kept-pair t k l (valueStart drops at x s) (valueLength drops x s) v d h
+    value-kept t k l drops x d = pair-kept t k l (valueStart drops at x s) (valueLength drops x s) d
+
+    value-stays : (t : List ℕ) (k l : ℕ) (drops : Bool) (x : Span) (v : AttributeValue) → (k ≡ l → ⊥) → PairShows doc t l v → PairShows doc (withValue k drops at x s t) l v
+    value-stays t k l drops x v d h = kept-shows t (withValue k drops at x s t) l v (value-kept t k l drops x d) h
+
+    value-cells : (t : List ℕ) (k : ℕ) (drops : Bool) (x : Span) → cellOf k + 1 < length t
+        → (getD (withValue k drops at x s t) (cellOf k) 0 ≡ valueStart drops at x s) × (getD (withValue k drops at x s t) (cellOf k + 1) 0 ≡ valueLength drops x s)
+    unfolding withValue
+    value-cells t k drops x h = pair-set t k (valueStart drops at x s) (valueLength drops x s) h
 
     value-long : (t : List ℕ) (k : ℕ) (drops : Bool) (x : Span) → length (withValue k drops at x s t) ≡ length t
     unfolding withValue
@@ -123,12 +132,12 @@ module _ (doc : List ℕ) where
       unfolding rootShown
       root-shown h zero l =
           rw (add-zero k)
-          (value-kept two (k + 2) k false (d .message) _ (λ e. omega (arith, e))
-          (value-kept one (k + 1) k false (d .release) _ (λ e. omega (arith, e))
+          (value-stays two (k + 2) k false (d .message) _ (λ e. omega (arith, e))
+          (value-stays one (k + 1) k false (d .release) _ (λ e. omega (arith, e))
           (rw (all-kept (valueGiven (d .version) s)) at (value-shown t k false (d .version) (omega (arith, h))))))
       root-shown h (suc zero) l =
           let m = value-long t k false (d .version) in
-          value-kept two (k + 2) (k + 1) false (d .message) _ (λ e. omega (arith, e))
+          value-stays two (k + 2) (k + 1) false (d .message) _ (λ e. omega (arith, e))
           (rw (all-kept (valueGiven (d .release) s)) at (value-shown one (k + 1) false (d .release) (omega (arith, h, m))))
       root-shown h (suc (suc zero)) l =
           let m = value-long t k false (d .version) in
@@ -136,12 +145,13 @@ module _ (doc : List ℕ) where
           rw (all-kept (valueGiven (d .message) s)) at (value-shown two (k + 2) false (d .message) (omega (arith, h, m, n)))
       root-shown h (suc (suc (suc j))) l = absurd (omega (arith, l))
 
-      root-kept : (i : ℕ) (v : AttributeValue) → (i < k) ⊎ (k + 3 ≤ i) → PairShows doc t i v → PairShows doc (rootShown k at d s t) i v
+      root-kept : (i : ℕ) → (i < k) ⊎ (k + 3 ≤ i) → Kept t (rootShown k at d s t) i
       unfolding rootShown
-      root-kept i v o h =
-          value-kept two (k + 2) i false (d .message) v (λ e. ⊎-elim (λ y. omega (arith, e, y)) (λ y. omega (arith, e, y)) o)
-          (value-kept one (k + 1) i false (d .release) v (λ e. ⊎-elim (λ y. omega (arith, e, y)) (λ y. omega (arith, e, y)) o)
-          (value-kept t k i false (d .version) v (λ e. ⊎-elim (λ y. omega (arith, e, y)) (λ y. omega (arith, e, y)) o) h))
+      root-kept i o =
+          let a = value-kept t k i false (d .version) (λ e. ⊎-elim (λ y. omega (arith, e, y)) (λ y. omega (arith, e, y)) o) in
+          let b = value-kept one (k + 1) i false (d .release) (λ e. ⊎-elim (λ y. omega (arith, e, y)) (λ y. omega (arith, e, y)) o) in
+          let c = value-kept two (k + 2) i false (d .message) (λ e. ⊎-elim (λ y. omega (arith, e, y)) (λ y. omega (arith, e, y)) o) in
+          (c .0 ∙ b .0 ∙ a .0, c .1 ∙ b .1 ∙ a .1)
 
       root-long : length (rootShown k at d s t) ≡ length t
       unfolding rootShown
@@ -163,7 +173,7 @@ module _ (doc : List ℕ) where
           → PairShows doc (bothTables a b) (k + j) (getD (bothSaid a b) j Absent)
       both-shown true true h zero l =
           rw (add-zero k)
-          (value-kept (vTable true) (k + 1) k true (tag .coding) _ (λ e. omega (arith, e)) (value-shown t k (collapsed w) (tag .v) (omega (arith, h))))
+          (value-stays (vTable true) (k + 1) k true (tag .coding) _ (λ e. omega (arith, e)) (value-shown t k (collapsed w) (tag .v) (omega (arith, h))))
       both-shown true true h (suc zero) l =
           let m = value-long t k (collapsed w) (tag .v) in
           value-shown (vTable true) (k + 1) true (tag .coding) (omega (arith, h, m))
@@ -174,13 +184,23 @@ module _ (doc : List ℕ) where
       both-shown false true h (suc j) l = absurd (omega (arith, l))
       both-shown false false h j l = absurd (omega (arith, l))
 
-      both-kept : (a b : Bool) (i : ℕ) (v : AttributeValue) → (i < k) ⊎ (k + (oneIf a + oneIf b) ≤ i) → PairShows doc t i v → PairShows doc (bothTables a b) i v
-      both-kept true true i v o h =
-          value-kept (vTable true) (k + 1) i true (tag .coding) v (λ e. ⊎-elim (λ y. omega (arith, e, y)) (λ y. omega (arith, e, y)) o)
-          (value-kept t k i (collapsed w) (tag .v) v (λ e. ⊎-elim (λ y. omega (arith, e, y)) (λ y. omega (arith, e, y)) o) h)
-      both-kept true false i v o h = value-kept t k i (collapsed w) (tag .v) v (λ e. ⊎-elim (λ y. omega (arith, e, y)) (λ y. omega (arith, e, y)) o) h
-      both-kept false true i v o h = value-kept t (k + 0) i true (tag .coding) v (λ e. ⊎-elim (λ y. omega (arith, e, y)) (λ y. omega (arith, e, y)) o) h
-      both-kept false false i v o h = h
+      both-kept : (a b : Bool) (i : ℕ) → (i < k) ⊎ (k + (oneIf a + oneIf b) ≤ i) → Kept t (bothTables a b) i
+      both-kept true true i o =
+          let a = value-kept t k i (collapsed w) (tag .v) (λ e. ⊎-elim (λ y. omega (arith, e, y)) (λ y. omega (arith, e, y)) o) in
+          let b = value-kept (vTable true) (k + 1) i true (tag .coding) (λ e. ⊎-elim (λ y. omega (arith, e, y)) (λ y. omega (arith, e, y)) o) in
+          (b .0 ∙ a .0, b .1 ∙ a .1)
+      both-kept true false i o = value-kept t k i (collapsed w) (tag .v) (λ e. ⊎-elim (λ y. omega (arith, e, y)) (λ y. omega (arith, e, y)) o)
+      both-kept false true i o = value-kept t (k + 0) i true (tag .coding) (λ e. ⊎-elim (λ y. omega (arith, e, y)) (λ y. omega (arith, e, y)) o)
+      both-kept false false i o = (refl, refl)
+
+      -- the pair of `v`
+      both-cells : (b : Bool) → cellOf k + 1 < length t
+          → (getD (bothTables true b) (cellOf k) 0 ≡ valueStart (collapsed w) at (tag .v) s) × (getD (bothTables true b) (cellOf k + 1) 0 ≡ valueLength (collapsed w) (tag .v) s)
+      both-cells true h =
+          let a = value-cells t k (collapsed w) (tag .v) h in
+          let e = value-kept (vTable true) (k + 1) k true (tag .coding) (λ e. omega (arith, e)) in
+          (e .0 ∙ a .0, e .1 ∙ a .1)
+      both-cells false h = value-cells t k (collapsed w) (tag .v) h
 
       both-long : (a b : Bool) → length (bothTables a b) ≡ length t
       both-long true true = value-long (vTable true) (k + 1) true (tag .coding) ∙ value-long t k (collapsed w) (tag .v)
@@ -205,22 +225,31 @@ module _ (doc : List ℕ) where
       row-shown false false true h j l = absurd (omega (arith, l))
       row-shown false false false h j l = both-shown (asksV w) (asksScheme w) h j l
 
-      row-kept : (r p q : Bool) → eqb (counted r p q) 0 ≡ false → (i : ℕ) (v : AttributeValue) → (i < k) ⊎ (k + counted r p q ≤ i) → PairShows doc t i v
-          → PairShows doc (tableOf r) i v
-      row-kept true p q e i v o h = root-kept t k (tag .dtd) i v o h
-      row-kept false true q e i v o h = never (sym e)
-      row-kept false false true e i v o h = never (sym e)
-      row-kept false false false e i v o h = both-kept (asksV w) (asksScheme w) i v o h
+      row-kept : (r p q : Bool) → eqb (counted r p q) 0 ≡ false → (i : ℕ) → (i < k) ⊎ (k + counted r p q ≤ i) → Kept t (tableOf r) i
+      row-kept true p q e i o = root-kept t k (tag .dtd) i o
+      row-kept false true q e i o = never (sym e)
+      row-kept false false true e i o = never (sym e)
+      row-kept false false false e i o = both-kept (asksV w) (asksScheme w) i o
 
       pub tag-shown : cellOf (k + valuesOf w) ≤ length t → (j : ℕ) → j < valuesOf w
           → PairShows doc (tagShown k at w tag s t) (k + j) (getD (valuesSaid w (saidOfTag tag s)) j Absent)
       unfolding tagShown schemeShown vShown valuesOf valuesSaid saidOfTag dtdOfTag
       tag-shown h j l = row-shown (eqb (roleOf w) rootRole) (eqb (roleOf w) posRole) (eqb (roleOf w) qtyRole) h j l
 
+      pub cells-kept : eqb (valuesOf w) 0 ≡ false → (i : ℕ) → (i < k) ⊎ (k + valuesOf w ≤ i) → Kept t (tagShown k at w tag s t) i
+      unfolding tagShown schemeShown vShown valuesOf
+      cells-kept e i o = row-kept (eqb (roleOf w) rootRole) (eqb (roleOf w) posRole) (eqb (roleOf w) qtyRole) e i o
+
       pub tag-kept : eqb (valuesOf w) 0 ≡ false → (i : ℕ) (v : AttributeValue) → (i < k) ⊎ (k + valuesOf w ≤ i) → PairShows doc t i v
           → PairShows doc (tagShown k at w tag s t) i v
-      unfolding tagShown schemeShown vShown valuesOf
-      tag-kept e i v o h = row-kept (eqb (roleOf w) rootRole) (eqb (roleOf w) posRole) (eqb (roleOf w) qtyRole) e i v o h
+      tag-kept e i v o h = kept-shows t (tagShown k at w tag s t) i v (cells-kept e i o) h
+
+      -- `v` of a tag that is no root
+      pub v-cells : eqb (roleOf w) rootRole ≡ false → asksV w ≡ true → cellOf k + 1 < length t
+          → (getD (tagShown k at w tag s t) (cellOf k) 0 ≡ valueStart (collapsed w) at (tag .v) s)
+          × (getD (tagShown k at w tag s t) (cellOf k + 1) 0 ≡ valueLength (collapsed w) (tag .v) s)
+      unfolding tagShown schemeShown vShown
+      v-cells r e h = rw (r, e) (both-cells (asksScheme w) h)
 
       long-by : (r : Bool) → length (tableOf r) ≡ length t
       long-by true = root-long t k (tag .dtd)

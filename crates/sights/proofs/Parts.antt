@@ -1,5 +1,5 @@
 -- The second walk over the items of a document shows the elements of its content, one after the other. Assumes nothing.
-use Prim.Native.Nat.{ℕ, zero, suc, _+_, _*_, _-_, _≤_, _<_}
+use Prim.Native.Nat.{ℕ, _+_, _-_, _≤_, _<_}
 use mathlib.Core.Path.{_≡_, refl, sym, ap, _∙_}
 use mathlib.Core.List.{List, [], _∷_, _++_, map, append-assoc, append-nil}
 use mathlib.Core.Bool.{Bool, true, false, cond}
@@ -8,7 +8,7 @@ use native.Mathlib.Omega.{arith}
 use native.Mathlib.Nat.{le-refl}
 use lib.Dec.{eqb, leb, ltb}
 use lib.ListN.{length, drop, getD}
-use borrow.Author.Tests.{eqb-true, leb-true, ltb-true, le-leb, lt-ltb, le-ltb, lt-leb}
+use borrow.Author.Tests.{leb-true, le-ltb}
 use Rattle.lists.proofs.Cases.{by-cond, bool-cases, both-true, never, ltb-cases, eqb-cases}
 use Rattle.slices.specs.Same.{same}
 use Rattle.elements.specs.Names.{names, numberIn, elementNo}
@@ -17,17 +17,16 @@ use Rattle.columns.specs.Columns.{roleOf, formOf, schemeOf, seriesRole}
 use Rattle.guideline.specs.Rows.{beschaffungsanforderung, kostenblatt, networkConstraintDocument, rowsOf}
 use Rattle.guideline.proofs.Each.{eachTable, of-table, eachRow, row-of, rowWith}
 use Rattle.states.specs.Attributes.{asksV, asksScheme}
-use Rattle.items.specs.declared.Tag.{Tag}
 use Rattle.items.specs.declared.Item.{Item}
 use Rattle.items.specs.declared.Item.the-variants.{Start, Empty, End, Text, Comment, Unreadable}
 use Rattle.reader.specs.Items.{Placed}
-use Rattle.trees.specs.Trees.{Sign, Opens, Closes, Trees, none, element, rowsTaken, spell, Stand, Fits, EachConforms}
-use Rattle.contents.specs.Said.{AttributeValue, Absent, TagSaid}
+use Rattle.trees.specs.Trees.{Sign, Opens, Closes, Trees, none, element, rowsTaken, spell, Stand, EachConforms}
+use Rattle.contents.specs.Said.{AttributeValue, Absent}
 use Rattle.contents.specs.Spelled.{elementIn}
-use Rattle.contents.proofs.Fill.{saidByItem, saidOf, placedBy, placedSigns, saying, isTag, Stands}
-use Rattle.views.specs.Layout.{headerPairs, seriesPairs, valuesOf, pairAfter, pairsAfter, firstPair, pairIn, rowNamed, cellOf}
+use Rattle.contents.proofs.Fill.{saidByItem, saidOf, placedBy, placedSigns, isTag, Stands}
+use Rattle.views.specs.Layout.{headerPairs, valuesOf, pairAfter, pairsAfter, firstPair, pairIn, rowNamed, cellOf}
 use Rattle.views.specs.Shown.{tagShown, tagRow, seriesAt, tagCounts, tagShows, itemCounts, itemShows, itemsShown}
-use Rattle.sights.specs.Values.{Part, part, countsOf, partsOf, standsIn, lastOf, valuesSaid, PairShows, valueAt, RowShows}
+use Rattle.sights.specs.Values.{Part, countsOf, partsOf, standsIn, lastOf, valuesSaid, PairShows, RowShows}
 use Rattle.sights.proofs.Pairs.{tag-shown, tag-kept, tag-long}
 use Rattle.sights.proofs.Slots.{own-name, Apart, numbers-apart, rows-apart}
 
@@ -122,11 +121,11 @@ behind-all : eachTable behind ≡ true
 unfolding behind rowsOf beschaffungsanforderung kostenblatt networkConstraintDocument elementNo numberIn names same valuesOf pairAfter pairsAfter firstPair asksV asksScheme roleOf formOf schemeOf parentOf
 behind-all = refl
 
-at-least : (w n : ℕ) → n ≤ seriesAt w n
+pub at-least : (w n : ℕ) → n ≤ seriesAt w n
 unfolding seriesAt
 at-least w n = by-cond (λ (m : ℕ). n ≤ m) (eqb (roleOf w) seriesRole) (omega arith) (le-refl n)
 
-counts-up : {A : Type 0} (rows : List ℕ) (kids : Trees A) (n : ℕ) → n ≤ countsOf rows kids n
+pub counts-up : {A : Type 0} (rows : List ℕ) (kids : Trees A) (n : ℕ) → n ≤ countsOf rows kids n
 unfolding countsOf
 counts-up rows none n = le-refl n
 counts-up rows (element q x inner after) n =

@@ -1,26 +1,29 @@
 -- What is promised of views, over the definition of the contract, `sheetViewed`. Assumes nothing.
 --     readers-answer   number, place, kind and series are those of the reader with as much room
 --     shows-values     the pairs show the values of the content that the document spells, all of them and in their place
+--     same-pairs       those that the series table has too are the same (Same)
+--     named-pairs      which pair is whose, by name, as the header of the library has it (Named)
+--     past-last        past the last series all cells are 0 (Past)
+--     legal-viewed     a legal document whose series have room is viewed, and there is one: sheet-viewed, sheet-values (Witness)
 --     views-alone      two documents that differ in digits of readable Qty values alone get the same answer and the same table (Blind)
-use Prim.Native.Nat.{ℕ, zero, suc, _+_, _*_, _-_, _/_, _%_, _≤_, _<_}
-use mathlib.Core.Path.{_≡_, refl, sym, ap, subst, _∙_}
-use mathlib.Core.List.{List, [], _∷_, _++_, map, append-nil, map-append}
+use Prim.Native.Nat.{ℕ, _+_, _*_, _-_, _≤_, _<_}
+use mathlib.Core.Path.{_≡_, refl, sym, ap, _∙_}
+use mathlib.Core.List.{List, [], _∷_, _++_, map, map-append}
 use mathlib.Core.Bool.{Bool, true, false, cond}
 use mathlib.Core.Logic.{_⊎_, ⊎-elim}
 use native.Mathlib.Omega.{arith}
-use native.Mathlib.Nat.{div-add-mod', mod-lt, le-refl}
-use lib.Dec.{eqb, leb, ltb}
+use native.Mathlib.Nat.{div-add-mod', le-refl}
+use lib.Dec.{eqb, ltb}
 use lib.ListN.{length, drop, getD, length-drop, length-replicate}
 use borrow.Author.Tests.{eqb-true, eq-eqb, ltb-true, ltb-false, le-ltb, lt-ltb}
 use Rattle.lists.specs.Zeros.{zeros}
 use Rattle.lists.proofs.Cases.{bool-cases, leb-cases}
-use Rattle.tables.specs.Cells.{noAmounts}
 use Rattle.prolog.specs.Prolog.{begin}
 use Rattle.prolog.specs.declared.Begin.{Begin}
 use Rattle.prolog.specs.declared.Begin.the-variants.{From, Misdeclared}
 use Rattle.notes.specs.declared.Shape.{Shape}
 use Rattle.notes.specs.declared.Shape.the-variants.{Old}
-use Rattle.series.specs.Row.{rowWidth, cellsOf, roomFor}
+use Rattle.series.specs.Row.{cellsOf, roomFor}
 use Rattle.series.proofs.Rows.{rows-fit}
 use Rattle.slices.specs.Same.{same}
 use Rattle.elements.specs.Names.{names, numberIn, elementNo}
@@ -31,7 +34,7 @@ use Rattle.guideline.proofs.Each.{eachKind, of-kind, rowWith}
 use Rattle.states.specs.Moves.{begun}
 use Rattle.states.specs.declared.Room.{Room}
 use Rattle.reader.specs.Items.{Placed, itemsFrom}
-use Rattle.reader.specs.Reading.{tab, Tables, Out, blank, roomOf, roomIn, refusedAt, readItems, itemsRead, readAfter, readInto, orBlank, readSheet}
+use Rattle.reader.specs.Reading.{blank, roomOf, roomIn, refusedAt, readItems, itemsRead, readAfter, readInto, orBlank, readSheet}
 use Rattle.reader.specs.Judging.{judgedAfter, judgedInto, judged}
 use Rattle.reader.specs.Answer.{Outcome, answerOf, told, noted, readOf}
 use Rattle.reader.specs.declared.Found.{Found}
@@ -45,36 +48,35 @@ use Rattle.contents.proofs.Lists.{zero-all}
 use Rattle.contents.proofs.Fill.{saidOf, placedSigns, saying, Stands}
 use Rattle.contents.proofs.Lifted.{lift}
 use Rattle.contents.proofs.Theorems.{accepted-legal, legal-accepted, one-content}
-use Rattle.promises.specs.Rows.{Sized}
 use Rattle.promises.proofs.Steps.{begun-sound, begun-housed}
 use Rattle.promises.proofs.Cells.{blank-past, blank-sized}
 use Rattle.promises.proofs.Readings.{Held}
 use Rattle.views.specs.Layout.{headerPairs, seriesPairs, valuesOf, firstPair, pairIn, cellOf, viewRoom}
-use Rattle.views.specs.Shown.{seriesAt, itemsShown}
-use Rattle.views.specs.Views.{shownAfter, sheetShown, Sight, sightBy, sheetViewed}
+use Rattle.views.specs.Shown.{seriesAt}
+use Rattle.views.specs.Views.{shownAfter, sheetShown, sightBy, sheetViewed}
 use Rattle.sights.specs.Values.{Part, part, countsOf, partsOf, standsIn, lastOf, PairShows, RowShows, ShowsValues}
 use Rattle.sights.proofs.Answered.{found-same}
 use Rattle.sights.proofs.Slots.{in-header, in-series}
-use Rattle.sights.proofs.Parts.{partsShow, Named, named, items-shown, AllGood, all-good, parts-show}
+use Rattle.sights.proofs.Parts.{partsShow, named, items-shown, AllGood, all-good, parts-show}
 
 -- ---- "The answer is the reader's"
 
-room-width : (n : ℕ) → (cellOf headerPairs ≤ n → cellOf headerPairs + cellOf seriesPairs * (viewRoom n .series) ≤ n) × (cellsOf (viewRoom n .series) ≤ n)
+pub room-width : (n : ℕ) → (cellOf headerPairs ≤ n → cellOf headerPairs + cellOf seriesPairs * (viewRoom n .series) ≤ n) × (cellsOf (viewRoom n .series) ≤ n)
 unfolding viewRoom
 room-width n =
     let m = n - cellOf headerPairs in
     let d = div-add-mod' m (cellOf seriesPairs) in
     (λ h. omega (arith, h, d), omega (arith, d))
 
-room-series : (ns np na : ℕ) → roomOf ns np na .series ≡ roomFor ns
+pub room-series : (ns np na : ℕ) → roomOf ns np na .series ≡ roomFor ns
 unfolding roomOf
 room-series ns np na = ⊎-elim (λ y. rw (y .1) refl) (λ y. rw (y .1) refl) (leb-cases np na)
 
-room-intervals : (ns np na m : ℕ) → m ≤ np → m ≤ na → m ≤ roomOf ns np na .intervals
+pub room-intervals : (ns np na m : ℕ) → m ≤ np → m ≤ na → m ≤ roomOf ns np na .intervals
 unfolding roomOf
 room-intervals ns np na m a b = ⊎-elim (λ y. rw (y .1) a) (λ y. rw (y .1) b) (leb-cases np na)
 
-blank-room : (ns np na : ℕ) → roomIn (blank ns np na) ≡ roomOf ns np na
+pub blank-room : (ns np na : ℕ) → roomIn (blank ns np na) ≡ roomOf ns np na
 unfolding roomIn blank
 blank-room ns np na = rw (length-replicate {A = ℕ} ns 0, length-replicate {A = ℕ} np 0, length-replicate na _) refl
 
@@ -186,7 +188,7 @@ later-all : eachKind later ≡ true
 unfolding later rowsOf beschaffungsanforderung kostenblatt networkConstraintDocument elementNo numberIn names same roleOf
 later-all = refl
 
-later-row : (kind : ℕ) → isKind kind ≡ true → 0 < rowWith seriesRole (rowsOf kind)
+pub later-row : (kind : ℕ) → isKind kind ≡ true → 0 < rowWith seriesRole (rowsOf kind)
 unfolding later
 later-row kind known = ltb-true _ _ (of-kind later later-all kind known)
 
@@ -197,14 +199,14 @@ module _ (doc : List ℕ) (n : ℕ) (wide : cellOf headerPairs ≤ n) (accepted 
   abbrev whole : ℕ
   whole = length doc
 
-  told-is : sheetViewed doc n .told ≡ judged (viewRoom n) doc n
+  pub told-is : sheetViewed doc n .told ≡ judged (viewRoom n) doc n
   unfolding sheetViewed sightBy
   told-is = rw (le-ltb _ _ wide) refl
 
-  taken-is : judged (viewRoom n) doc n .refusal ≡ 0
+  pub taken-is : judged (viewRoom n) doc n .refusal ≡ 0
   taken-is = sym (ap (λ (f : Found). f .refusal) told-is) ∙ accepted
 
-  short : whole ≤ 1048576
+  pub short : whole ≤ 1048576
   unfolding judged refusedAt
   short =
       ⊎-elim
@@ -243,9 +245,17 @@ module _ (doc : List ℕ) (n : ℕ) (wide : cellOf headerPairs ≤ n) (accepted 
     abbrev rows : List ℕ
     rows = rowsOf kind
 
-    kind-is : judged (viewRoom n) doc n .kind ≡ kind
+    pub kind-is : judged (viewRoom n) doc n .kind ≡ kind
     kind-is =
         sym (ap (λ (f : Found). f .kind) told-is) ∙ reads .2 ∙ tells .kinds ∙ one-content doc (taken .0) kind (taken .1) c (taken .2) spells (taken .3) legal .0
+
+    -- the table, by the elements that the tags of the document spell
+    pub table-by : (ks : Trees Placed) → Conforms rows 0 ks → placedSigns (itemsFrom doc (spells .from)) ≡ spell rows ks
+        → sheetViewed doc n .table ≡ partsShow rows (partsOf rows ks 0) (zeros n)
+    unfolding sheetViewed sightBy sheetShown shownAfter
+    table-by ks conforms tags =
+        rw (le-ltb _ _ wide, eq-eqb _ _ taken-is, kind-is, spells .begins)
+        (items-shown kind (itemsFrom doc (spells .from)) ks (zeros n) (named doc kind ks 0 (conforms .fits .stand) (conforms .each)) tags)
 
     abbrev lifted : (kids : Trees Placed) × (saying kids ≡ c) × (placedSigns (itemsFrom doc (spells .from)) ≡ spell rows kids) × Conforms rows 0 kids × Stands doc kids
     lifted = lift doc (spells .from) kind c (legal .known) (spells .tags) (legal .conforms)
@@ -257,10 +267,7 @@ module _ (doc : List ℕ) (n : ℕ) (wide : cellOf headerPairs ≤ n) (accepted 
     parts = partsOf rows kids 0
 
     table-is : sheetViewed doc n .table ≡ partsShow rows parts (zeros n)
-    unfolding sheetViewed sightBy sheetShown shownAfter
-    table-is =
-        rw (le-ltb _ _ wide, eq-eqb _ _ taken-is, kind-is, spells .begins)
-        (items-shown kind (itemsFrom doc (spells .from)) kids (zeros n) (named doc kind kids 0 (lifted .3 .fits .stand) (lifted .3 .each)) (lifted .2))
+    table-is = table-by kids (lifted .3) (lifted .2)
 
     good : AllGood doc kind parts
     good =

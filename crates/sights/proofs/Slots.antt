@@ -1,6 +1,6 @@
 -- Where the pairs of two rows stand: apart, unless they are of one row, in the header or in one series. Assumes nothing.
 use Prim.Native.Nat.{ℕ, zero, suc, _+_, _*_, _-_, _≤_, _<_}
-use mathlib.Core.Path.{_≡_, refl, sym, ap, _∙_}
+use mathlib.Core.Path.{_≡_, refl, sym}
 use mathlib.Core.List.{List, [], _∷_}
 use mathlib.Core.Bool.{Bool, true, false, cond}
 use mathlib.Core.Logic.{_⊎_, inl, inr, ⊎-elim}
@@ -8,16 +8,16 @@ use native.Mathlib.Omega.{arith}
 use native.Mathlib.Nat.{le-refl}
 use lib.Dec.{eqb, leb, ltb}
 use lib.ListN.{length, take, getD}
-use borrow.Author.Tests.{eqb-true, leb-true, ltb-true, lt-ltb, le-ltb}
-use Rattle.lists.proofs.Cases.{bool-cases, both-true, ltb-cases, eqb-cases}
+use borrow.Author.Tests.{eqb-true, leb-true, lt-ltb, le-ltb}
+use Rattle.lists.proofs.Cases.{both-true, ltb-cases, eqb-cases}
 use Rattle.slices.specs.Same.{same}
 use Rattle.elements.specs.Names.{names, numberIn, elementNo}
-use Rattle.structure.specs.Rows.{nameOf, parentOf}
-use Rattle.columns.specs.Columns.{roleOf, formOf, schemeOf, seriesRole}
+use Rattle.structure.specs.Rows.{nameOf}
+use Rattle.columns.specs.Columns.{roleOf, formOf, schemeOf}
 use Rattle.guideline.specs.Rows.{beschaffungsanforderung, kostenblatt, networkConstraintDocument, rowsOf}
 use Rattle.guideline.proofs.Each.{eachTable, of-table, eachRow, row-of}
 use Rattle.states.specs.Attributes.{asksV, asksScheme}
-use Rattle.views.specs.Layout.{headerPairs, seriesPairs, oneIf, valuesOf, pairAfter, pairsAfter, firstPair, pairIn, rowNamed}
+use Rattle.views.specs.Layout.{headerPairs, seriesPairs, valuesOf, pairAfter, pairsAfter, firstPair, pairIn, rowNamed}
 
 -- ---- the row of a name
 
@@ -94,9 +94,9 @@ module _ (kind : ℕ) where
   abbrev many : ℕ → ℕ
   many q = valuesOf (getD rows q 0)
 
-  before-next : (q r : ℕ) → q < r → r < length rows → first q + many q ≤ first r
+  pub before-next : (q r : ℕ) → q < r → r ≤ length rows → first q + many q ≤ first r
   unfolding firstPair
-  before-next q r h l = ends-before 0 rows (of-table (orderly 0) ordered-all kind) q r h (omega (arith, l))
+  before-next q r h l = ends-before 0 rows (of-table (orderly 0) ordered-all kind) q r h l
 
   inside : (q : ℕ) → q < length rows
       → cond (eqb (many q) 0) true (cond (ltb (first q) headerPairs) (leb (first q + many q) headerPairs) (leb (first q + many q) (headerPairs + seriesPairs))) ≡ true
@@ -109,7 +109,7 @@ module _ (kind : ℕ) where
   pub in-series : (q : ℕ) → q < length rows → eqb (many q) 0 ≡ false → headerPairs ≤ first q → first q + many q ≤ headerPairs + seriesPairs
   in-series q h e l = leb-true _ _ (rw (e, le-ltb _ _ l) at (inside q h))
 
-  more : (a b : ℕ) → a ≤ b → (a ≡ b → ⊥) → a < b
+  pub more : (a b : ℕ) → a ≤ b → (a ≡ b → ⊥) → a < b
   more a b h d = ⊎-elim (λ y. y .0) (λ y. absurd (d (omega (arith, h, y .0)))) (ltb-cases a b)
 
   -- two numbers of series, counted from 1
@@ -155,8 +155,8 @@ module _ (kind : ℕ) where
         side : (first q + many q ≤ first r) ⊎ (first r + many r ≤ first q)
         side =
             ⊎-elim
-            (λ y. inl (before-next q r (y .0) hr))
-            (λ y. inr (before-next r q (more r q (y .0) (λ e. d (sym e))) hq))
+            (λ y. inl (before-next q r (y .0) (omega (arith, hr))))
+            (λ y. inr (before-next r q (more r q (y .0) (λ e. d (sym e))) (omega (arith, hq))))
             (ltb-cases q r)
 
   -- of one row

@@ -2,13 +2,13 @@
 use Prim.Native.Nat.{ℕ, zero, suc, _+_, _*_, _≤_, _<_}
 use mathlib.Core.Path.{_≡_, refl, sym, ap, _∙_}
 use mathlib.Core.List.{List, [], _∷_}
-use mathlib.Core.Bool.{Bool, true, false, cond}
+use mathlib.Core.Bool.{Bool, true}
 use native.Mathlib.Omega.{arith}
 use native.Mathlib.Nat.{add-zero, zero-add}
 use native.Mathlib.Numerals.{add-one}
 use lib.ListN.{length, take, drop, getD, drop-of-length-le}
 use lib.Seq.{drop-cons}
-use lib.Dec.{eqb, leb}
+use lib.Dec.{leb}
 use borrow.Author.Tests.{eq-eqb, ne-eqb, leb-true}
 use Rattle.structure.specs.Rows.{nameOf}
 use Rattle.slices.specs.Same.{same}
@@ -17,7 +17,7 @@ use Rattle.columns.specs.Columns.{roleOf, formOf, schemeOf}
 use Rattle.states.specs.Attributes.{asksV, asksScheme}
 use Rattle.guideline.specs.Rows.{beschaffungsanforderung, kostenblatt, networkConstraintDocument, rowsOf}
 use Rattle.guideline.proofs.Each.{eachTable, of-table}
-use Rattle.views.specs.Layout.{oneIf, valuesOf, pairAfter, pairsAfter, firstPair, rowNamed}
+use Rattle.views.specs.Layout.{valuesOf, pairAfter, pairsAfter, firstPair, rowNamed}
 
 -- ---- how many rows there are
 

@@ -2,7 +2,6 @@
 use Prim.Native.Nat.{ℕ, _+_, _≤_, _<_}
 use mathlib.Core.Path.{_≡_, refl, sym, ap, _∙_}
 use mathlib.Core.List.{List}
-use mathlib.Core.Bool.{true, false, cond}
 use native.Mathlib.Omega.{arith}
 use lib.Dec.{eqb}
 use lib.ListN.{length, drop, getD}
@@ -11,7 +10,7 @@ use Rattle.columns.specs.Columns.{roleOf, seriesRole}
 use Rattle.items.specs.Item.{item, itemEnd}
 use Rattle.items.specs.declared.Item.{Item}
 use Rattle.items.specs.declared.Item.the-variants.{Start, Empty, End, Text, Comment, Unreadable}
-use Rattle.reader.specs.Items.{Placed, placed, itemsFrom}
+use Rattle.reader.specs.Items.{Placed, itemsFrom}
 use Rattle.reader.proofs.Ran.{items-next, items-over}
 use Rattle.views.specs.Shown.{seriesAt, tagRow, tagCounts, itemCounts, itemShows, itemsShown}
 

@@ -1,10 +1,10 @@
-//! The plants of a sheet by price in a quarter hour, cheapest first and like with like. The sheet is invented.
-//! usage: plants QUARTER (1 is the first of TimePeriodCovered)
+//! The plants of a sheet by price, cheapest first and like with like, with the UTC time at which each quarter hour begins. The sheet is invented.
+//! usage: plants [QUARTER]     the quarter hour, of which 1 is the first of TimePeriodCovered; else each one in which a price changes
 //!
-//! A price is ranked beside those of the same BusinessType, Direction and area of a Kostenblatt alone; `-` stands for a Direction or an area that a
-//! series does not have. MeasurementUnit (euros per piece, per megawatt hour or per hour) has to be the same too. It is not in the tables yet, so that
-//! this program cannot tell units apart: its own sheet has one unit for each BusinessType, and a sheet that mixes them may not be ranked like this.
-use lumintayag::{Kind, OwnedSheet, Series};
+//! A price is ranked beside those of the same BusinessType, Direction, MeasurementUnit and area of a Kostenblatt alone; `-` stands for a Direction or an
+//! area that a series does not have. The unit (euros per piece, per megawatt hour or per hour) and the times are shown by `Views`.
+use lumintayag::{Kind, OwnedSheet, SeriesViews, Sheet, Views};
+use std::error::Error;
 use std::process::ExitCode;
 
 const DAY: &str = "2031-02-02T23:00Z/2031-02-03T23:00Z";
@@ -24,8 +24,8 @@ fn plant(id: &str, business_type: &str, direction: &str, area: &str, object: &st
     )
 }
 
-/// Energy of three plants, up and down, in euros per megawatt hour; what a start costs, in euros per piece; and an hour more, in euros, which has no
-/// Direction.
+/// Energy of three plants, up and down, in euros per megawatt hour; what a start costs, in euros per piece and of one plant in euros per hour, which may not
+/// be ranked beside the others; and an hour more, in euros, which has no Direction.
 fn document() -> String {
     let plants = plant("Neckar, up", "A01", UP, SOUTH, "C0000000017", "Z02", &[(1, "84.5"), (29, "61.25"), (81, "97")])
         + &plant("Neckar, down", "A01", DOWN, SOUTH, "C0000000017", "Z02", &[(1, "-40"), (41, "12.5")])
@@ -35,6 +35,7 @@ fn document() -> String {
         + &plant("Isar, down", "A01", DOWN, SOUTH, "C0000000025", "Z02", &[(1, "3.25")])
         + &plant("Isar, start", "Z01", UP, SOUTH, "C0000000025", "Z01", &[(1, "980"), (41, "1400.5")])
         + &plant("Oste, up", "A01", UP, NORTH, "C0000000033", "Z02", &[(1, "55.125"), (41, "-3.75"), (57, "120.001")])
+        + &plant("Oste, start", "Z01", UP, SOUTH, "C0000000033", "Z03", &[(1, "40.5")])
         + &plant("Oste, hour", "Z02", "", "", "C0000000033", "Z03", &[(1, "275.5")]);
     format!(
         "<Kostenblatt DtdBDEWNachrichtenVersion=\"1.0\"><DocumentIdentification v=\"KB-7\"/><DocumentVersion v=\"1\"/><DocumentType v=\"Z05\"/>\
@@ -45,33 +46,52 @@ fn document() -> String {
 }
 
 /// What two series have in common whose prices are ranked beside each other.
-fn like<'a>(series: &Series<'a>) -> (&'a str, Option<&'a str>, Option<&'a str>) {
-    (series.business_type(), series.direction(), series.area())
+fn like<'a>(values: &SeriesViews<'a>) -> [Option<&'a str>; 4] {
+    [values.business_type(), values.direction(), values.unit(), values.area()]
+}
+
+/// A line for each series, from the time at which the quarter hour begins on.
+fn print_quarter(sheet: Sheet<'_>, views: Views<'_>, quarter: u32) {
+    let Some(time) = views.period().quarter(quarter) else { return };
+    let priced = sheet.iter().zip(views.iter()).filter_map(|(series, values)| Some((like(&values), series.amount_at(quarter)?, series)));
+    let mut offers: Vec<_> = priced.collect();
+    offers.sort_by_key(|(like, price, series)| (*like, *price, series.object()));
+    for (like, price, series) in offers {
+        let like = like.map(|value| value.unwrap_or("-")).join(" ");
+        println!("{time} {like} {} {price:.3} ({})", series.object(), series.identification());
+    }
+}
+
+fn changes_at(sheet: Sheet<'_>, quarter: u32) -> bool {
+    sheet.iter().any(|series| series.intervals().any(|(position, _)| position == quarter))
+}
+
+fn run() -> Result<(), Box<dyn Error>> {
+    let kept = OwnedSheet::read(document().into_bytes())?;
+    let (sheet, shown) = (kept.sheet(), kept.views()?);
+    if sheet.kind() != Kind::Kostenblatt {
+        return Err(format!("a {} has no prices", sheet.kind()).into());
+    }
+    let asked = std::env::args().nth(1).map(|word| word.parse()).transpose()?;
+    let quarters: Vec<u32> = match asked {
+        Some(quarter) => vec![quarter],
+        None => (1..=sheet.quarters()).filter(|&quarter| changes_at(sheet, quarter)).collect(),
+    };
+    if quarters.iter().any(|&quarter| shown.views().period().quarter(quarter).is_none()) {
+        return Err(format!("usage: plants [QUARTER], from 1 to {}", sheet.quarters()).into());
+    }
+    for quarter in quarters {
+        print_quarter(sheet, shown.views(), quarter);
+    }
+    Ok(())
 }
 
 fn main() -> ExitCode {
-    let quarter = std::env::args().nth(1).and_then(|word| word.parse().ok()).unwrap_or(0);
-    let kept = match OwnedSheet::read(document().into_bytes()) {
-        Ok(kept) => kept,
-        Err(refused) => {
-            eprintln!("{refused}");
-            return ExitCode::FAILURE;
+    match run() {
+        Ok(()) => ExitCode::SUCCESS,
+        Err(why) => {
+            eprintln!("{why}");
+            ExitCode::FAILURE
         }
-    };
-    let sheet = kept.sheet();
-    if sheet.kind() != Kind::Kostenblatt {
-        eprintln!("a {} has no prices", sheet.kind());
-        return ExitCode::FAILURE;
     }
-    let mut offers: Vec<_> = sheet.iter().filter_map(|series| Some((like(&series), series.amount_at(quarter)?, series))).collect();
-    if offers.is_empty() {
-        eprintln!("usage: plants QUARTER, from 1 to {}", sheet.quarters());
-        return ExitCode::from(2);
-    }
-    offers.sort_by_key(|(like, price, series)| (*like, *price, series.object()));
-    for ((business_type, direction, area), price, series) in offers {
-        let (direction, area) = (direction.unwrap_or("-"), area.unwrap_or("-"));
-        println!("{business_type} {direction} {area} {} {price:.3} ({})", series.object(), series.identification());
-    }
-    ExitCode::SUCCESS
 }

@@ -4,7 +4,7 @@
 
 use crate::sheet::Tables;
 use crate::Shape;
-use lumintayag_sys::{lumintayag_convert_note, lumintayag_read_note_v2, lumintayag_read_v3, lumintayag_totals};
+use lumintayag_sys::{lumintayag_convert_note, lumintayag_read_note_v2, lumintayag_read_v3, lumintayag_totals, lumintayag_views};
 
 /// A longer document is refused with 1.
 pub const DOCUMENT_MOST: usize = 1_048_576;
@@ -16,6 +16,10 @@ pub const SERIES_ROOM: usize = 2_635;
 pub const INTERVALS_ROOM: usize = 23_302;
 /// Series that are added up at most; more are refused with 17.
 pub const TOTALS_MOST: usize = 200;
+/// Pairs of numbers that a header takes in a table of views, in every kind.
+pub const HEADER_PAIRS: usize = 16;
+/// Pairs of numbers that a series takes there.
+pub const SERIES_PAIRS: usize = 22;
 
 /// Bytes that the converter asks of the buffer it writes to, which are room for every note. The reader asks for 16.
 pub(crate) const NOTE_ROOM: usize = 24;
@@ -23,6 +27,7 @@ const ANSWER_NUMBERS: usize = 7;
 pub(crate) const NOTE_NUMBERS: usize = 6;
 const CONVERTED_NUMBERS: usize = 2;
 pub(crate) const TOTAL_NUMBERS: usize = 2;
+const VIEWS_NUMBERS: usize = 6;
 
 /// The seven numbers of the answer.
 pub(crate) fn read(
@@ -93,4 +98,14 @@ pub(crate) fn totals(kind: u32, quarters: u32, count: usize, tables: Tables<'_>,
             sum.len(),
         )
     }
+}
+
+/// The six numbers of the answer.
+pub(crate) fn views(doc: &[u8], table: &mut [u32]) -> [u32; VIEWS_NUMBERS] {
+    let mut answer = [0; VIEWS_NUMBERS];
+    // SAFETY: each pointer comes with the length of the slice or array that it is of, and Rust lends the written ones to nobody else.
+    unsafe {
+        lumintayag_views(doc.as_ptr(), doc.len(), table.as_mut_ptr(), table.len(), answer.as_mut_ptr(), answer.len());
+    }
+    answer
 }

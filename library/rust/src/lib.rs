@@ -42,8 +42,15 @@
 //!
 //! An [`Amount`] is a Qty, in thousandths. In a Beschaffungsanforderung it is megawatts. In a Kostenblatt it is euros by the series' MeasurementUnit:
 //! per piece (Z01), per megawatt hour (Z02) or per hour (Z03). In a NetworkConstraintDocument it is megawatts (MAW) or a share (C62). So two amounts may be held against each other only where kind, BusinessType, Direction
-//! and MeasurementUnit are the same; the last one is not in the tables yet. Quarter hours count from 1, the first of TimePeriodCovered, which need
+//! and MeasurementUnit are the same; the last one is shown by [views](Sheet::views). Quarter hours count from 1, the first of TimePeriodCovered, which need
 //! not begin at midnight, and [`Series::amount_at`] has no amount past the last one, nor in a NetworkConstraintDocument past the last Pos of the series.
+//!
+//! # Views
+//!
+//! [`Sheet::views`] and [`OwnedSheet::views`] show every attribute value of a document but for Pos and Qty: its header ([`Views::sender`],
+//! [`Views::document`] and so on), and of each series what is no cell of its row ([`SeriesViews::unit`], [`SeriesViews::status`] and so on; all of them by
+//! name with [`SeriesViews::get`]). [`Views::period`] tells the two ends of TimePeriodCovered, and when each quarter hour begins, in UTC. [`views()`] does
+//! the same with a document that was not read.
 //!
 //! # Totals
 //!
@@ -58,14 +65,14 @@
 //!
 //! # What gets into a log
 //!
-//! `Debug` of every type here tells kinds, counts and places, and no byte of a document, no amount and no total; nor does the text of an error. `Display`
-//! of [`Amount`] and of [`Total`], and what the methods of [`Series`] answer, is what the caller asked for. [`OwnedSheet`] and [`Totals`] are wiped when
-//! they are dropped, and [`wipe`] is for memory of the caller's own. `docs/PRIVACY.md` says what is left to the caller: swap, core dumps, copies.
+//! `Debug` of every type here tells kinds, counts and places, and no byte of a document, no amount, no total and no time; nor does the text of an error.
+//! `Display` of [`Amount`], [`Total`] and [`Utc`], and what the methods of [`Series`] and of [`Views`] answer, is what the caller asked for. [`OwnedSheet`],
+//! [`OwnedViews`] and [`Totals`] are wiped when they are dropped, and [`wipe`] is for memory of the caller's own. `docs/PRIVACY.md` says what is left to the caller: swap, core dumps, copies.
 //!
 //! # Features and requirements
 //!
-//! The crate is `no_std`. The default feature `alloc` adds [`OwnedSheet`]; without it the crate allocates nothing. It does not panic. A call takes
-//! 68 KB of stack. The environment variable `LUMINTAYAG_DIR` names the folder of the archive at build time, as a full path.
+//! The crate is `no_std`. The default feature `alloc` adds [`OwnedSheet`] and [`OwnedViews`]; without it the crate allocates nothing. It does not panic. A call takes
+//! 70 KB of stack at most. The environment variable `LUMINTAYAG_DIR` names the folder of the archive at build time, as a full path.
 //!
 //! # Later versions
 //!
@@ -86,17 +93,23 @@ mod numbers;
 mod owned;
 mod room;
 mod sheet;
+mod time;
 mod totals;
+mod values;
+mod views;
 mod wipe;
 
 pub use amount::Amount;
 pub use answer::{read, read_with_shape, Accepted, Lent, Refused};
-pub use foreign::{DOCUMENT_MOST, INTERVALS_ROOM, SERIES_ROOM, SERIES_ROW, TOTALS_MOST};
+pub use foreign::{DOCUMENT_MOST, HEADER_PAIRS, INTERVALS_ROOM, SERIES_PAIRS, SERIES_ROOM, SERIES_ROW, TOTALS_MOST};
 pub use note::{read_note, NotOneNote, Note, Shape};
 pub use numbers::{Kind, Refusal};
 #[cfg(feature = "alloc")]
-pub use owned::OwnedSheet;
+pub use owned::{OwnedSheet, OwnedViews};
 pub use room::Room;
 pub use sheet::{ByQuarter, Intervals, Series, SeriesIter, Sheet, Tables};
+pub use time::{Period, Utc};
 pub use totals::{totals, Total, Totals};
+pub use values::{HeaderValue, SeriesValue};
+pub use views::{views, SeriesViews, Views, ViewsRefused};
 pub use wipe::wipe;

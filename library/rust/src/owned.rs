@@ -1,7 +1,8 @@
 //! A document with its tables, on the heap.
 use crate::answer::Told;
 use crate::sheet::Tables;
-use crate::{wipe, Accepted, Lent, Note, Refusal, Refused, Room, Series, SeriesIter, Shape, Sheet};
+use crate::views::Seen;
+use crate::{wipe, Accepted, Lent, Note, Refusal, Refused, Room, Series, SeriesIter, Shape, Sheet, Views, ViewsRefused};
 use alloc::vec;
 use alloc::vec::Vec;
 use core::fmt;
@@ -71,6 +72,15 @@ impl OwnedSheet {
         self.told.sheet(&self.document.0, self.cells.tables())
     }
 
+    /// Where every attribute value of the document stands, in a table of its own. The document is read once more for it.
+    ///
+    /// # Errors
+    ///
+    /// None is known: the document was accepted, and the table has room for its series.
+    pub fn views(&self) -> Result<OwnedViews<'_>, ViewsRefused> {
+        OwnedViews::with_numbers(&self.document.0, self.sheet().views_numbers())
+    }
+
     /// The note for the support desk.
     pub fn note(&self) -> Note {
         self.told.note
@@ -105,6 +115,54 @@ impl<'a> IntoIterator for &'a OwnedSheet {
 
     fn into_iter(self) -> SeriesIter<'a> {
         self.sheet().iter()
+    }
+}
+
+/// A table of views that is kept, of a document that is kept elsewhere. It is [wiped](wipe) when it is dropped.
+///
+/// ```
+/// use lumintayag::OwnedSheet;
+///
+/// # let document = include_bytes!(concat!(env!("CARGO_MANIFEST_DIR"), "/../../crates/samples_run/data/two-plain.xml")).to_vec();
+/// let kept = OwnedSheet::read(document)?;
+/// let shown = kept.views()?;
+/// let views = shown.views();
+/// assert_eq!((views.sender(), views.sender_role()), (Some("4012345000016"), Some("A27")));
+/// println!("{} to {}", views.period().from(), views.period().to());
+/// # Ok::<(), Box<dyn std::error::Error>>(())
+/// ```
+pub struct OwnedViews<'a> {
+    document: &'a [u8],
+    table: Wiped<u32>,
+    seen: Seen,
+}
+
+impl<'a> OwnedViews<'a> {
+    /// Views a document that is lent, in a table that has room for it.
+    ///
+    /// # Errors
+    ///
+    /// [`ViewsRefused`] says why and where.
+    pub fn of(document: &'a [u8]) -> Result<Self, ViewsRefused> {
+        Self::with_numbers(document, Room::of_length(document.len()).views_numbers())
+    }
+
+    fn with_numbers(document: &'a [u8], numbers: usize) -> Result<Self, ViewsRefused> {
+        let mut table = Wiped::zeros(numbers);
+        let seen = Seen::of(document, &mut table.0)?;
+        Ok(OwnedViews { document, table, seen })
+    }
+
+    /// What the table shows.
+    pub fn views(&self) -> Views<'_> {
+        self.seen.views(self.document, &self.table.0)
+    }
+}
+
+/// What the `Debug` of its views tells.
+impl fmt::Debug for OwnedViews<'_> {
+    fn fmt(&self, f: &mut fmt::Formatter<'_>) -> fmt::Result {
+        f.debug_struct("OwnedViews").field("document", &self.document.len()).field("views", &self.views()).finish()
     }
 }
 

@@ -1,4 +1,5 @@
 //! How much room tables need.
+use crate::views::cells;
 use crate::{DOCUMENT_MOST, INTERVALS_ROOM, SERIES_ROOM, SERIES_ROW};
 
 /// A document has at least so many bytes for each series and for each Interval.
@@ -39,5 +40,10 @@ impl Room {
     /// The length of a series table with this room.
     pub const fn series_numbers(self) -> usize {
         self.series.saturating_mul(SERIES_ROW)
+    }
+
+    /// The length of a table of [views](crate::views()) with this room: one header, and so many series. Intervals take none of it.
+    pub const fn views_numbers(self) -> usize {
+        cells(self.series)
     }
 }

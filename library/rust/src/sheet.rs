@@ -1,5 +1,5 @@
 //! The tables of an accepted document, row by row.
-use crate::{totals, Amount, Kind, Refusal, Totals, SERIES_ROW};
+use crate::{totals, views, Amount, Kind, Refusal, Room, Totals, Views, ViewsRefused, SERIES_ROW};
 use core::fmt;
 use core::iter::FusedIterator;
 use core::ops::Range;
@@ -142,6 +142,41 @@ impl<'a> Sheet<'a> {
     pub fn totals(&self) -> Result<Totals, Refusal> {
         totals(self.kind, self.quarters, self.len(), self.tables)
     }
+
+    /// Numbers that [`views`](Sheet::views) needs in its table.
+    pub fn views_numbers(&self) -> usize {
+        Room { series: self.len(), intervals: 0 }.views_numbers()
+    }
+
+    /// Shows every attribute value of the document in a lent table: its header, its period, and of each series the unit and all else that is no cell of its
+    /// row. The document is read once more for it.
+    ///
+    /// ```
+    /// # #[cfg(feature = "alloc")] {
+    /// # let document = include_bytes!(concat!(env!("CARGO_MANIFEST_DIR"), "/../../crates/samples_run/data/two-plain.xml")).to_vec();
+    /// # let kept = lumintayag::OwnedSheet::read(document)?;
+    /// # let sheet = kept.sheet();
+    /// let mut table = vec![0; sheet.views_numbers()];
+    /// let shown = sheet.views(&mut table)?;
+    /// for (series, values) in sheet.iter().zip(shown.iter()) {
+    ///     assert_eq!((Some(series.identification()), Some("Z02")), (values.identification(), values.unit()));
+    ///     if let Some(time) = shown.period().quarter(41) {
+    ///         println!("{time}: {:?}", series.amount_at(41));
+    ///     }
+    /// }
+    /// # }
+    /// # Ok::<(), Box<dyn std::error::Error>>(())
+    /// ```
+    ///
+    /// # Errors
+    ///
+    /// [`ViewsRefused`] with [`Refusal::TableFull`] for a table of fewer numbers than [`views_numbers`](Sheet::views_numbers), and nothing else.
+    pub fn views<'t>(&self, table: &'t mut [u32]) -> Result<Views<'t>, ViewsRefused>
+    where
+        'a: 't,
+    {
+        views(self.doc, table)
+    }
 }
 
 impl fmt::Debug for Sheet<'_> {
@@ -175,7 +210,7 @@ impl<'a> IntoIterator for &Sheet<'a> {
 
 /// A value as it stands in the document.
 #[derive(Clone, Copy, PartialEq, Eq)]
-struct View<'a> {
+pub(crate) struct View<'a> {
     start: u32,
     text: &'a str,
 }
@@ -186,11 +221,15 @@ impl<'a> View<'a> {
     }
 
     /// Of an element that may be absent: 0 and 0 is none, since no value starts with a document.
-    fn if_there(doc: &'a [u8], start: u32, len: u32) -> Option<Option<Self>> {
+    pub(crate) fn if_there(doc: &'a [u8], start: u32, len: u32) -> Option<Option<Self>> {
         if (start, len) == (0, 0) {
             return Some(None);
         }
         Self::of(doc, start, len).map(Some)
+    }
+
+    pub(crate) fn text(self) -> &'a str {
+        self.text
     }
 }
 
@@ -234,7 +273,7 @@ impl fmt::Debug for Rows<'_> {
 /// A series of a sheet.
 ///
 /// The prices of two series may be held against each other only where kind, BusinessType, Direction and MeasurementUnit are the same. The last one
-/// is not in the tables yet.
+/// is no cell of the row: [`Sheet::views`] shows it.
 ///
 /// ```
 /// # #[cfg(feature = "alloc")] {

@@ -46,6 +46,7 @@ extern "C" {
         sum: *mut i64,
         sum_len: usize,
     ) -> u32;
+    fn lumintayag_views(doc: *const u8, doc_len: usize, table: *mut u32, table_len: usize, answer: *mut u32, answer_len: usize) -> u32;
 }
 
 /// The numbers as far as there are cells, 0 in the cells after them, and old numbers past the slice.
@@ -191,5 +192,21 @@ fn totals_of_every_size() {
                 assert!(totals.to_vec() == expected(each, len) && sum.to_vec() == expected(all, sum_len), "{len} and {sum_len} cells");
             }
         }
+    }
+}
+
+/// A table of 31, 32 and 120 cells, and an answer of every size; cells past the table keep their old numbers.
+#[test]
+fn views_of_every_size() {
+    let doc = two_plants();
+    // 2031-02-02T23:00Z is day 11355 from 2000-01-01
+    let (from, series) = (11_355 * 1440 + 23 * 60, doc.find("<CostTimeSeries>").unwrap_or(0) as u32);
+    let told = [(31, [4, 0, 0, 0, 0, 0]), (32, [4, series, 2, 0, 0, 0]), (120, [0, doc.len() as u32, 2, 2, from, from + 1440])];
+    for (len, (cells, six)) in (0..=12).flat_map(|len| told.map(|of| (len, of))) {
+        let (mut table, mut answer) = ([77; 130], [77; 12]);
+        // SAFETY: no length is more than that of the array.
+        let said = unsafe { lumintayag_views(doc.as_ptr(), doc.len(), table.as_mut_ptr(), cells, answer.as_mut_ptr(), len) };
+        assert_eq!((said, answer.to_vec()), (six[0], expected(&six, len)));
+        assert!(table[cells..].iter().all(|&cell| cell == 77) && (said == 0 || table[..cells].iter().all(|&cell| cell == 0)));
     }
 }

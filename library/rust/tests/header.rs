@@ -2,7 +2,9 @@
 mod common;
 
 use common::{two_plants, Desk};
-use lumintayag::{Kind, Refusal, Series, Shape, DOCUMENT_MOST, INTERVALS_ROOM, SERIES_ROOM, SERIES_ROW, TOTALS_MOST};
+use lumintayag::{HeaderValue, Kind, Refusal, Room, Series, SeriesValue, Shape};
+use lumintayag::{DOCUMENT_MOST, HEADER_PAIRS, INTERVALS_ROOM, SERIES_PAIRS, SERIES_ROOM, SERIES_ROW, TOTALS_MOST};
+use std::fmt::Debug;
 
 /// The number that the header defines by a name, also in an enum.
 fn defined(name: &str) -> usize {
@@ -19,6 +21,34 @@ fn sizes() {
     assert_eq!(defined("LUMINTAYAG_SERIES_ROOM"), SERIES_ROOM);
     assert_eq!(defined("LUMINTAYAG_INTERVALS_ROOM"), INTERVALS_ROOM);
     assert_eq!(defined("LUMINTAYAG_TOTALS_MOST"), TOTALS_MOST);
+    assert_eq!((defined("LUMINTAYAG_HEADER_PAIRS"), defined("LUMINTAYAG_SERIES_PAIRS")), (HEADER_PAIRS, SERIES_PAIRS));
+    assert_eq!(2 * (HEADER_PAIRS + SERIES_PAIRS * SERIES_ROOM), Room::EVERY.views_numbers());
+    assert_eq!((defined("LUMINTAYAG_VIEWS_NUMBERS"), defined("LUMINTAYAG_FROM"), defined("LUMINTAYAG_TO")), (6, 4, 5));
+}
+
+/// `TimeInterval` is `TIME_INTERVAL`.
+fn loud(name: &dyn Debug) -> String {
+    let words =
+        format!("{name:?}").chars().flat_map(|c| [c.is_uppercase().then_some('_'), Some(c.to_ascii_uppercase())]).flatten().collect::<String>();
+    words.trim_start_matches('_').to_string()
+}
+
+/// Each value has the same pair by its name in the header and in the crate, in every kind; and the header has no other.
+#[test]
+fn pairs_of_views() {
+    for (k, value) in HeaderValue::ALL.iter().enumerate() {
+        assert_eq!((defined(&format!("LUMINTAYAG_VIEW_{}", loud(value))), value.pair()), (k, k));
+    }
+    let kinds = [Kind::Beschaffungsanforderung, Kind::Kostenblatt, Kind::NetworkConstraintDocument];
+    for (number, kind) in (1..).zip(kinds) {
+        for (k, value) in SeriesValue::all(kind).iter().enumerate() {
+            assert_eq!(defined(&format!("LUMINTAYAG_VIEW_{number}_{}", loud(value))), HEADER_PAIRS + k, "{value:?}");
+            assert_eq!(value.pair(kind), Some(HEADER_PAIRS + k));
+        }
+    }
+    let all = HEADER_PAIRS + kinds.iter().map(|&kind| SeriesValue::all(kind).len()).sum::<usize>();
+    assert_eq!(include_str!("../../lumintayag.h").matches("    LUMINTAYAG_VIEW_").count(), all);
+    assert_eq!((SeriesValue::Status.pair(kinds[0]), SeriesValue::InArea.pair(kinds[1]), SeriesValue::Product.pair(kinds[2])), (None, None, None));
 }
 
 /// What the cells that the header names show is what the crate shows.

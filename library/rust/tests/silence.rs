@@ -2,7 +2,7 @@
 mod common;
 
 use common::*;
-use lumintayag::{read_note, totals, Kind, Room, Shape, Tables};
+use lumintayag::{read_note, totals, views, HeaderValue, Kind, Room, SeriesValue, Shape, Tables};
 use std::fmt::Debug;
 
 /// Both forms of `Debug`.
@@ -14,6 +14,10 @@ const PRICES: [&str; 3] = ["84848484.848", "-7373737.3", "6262626262.62"];
 const NAMES: [&str; 2] = ["Streng", "geheim"];
 const OBJECTS: [&str; 2] = ["C0000000017", "B1234567890"];
 const DIRECTION: &str = "A02";
+/// What views show besides: the sender, when it was sent, the unit, and when the period begins, as text and in minutes.
+const SHOWN: [&str; 5] = ["9900000000017", "2031-02-02T10:15:00Z", "Z02", "2031-02-02T23:00Z", "16352580"];
+const OTHERS: [&str; 4] = ["9900000000048", "2031-01-02T11:16:01Z", "Z01", "2031-01-02T23:00Z"];
+const NEXT: (&str, &str) = ("2031-02-03T23:00Z", "2031-01-03T23:00Z");
 
 fn sheet() -> String {
     let rows = [(1, PRICES[0]), (29, PRICES[1]), (81, PRICES[2])];
@@ -25,7 +29,26 @@ fn sheet() -> String {
 fn secrets() -> Vec<String> {
     let digits = PRICES.map(|price| price.chars().filter(char::is_ascii_digit).collect::<Vec<_>>());
     let fours = digits.iter().flat_map(|price| price.windows(4)).map(|four| four.iter().collect());
-    fours.chain(NAMES.into_iter().chain(OBJECTS).chain([DIRECTION, AREA]).map(String::from)).collect()
+    fours.chain(NAMES.into_iter().chain(OBJECTS).chain([DIRECTION, AREA]).chain(SHOWN).map(String::from)).collect()
+}
+
+/// Of the types that views have, in a table with room and in one without.
+fn all_views(doc: &str) -> Vec<(&'static str, String)> {
+    let mut table = vec![77; Room { series: 2, intervals: 0 }.views_numbers()];
+    let mut short = [77; 40];
+    let refused = views(doc.as_bytes(), &mut short).expect_err("a short table");
+    let answer = views(doc.as_bytes(), &mut table);
+    let shown = answer.expect("accepted");
+    assert_eq!((shown.sender(), shown.period().from().minutes() / 1440 > 11_000), (Some(&doc[doc.find("99000").unwrap_or(0)..][..13]), true));
+    vec![
+        ("HeaderValue", formatted(&HeaderValue::ALL)),
+        ("Period", formatted(&shown.period())),
+        ("SeriesValue", formatted(&SeriesValue::all(shown.kind()))),
+        ("SeriesViews", formatted(&shown.get(0)) + &formatted(&shown.iter().collect::<Vec<_>>())),
+        ("Utc", formatted(&shown.period().from()) + &formatted(&shown.period().quarter(96))),
+        ("Views", formatted(&shown) + &formatted(&answer)),
+        ("ViewsRefused", formatted(&refused) + &refused.to_string()),
+    ]
 }
 
 /// Each four digits of the whole numbers that the totals of the sheet have.
@@ -68,8 +91,11 @@ fn all(doc: &str, desk: &mut Desk, refused: &mut Desk) -> Vec<(&'static str, Str
         ("Totals", formatted(&totals) + &formatted(&sheet.totals())),
         ("Total", formatted(&totals.sum()) + &formatted(&totals.iter().collect::<Vec<_>>()) + &formatted(&totals.get(1))),
     ];
+    all.extend(all_views(doc));
     #[cfg(feature = "alloc")]
     all.push(("OwnedSheet", formatted(&lumintayag::OwnedSheet::read(doc.into()))));
+    #[cfg(feature = "alloc")]
+    all.push(("OwnedViews", formatted(&lumintayag::OwnedViews::of(doc.as_bytes()))));
     all.sort();
     all
 }
@@ -82,7 +108,7 @@ fn public_types() -> Vec<String> {
         let after = source.lines().filter_map(|line| line.strip_prefix("pub struct ").or(line.strip_prefix("pub enum ")));
         names.extend(after.map(|line| line.split(|c: char| !c.is_alphanumeric()).next().unwrap_or_default().to_string()));
     }
-    names.retain(|name| cfg!(feature = "alloc") || name != "OwnedSheet");
+    names.retain(|name| cfg!(feature = "alloc") || !name.starts_with("Owned"));
     names.sort();
     names
 }
@@ -94,7 +120,7 @@ fn no_byte_of_a_document_and_no_amount() {
     let (mut desk, mut refused) = (Desk::large(), Desk::large());
     let texts = all(&doc, &mut desk, &mut refused);
     for (k, secret) in secrets().iter().enumerate() {
-        assert!(digits.contains(secret), "secret {k} is in the document");
+        assert!(digits.contains(secret) || secret == SHOWN[4], "secret {k} is in the document");
         for (name, text) in &texts {
             assert!(!text.contains(secret), "{name} tells secret {k}");
         }
@@ -106,13 +132,14 @@ fn no_byte_of_a_document_and_no_amount() {
     }
 }
 
-/// No text changes with digits of prices, names, objects, Direction or area.
+/// No text changes with digits of prices, names, objects, Direction, area, nor with the values and the times that views show.
 #[test]
 fn the_same_for_another_sheet_of_the_same_lengths() {
     let doc = sheet();
     let other =
         doc.replace(PRICES[0], "11111111.111").replace(PRICES[2], "0000000009.99").replace(NAMES[0], "Lieber").replace(OBJECTS[1], "A00000000Z5");
-    let other = other.replace(DIRECTION, "A01").replace(AREA, "10YDE-VE-------2");
+    let other = other.replace(DIRECTION, "A01").replace(AREA, "10YDE-VE-------2").replace(NEXT.0, NEXT.1);
+    let other = SHOWN.iter().zip(OTHERS).fold(other, |doc, (old, new)| doc.replace(old, new));
     assert!(other != doc && other.len() == doc.len());
     assert!(all(&doc, &mut Desk::large(), &mut Desk::large()) == all(&other, &mut Desk::large(), &mut Desk::large()));
 }

@@ -1,10 +1,10 @@
-//! Memory is given back empty. The allocator of this program looks for a price, as digits and as thousandths, and for the total of a sheet, in each block
-//! that it takes back.
+//! Memory is given back empty. The allocator of this program looks for a price, as digits and as thousandths, for the total of a sheet, and for the place of
+//! a value that views show, in each block that it takes back.
 #![allow(unsafe_code)]
 mod common;
 
 use common::*;
-use lumintayag::{wipe, OwnedSheet, Room};
+use lumintayag::{views, wipe, OwnedSheet, Room};
 use std::alloc::{GlobalAlloc, Layout, System};
 use std::cell::Cell;
 use std::hint::black_box;
@@ -15,8 +15,13 @@ const THOUSANDTHS: i64 = 847_362_514_938;
 /// The whole number of the price for a quarter hour and 5 for 95.
 const TOTAL: i64 = 847_362_989;
 
+/// Where the unit stands in the document, as a pair of views: its start and its length.
+const UNIT: [u32; 2] = [670, 3];
+
 fn holds_price(block: &[u8]) -> bool {
-    let secrets = [PRICE.as_bytes(), &THOUSANDTHS.to_ne_bytes(), &TOTAL.to_ne_bytes()];
+    let [start, len] = UNIT.map(u32::to_ne_bytes);
+    let pair = [start[0], start[1], start[2], start[3], len[0], len[1], len[2], len[3]];
+    let secrets = [PRICE.as_bytes(), &THOUSANDTHS.to_ne_bytes(), &TOTAL.to_ne_bytes(), &pair];
     secrets.iter().any(|secret| block.windows(secret.len()).any(|window| window == *secret))
 }
 
@@ -92,6 +97,18 @@ fn totals_are_wiped() {
     let copied = black_box(vec![totals.sum().whole()]);
     assert_eq!(given_back(|| drop(totals)).1, (0, 1));
     assert_eq!(given_back(|| drop(copied)).1, (1, 1), "what is taken out of it is not wiped");
+}
+
+#[test]
+fn views_are_wiped() {
+    let kept = OwnedSheet::read(document("")).expect("accepted");
+    let mut lent = black_box(vec![77; kept.sheet().views_numbers()]);
+    assert!(views(kept.document(), &mut lent).is_ok_and(|shown| shown.get(0).and_then(|series| series.unit()) == Some("Z02")));
+    assert_eq!(lent[2 * 27..][..2], UNIT);
+    assert_eq!(given_back(|| drop(lent)).1, (1, 1), "a lent table is the caller's to wipe");
+    let shown = kept.views().expect("views");
+    assert_eq!(shown.views().get(0).and_then(|series| series.unit()), Some("Z02"));
+    assert_eq!(given_back(|| drop(shown)).1, (0, 1));
 }
 
 #[test]

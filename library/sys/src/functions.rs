@@ -1,7 +1,7 @@
 //! Also a part of `build.rs` and of `probe.rs`, which ask an archive whether it is the one for these declarations.
 
 /// `LUMINTAYAG_VERSION` of the header: 10000 a + 100 b + c for version a.b.c.
-pub const VERSION: u32 = 500;
+pub const VERSION: u32 = 600;
 
 extern "C" {
     /// The archive's version.
@@ -57,4 +57,7 @@ extern "C" {
         sum: *mut i64,
         sum_len: usize,
     ) -> u32;
+
+    /// Shows where each attribute value of a document stands, in a table of pairs.
+    pub fn lumintayag_views(doc: *const u8, doc_len: usize, table: *mut u32, table_len: usize, answer: *mut u32, answer_len: usize) -> u32;
 }

@@ -5,7 +5,6 @@ use native.Mathlib.Omega.{arith}
 use lib.ListN.{length, length-drop}
 use Rattle.views.proofs.Walk.{Shows, shows-start, shows-next, shows-end}
 use Rattle.views.proofs.Inside.{item-inside}
-use Rattle.reader.specs.Reading.{out}
 use Rattle.views.proofs.show_items.Statement.{statement}
 use Rattle.views.proofs.show_items.Tie as tie
 use Rattle.views.proofs.show_items.Reads as reads

@@ -1,5 +1,4 @@
 use Rattle.views.specs.Shown.{withValue}
-use mathlib.Core.Path.{refl}
 use borrow.Author.Needs.{needs}
 use Rattle.views.proofs.cells.put_value.Statement.{statement}
 use Rattle.views.proofs.cells.put_value.Tie as tie

@@ -1,6 +1,6 @@
 use native.Mathlib.Omega.{arith}
 use Rattle.views.specs.Layout.{pairIn}
-use borrow.Author.Tests.{eq-eqb, le-leb, le-ltb, lt-leb, lt-ltb, ne-eqb}
+use borrow.Author.Tests.{le-leb, le-ltb, lt-leb, lt-ltb, ne-eqb}
 use borrow.Author.Needs.{needs}
 use Rattle.views.proofs.layout.pair_in.Statement.{statement}
 use Rattle.views.proofs.layout.pair_in.Tie as tie
