@@ -3,4 +3,4 @@ use Prim.Native.Nat.{ℕ}
 
 -- a.b.c is 10000 a + 100 b + c, and this is 0.6.0; library/lumintayag.h has the same number
 abbrev pub libraryVersion : ℕ
-libraryVersion = 600
+libraryVersion = 700

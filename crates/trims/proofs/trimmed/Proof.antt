@@ -1,6 +1,7 @@
-use mathlib.Core.Path.{_∙_}
-use Rattle.trims.specs.Trim.{dropped}
-use Rattle.trims.proofs.Trails.{lead-run}
+use mathlib.Core.Path.{sym, _∙_}
+use Rattle.trims.proofs.Trimming.{bare-all}
+use Rattle.trims.proofs.is_bare_at_ends.Reads as is-bare-at-ends-reads
+use Rattle.trims.specs.Trim.{trimmedOf}
 use borrow.Author.Needs.{needs}
 use Rattle.trims.proofs.trimmed.Statement.{statement}
 use Rattle.trims.proofs.trimmed.Tie as tie
@@ -19,10 +20,17 @@ rest-requires c κs = search needs
 without-trail-requires : tie.Need-without-trail-requires
 without-trail-requires c κs = search needs
 
+is-bare-at-ends-requires : tie.Need-is-bare-at-ends-requires
+is-bare-at-ends-requires c κs = search needs
+
 returns : tie.Need-returns
-unfolding dropped
-returns c = c .without-trail .ensures ∙ rw (c .before .rest .ensures .0, c .before .before .leading-spaces .ensures .0, lead-run)
+returns c = bare-all (c .before .before .before .args .v .now) (sym (c .before .is-bare-at-ends .ensures) ∙ c .if1 .taken)
+
+returns-2 : tie.Need-returns-2
+unfolding trimmedOf
+returns-2 c = c .without-trail .ensures ∙ rw (c .before .rest .ensures .0, c .before .before .leading-spaces .ensures .0)
 
 pub trimmed-spec : {M : Type 1} → statement M
 trimmed-spec =
-    tie.close (tie.spec leading-spaces-requires rest-requires without-trail-requires returns)
+    tie.close
+    (tie.spec is-bare-at-ends-requires returns leading-spaces-requires rest-requires without-trail-requires returns-2)

@@ -1,7 +1,7 @@
 use mathlib.Core.Path.{ap}
 use native.Mathlib.Omega.{arith}
 use lib.ListN.{length}
-use Rattle.reader.proofs.Spans.{dropped-in}
+use Rattle.trims.proofs.Trimming.{trimmed-length}
 use borrow.Author.Needs.{needs}
 use Rattle.reader.proofs.rows.set_trimmed.Statement.{statement}
 use Rattle.reader.proofs.rows.set_trimmed.Tie as tie
@@ -24,7 +24,7 @@ cast-set-view : tie.Need-cast-set-view
 cast-set-view c = search needs
 
 cast-set-view-2 : tie.Need-cast-set-view-2
-cast-set-view-2 c = let r = c .before .before .leading-spaces .ensures in let b = c .before .before .before .before .before .args .b .now in omega (arith, ap length (c .before .trimmed .ensures), r .0, dropped-in b (rw (r .0) at (r .1)))
+cast-set-view-2 c = let r = c .before .before .leading-spaces .ensures in let b = c .before .before .before .before .before .args .b .now in omega (arith, ap length (c .before .trimmed .ensures), r .0, trimmed-length b)
 
 -- call c .before .trimmed .ensures
 -- call c .before .before .leading-spaces .ensures .0

@@ -1,18 +1,20 @@
 -- A character below 80 is its own byte, no later byte is below 80, and a character is read from its own bytes alone. Assumes nothing.
-use Prim.Native.Nat.{ℕ, _+_, _*_, _%_, _≤_, _<_}
-use mathlib.Core.Path.{_≡_, refl, ap, _∙_}
+use Prim.Native.Nat.{ℕ, pred, _+_, _*_, _%_, _≤_, _<_}
+use mathlib.Core.Path.{_≡_, refl, sym, ap, _∙_}
 use mathlib.Core.List.{List}
 use mathlib.Core.Bool.{Bool, true, false, cond}
-use mathlib.Core.Logic.{_⊎_, inl, inr}
+use mathlib.Core.Logic.{_⊎_, inl, inr, ⊎-elim}
 use native.Mathlib.Omega.{arith}
 use lib.Dec.{leb, eqb, lit≤}
 use borrow.Author.Tests.{leb-true, leb-false, lt-leb, eqb-true, eqb-false}
-use Rattle.lists.proofs.Cases.{by-cond, both-true}
+use lib.ListN.{length}
+use Rattle.lists.proofs.Cases.{by-cond, both-true, eqb-cases, zero-not-one}
+use Rattle.slices.proofs.Bytes.{byte-there}
 use Rattle.slices.specs.Bytes.{byte}
 use Rattle.characters.specs.Utf8.{seqLen, low, high, second, laterByte, control, nonchar, single, double, triple, fourfold, charAt}
 use Rattle.characters.specs.declared.Char.{Char}
 use Rattle.characters.specs.declared.Char.the-variants.{Is, NoChar}
 use Rattle.characters.proofs.Ascii.{low-ascii}
 
 -- ---- a character below 80
 
@@ -202,3 +204,52 @@ char-near s s′ {c = ch} {n} e h =
     (cond-is (eqb (seqLen a) 4) (λ q. let z = size 4 (fourfold-sized a b c d) q in rw (h 1 (omega arith), h 2 (omega arith), h 3 (omega arith)))
     (λ q. refl)))) e
     ∙ e)
+
+-- ---- it ends where its list does, or before
+
+second-high : (a b : ℕ) → second a b ≡ true → 0x80 ≤ b
+second-high a b e = let l = low-ascii a in let h = second-range a b e .0 in omega arith
+
+later-high : (b : ℕ) → laterByte b ≡ true → 0x80 ≤ b
+unfolding laterByte
+later-high b e = leb-true 0x80 b (both-true (leb 0x80 b) e .0)
+
+-- the last byte: its own, or one from 80 on
+unfoldable LastHigh : List ℕ → Char → Type 0
+LastHigh s (Is c n) = ((n ≡ 1) × (byte s 0 ≡ c)) ⊎ (0x80 ≤ byte s (pred n))
+LastHigh s NoChar = Unit {0}
+
+last-high : (s : List ℕ) → LastHigh s (charAt s)
+unfolding charAt single double triple fourfold LastHigh
+last-high s =
+    let a = byte s 0 in
+    let b = byte s 1 in
+    let c = byte s 2 in
+    let d = byte s 3 in
+    by-cond P (eqb (seqLen a) 1) (by-cond P (control a) tt (inl (refl, refl)))
+    (by-cond P (eqb (seqLen a) 2) (by-test P (second a b) (λ e. inr (second-high a b e)) (λ e. tt))
+    (by-cond P (eqb (seqLen a) 3)
+    (by-cond P (second a b) (by-test P (laterByte c) (λ e. by-cond P (nonchar a b c) tt (inr (later-high c e))) (λ e. tt)) tt)
+    (by-cond P (eqb (seqLen a) 4) (by-cond P (second a b) (by-cond P (laterByte c) (by-test P (laterByte d) (λ e. inr (later-high d e)) (λ e. tt)) tt) tt) tt)))
+  where
+    P : Char → Type 0
+    P = LastHigh s
+
+pub char-last : (s : List ℕ) {c n : ℕ} → charAt s ≡ Is c n → ((n ≡ 1) × (byte s 0 ≡ c)) ⊎ (0x80 ≤ byte s (pred n))
+unfolding LastHigh
+char-last s e = let h = last-high s in rw e at h
+
+-- no character is 0
+none-zero : (s : List ℕ) {n : ℕ} → charAt s ≡ Is 0 n → ⊥
+unfolding charAt seqLen single control
+none-zero s e =
+    let z = char-low s e (omega arith) .0 in
+    let f : NoChar ≡ charAt s = rw z in
+    zero-not-one (cc)
+
+pub char-inside : (s : List ℕ) {c n : ℕ} → charAt s ≡ Is c n → n ≤ length s
+char-inside s {c} {n} e =
+    ⊎-elim
+    (λ one. ⊎-elim (λ z. absurd (none-zero s (rw (z .0) at e))) (λ z. let k = z .0 in omega (arith, one .0, byte-there s 0 (sym (one .1)) (omega arith))) (eqb-cases c 0))
+    (λ high. let l = byte-there s (pred n) refl (omega (arith, high)) in let m = char-size s e in omega arith)
+    (char-last s e)

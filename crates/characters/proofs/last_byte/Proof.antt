@@ -3,14 +3,14 @@ use native.Mathlib.Omega.{arith}
 use lib.ListN.{List·getD-eq-default}
 use Rattle.slices.specs.Bytes.{byte}
 use borrow.Author.Needs.{needs}
-use Rattle.reader.proofs.rows.last_byte.Statement.{statement}
-use Rattle.reader.proofs.rows.last_byte.Tie as tie
-use Rattle.reader.proofs.rows.last_byte.Reads as reads
-use Rattle.reader.proofs.rows.last_byte.Lts as lts
+use Rattle.characters.proofs.last_byte.Statement.{statement}
+use Rattle.characters.proofs.last_byte.Tie as tie
+use Rattle.characters.proofs.last_byte.Reads as reads
+use Rattle.characters.proofs.last_byte.Lts as lts
 
 returns : tie.Need-returns
 unfolding byte
-returns c = sym (List·getD-eq-default (c .before .args .s .now) 0 (omega (arith, c .if1 .taken)))
+returns c = sym (List·getD-eq-default (c .before .args .v .now) 0 (omega (arith, c .if1 .taken)))
 
 sub-result : tie.Need-sub-result
 sub-result c = search needs
