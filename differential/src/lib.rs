@@ -3,6 +3,7 @@
 pub mod documents;
 pub mod model;
 pub mod random;
+pub mod references;
 pub mod renaming;
 pub mod rows;
 pub mod spelling;
