@@ -545,7 +545,7 @@ fn generated() {
 #[test]
 fn identifications_replaced() {
     let mut many = 0;
-    for number in 0..3000 {
+    for number in 0..5000 {
         let made = document(7, number);
         let Some(other) = renamed(&mut Random::new(7, number), &made.bytes) else { continue };
         let places = identifications(&made.bytes);

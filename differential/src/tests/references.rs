@@ -1,8 +1,9 @@
 //! K4: what a reference says, where it may stand, and that all judgements go by what a value says.
 
 use super::*;
+use crate::digits::other_digits;
 use crate::model::qty_digits;
-use crate::references::reference;
+use crate::references::{reference, units};
 
 /// The smallest document with a value: 3 where the tag is readable, since it is not due; else 2.
 fn readable(value: &str) -> bool {
@@ -265,4 +266,73 @@ fn identifications_with_references_stay() {
     assert!(renamed(random, two("\"a\"", "\"b\"").as_bytes()).is_some());
     assert!(renamed(random, [&two("\"a\"", "\"b\""), "&", "<TimeSeriesIdentification v='&#98;'/>"].concat().as_bytes()).is_some());
     assert!(renamed(random, two("\"a\"", "\"b\"").replace("Z05", "&#90;05").as_bytes()).is_some());
+}
+
+/// The characters that the references between two places say.
+fn referenced(doc: &[u8], from: u32, length: u32) -> Vec<char> {
+    let place = from as usize..(from + length) as usize;
+    let all = units(doc, place).unwrap_or_default().into_iter();
+    all.filter(|unit| doc[unit.place.start] == b'&').map(|unit| unit.says).collect()
+}
+
+/// Each pair of each kind is shown with a reference in many accepted documents, and so are each of the five named ones, referenced spaces beside what is shown
+/// of a collapsed value, and equal meanings in other bytes.
+#[test]
+fn generated_references() {
+    const PAIRS: [usize; 3] = [36, 37, 38];
+    let (mut shown, mut accepted, mut dropped) = ([[0; 38]; 3], 0, [0; 2]);
+    let mut said = std::collections::BTreeMap::new();
+    for number in 0..16_000 {
+        let made = document(9, number);
+        let (table, answer) = lent(9, number, &made.bytes)[0];
+        let views = view(&made.bytes, table, answer);
+        let (0, Some(kind)) = (views.refusal, views.answer.get(2)) else { continue };
+        accepted += usize::from(made.bytes.contains(&b'&'));
+        for (k, pair) in views.table.chunks_exact(2).take(38).enumerate().filter(|(_, pair)| pair[0] != 0) {
+            let found = referenced(&made.bytes, pair[0], pair[1]);
+            shown[*kind as usize - 1][k] += usize::from(!found.is_empty());
+            found.into_iter().for_each(|c| *said.entry(c).or_insert(0) += 1);
+            dropped[0] += usize::from(made.bytes[pair[0] as usize - 1] == b';');
+            dropped[1] += usize::from(made.bytes[(pair[0] + pair[1]) as usize] == b'&');
+        }
+    }
+    for (kind, shown) in shown.iter().enumerate() {
+        let known = |k: usize| k < PAIRS[kind] && (kind == 2 || !matches!(k, 0 | 1 | 15));
+        assert!((0..38).all(|k| if known(k) { shown[k] > 3 } else { shown[k] == 0 }), "kind {}: {shown:?}", kind + 1);
+    }
+    assert!(accepted > 1_000 && dropped.iter().all(|many| *many > 100), "{accepted} {dropped:?}");
+    assert!(
+        "&<>\"'\t\n\r \u{7F}\u{D7FF}\u{E000}\u{FFFD}\u{10000}\u{10FFFF}".chars().all(|c| said.get(&c).is_some_and(|many| *many > 20)),
+        "{said:?}"
+    );
+}
+
+/// Documents are refused with 9 where two identifications differ in their bytes alone, and with 2 at tags that hold an `&`; digits beside references change.
+#[test]
+fn generated_refusals_of_references() {
+    let (mut nine, mut two, mut digits) = (0, std::collections::BTreeSet::<&str>::new(), 0);
+    for number in 0..20_000 {
+        let made = document(9, number);
+        let [refusal, place, ..] = read(&made.bytes, &Lengths { note: 16, ..made.lengths }).answer;
+        let tag = &made.bytes[(place as usize).min(made.bytes.len())..];
+        let tag = &tag[..tag.iter().position(|b| *b == b'>').map_or(tag.len(), |end| end + 1)];
+        if refusal == 2 && tag.first() == Some(&b'<') {
+            two.extend(crate::respelling::BROKEN.iter().filter(|broken| tag.windows(broken.len()).any(|part| part == broken.as_bytes())));
+        }
+        if refusal == 9 {
+            let values: Vec<&[u8]> = identifications(&made.bytes).into_iter().map(|at| &made.bytes[at]).collect();
+            let here = identifications(tag).into_iter().map(|at| &tag[at]).next();
+            nine += usize::from(here.is_some_and(|here| values.iter().filter(|value| **value == here).count() == 1));
+        }
+        if let Some(other) = other_digits(&mut Random::new(9, number), &made.bytes) {
+            let (before, after) = (read(&made.bytes, &made.lengths), read(&other, &made.lengths));
+            assert_eq!(
+                (before.answer, &before.series, &before.positions, &before.note),
+                (after.answer, &after.series, &after.positions, &after.note)
+            );
+            let beside = |at: usize| matches!(made.bytes[at - 1], b';') || made.bytes[at + 1] == b'&';
+            digits += usize::from(before.answer[0] == 0 && qty_digits(&made.bytes).into_iter().any(|at| beside(at) && made.bytes[at] != other[at]));
+        }
+    }
+    assert!(nine > 10 && digits > 100 && two.len() == crate::respelling::BROKEN.len(), "{nine} {digits} {two:?}");
 }
