@@ -45,6 +45,14 @@ fn character(bytes: &[u8]) -> Option<char> {
     whole.chars().next()
 }
 
+/// One in so many spaces, or more, is put by reference: at a collapsed end there are few of them.
+const SPACES: usize = 3;
+
+/// Whether a character may stand as it is or by reference.
+fn is_free(c: char) -> bool {
+    !matches!(c, '&' | '<' | '\t' | '\r' | '\n') && is_xml_character(c)
+}
+
 /// The value with one in `rarely` of its characters by reference. What is no character, or makes a value unreadable, stays as it is, and so does all that
 /// begins with `&` up to a `;`.
 pub fn respelled(random: &mut Random, value: &[u8], rarely: usize) -> Vec<u8> {
@@ -58,23 +66,12 @@ pub fn respelled(random: &mut Random, value: &[u8], rarely: usize) -> Vec<u8> {
         };
         let (unit, after) = rest.split_at(length);
         match character(unit) {
-            Some(c) if !matches!(c, '&' | '<' | '\t' | '\r' | '\n') && is_xml_character(c) && random.one_in(rarely) => {
-                out.extend(as_reference(random, c))
-            }
+            Some(c) if is_free(c) && random.one_in(if c == ' ' { rarely.min(SPACES) } else { rarely }) => out.extend(as_reference(random, c)),
             _ => out.extend_from_slice(unit),
         }
         rest = after;
     }
     out
-}
-
-/// A space, now and then by reference.
-pub fn a_space(random: &mut Random) -> Vec<u8> {
-    if random.one_in(3) {
-        as_reference(random, ' ')
-    } else {
-        b" ".to_vec()
-    }
 }
 
 /// The value with something in it that is no reference or says what is not dropped; or its first reference said once more, so that it says another thing.

@@ -2,7 +2,7 @@
 
 use crate::model::{last_sunday, midnight};
 use crate::random::Random;
-use crate::respelling::{a_space, misspelled, NEEDED};
+use crate::respelling::{misspelled, NEEDED};
 use crate::rows::{Form, AREAS};
 
 /// What the values of one document have in common.
@@ -326,8 +326,10 @@ fn wrong_period(random: &mut Random, plan: &Plan) -> Vec<u8> {
     value
 }
 
-/// The value with spaces at one end or both, some of them by reference.
+/// The value with spaces at one end or both.
 pub fn spaced(random: &mut Random, value: &[u8]) -> Vec<u8> {
-    let mut spaces = || (0..random.below(3)).flat_map(|_| a_space(random)).collect::<Vec<u8>>();
-    [spaces(), value.to_vec(), spaces()].concat()
+    let mut spaced = vec![b' '; random.below(3)];
+    spaced.extend_from_slice(value);
+    spaced.resize(spaced.len() + random.below(3), b' ');
+    spaced
 }
