@@ -9,6 +9,7 @@ use crate::totals::{add_up, causes, Asked, Cause, CAUSES, MOST_SERIES, TOO_LARGE
 use crate::views::{lent, view, Viewed, HEADER_CELLS, SERIES_CELLS};
 
 mod references;
+mod samples;
 
 const ROOM: Lengths = Lengths { series: 64 * ROW, positions: 2048, amounts: 2048, note: 16 };
 const ROOT: &str = "<Kostenblatt DtdBDEWNachrichtenVersion=\"1.0\">";
