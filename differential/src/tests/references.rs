@@ -336,3 +336,23 @@ fn generated_refusals_of_references() {
     }
     assert!(nine > 10 && digits > 100 && two.len() == crate::respelling::BROKEN.len(), "{nine} {digits} {two:?}");
 }
+
+fn bytes_of(line: &str) -> Vec<u8> {
+    line.split_ascii_whitespace().map(|byte| u8::from_str_radix(byte, 16).unwrap_or(0)).collect()
+}
+
+/// The vectors of vectors/references.py, whose answers are expat's.
+#[test]
+fn as_expat_says() {
+    let folder = std::path::Path::new(env!("CARGO_MANIFEST_DIR")).join("../crates/references_run");
+    let text = |name: &str| std::fs::read_to_string(folder.join(name)).unwrap_or_default();
+    let (values, answers) = (text("stdin"), text("stdout"));
+    assert!(values.lines().count() > 2_000 && values.lines().count() == answers.lines().count());
+    for (value, said) in values.lines().map(bytes_of).zip(answers.lines()) {
+        let quote: &[u8] = if value.contains(&b'"') { b"'" } else { b"\"" };
+        let doc = [b"<a v=", quote, &value, quote, b"/>"].concat();
+        let numbers: String = units(&value, 0..value.len()).unwrap_or_default().iter().map(|unit| format!(" {}", unit.says as u32)).collect();
+        let answer = if read(&doc, &ROOM).answer[0] == 3 { ["says", &numbers].concat() } else { "none".to_string() };
+        assert_eq!(answer, said, "{}", value.escape_ascii());
+    }
+}

@@ -32,3 +32,20 @@ fn samples() {
         assert_eq!(line(name, &doc), said);
     }
 }
+
+/// The vectors of views (vectors/views.py): three bytes, how many cells the table and the answer have, then the document, on two lines.
+#[test]
+fn views_of_vectors() {
+    let folder = Path::new(env!("CARGO_MANIFEST_DIR")).join("../crates/views_run");
+    let input = std::fs::read(folder.join("stdin")).unwrap_or_default();
+    let expected = std::fs::read_to_string(folder.join("stdout")).unwrap_or_default();
+    let lines: Vec<&[u8]> = input.split(|b| *b == b'\n').collect();
+    assert!(lines.len() / 2 == expected.lines().count() && lines.len() > 60);
+    for (case, said) in lines.chunks_exact(2).zip(expected.lines()) {
+        let head = std::str::from_utf8(case[0]).unwrap_or("");
+        let sizes: Vec<usize> = head.split(' ').map(|byte| usize::from_str_radix(byte, 16).unwrap_or(0)).collect();
+        let views = view(case[1], 256 * sizes[0] + sizes[1], sizes[2]);
+        let cells = |cells: &[u32]| cells.iter().map(|cell| format!(" {cell}")).collect::<String>();
+        assert_eq!(format!("{}:{}:{}", views.refusal, cells(&views.answer), cells(&views.table)), said);
+    }
+}
