@@ -690,7 +690,9 @@ fn use_again(random: &mut Random, pieces: &mut [Piece], plan: &Plan) {
     if places.is_empty() || plan.identifications.is_empty() {
         return;
     }
-    let mut value = random.pick(&plan.identifications).clone();
+    // Of what has references more is looked at: what they say shows here alone.
+    let referring: Vec<&Vec<u8>> = plan.identifications.iter().filter(|value| value.contains(&b'&')).collect();
+    let mut value = if referring.is_empty() { random.pick(&plan.identifications).clone() } else { random.pick(&referring).to_vec() };
     match random.below(9) {
         0 => value.extend_from_slice(random.part(&[b" ", b"&#32;", b"&#x20;"])),
         1 => value.make_ascii_lowercase(),

@@ -2,6 +2,7 @@
 
 use crate::model::is_xml_character;
 use crate::random::Random;
+use crate::references::reference;
 
 const NAMED: &[(char, &str)] = &[('&', "&amp;"), ('<', "&lt;"), ('>', "&gt;"), ('"', "&quot;"), ('\'', "&apos;")];
 
@@ -53,8 +54,8 @@ fn is_free(c: char) -> bool {
     !matches!(c, '&' | '<' | '\t' | '\r' | '\n') && is_xml_character(c)
 }
 
-/// The value with one in `rarely` of its characters by reference. What is no character, or makes a value unreadable, stays as it is, and so does all that
-/// begins with `&` up to a `;`.
+/// The value with one in `rarely` of its characters by reference, those that are references by another one. What is no character, or makes a value
+/// unreadable, stays as it is, and so does all that begins with `&` and is no reference, up to a `;`.
 pub fn respelled(random: &mut Random, value: &[u8], rarely: usize) -> Vec<u8> {
     let mut out = Vec::with_capacity(2 * value.len());
     let mut rest = value;
@@ -66,6 +67,10 @@ pub fn respelled(random: &mut Random, value: &[u8], rarely: usize) -> Vec<u8> {
         };
         let (unit, after) = rest.split_at(length);
         match character(unit) {
+            Some('&') if random.one_in(rarely) => match reference(unit) {
+                Some((says, _)) => out.extend(as_reference(random, says)),
+                None => out.extend_from_slice(unit),
+            },
             Some(c) if is_free(c) && random.one_in(if c == ' ' { rarely.min(SPACES) } else { rarely }) => out.extend(as_reference(random, c)),
             _ => out.extend_from_slice(unit),
         }

@@ -148,7 +148,7 @@ fn grid_element(random: &mut Random) -> Vec<u8> {
 }
 
 fn text(random: &mut Random, length: usize) -> Vec<u8> {
-    let (wide, referring) = (random.one_in(3), random.one_in(8));
+    let (wide, referring) = (random.one_in(3), random.one_in(6));
     let mut value = Vec::new();
     for _ in 0..length {
         if referring && random.one_in(3) {
