@@ -119,21 +119,21 @@ impl Call<'_> {
 
     fn differs(&self, expected: &Outcome) -> bool {
         match self.by_library() {
-            Ok(outcome) => outcome != *expected || !read_back(&outcome),
+            Ok(outcome) => outcome != *expected || !read_back(&outcome) || library::readable_len(self.doc) != model::readable_len(self.doc),
             Err(_) => true,
         }
     }
 
     fn print_both(&self) {
-        println!("model:   {:?}", self.by_model());
+        println!("model:   {:?}, readable up to {}", self.by_model(), model::readable_len(self.doc));
         match self.by_library() {
-            Ok(outcome) => println!("library: {outcome:?}"),
+            Ok(outcome) => println!("library: {outcome:?}, readable up to {}", library::readable_len(self.doc)),
             Err(broken) => println!("library: {broken}"),
         }
     }
 }
 
-/// The answer, all cells, the note, and the note read back; of an accepted document the totals too.
+/// The answer, all cells, the note, the note read back, and how far the document is readable; of an accepted document the totals too.
 fn same_reading(made: &Document, seed: u64, number: u64, tally: &mut Tally) -> bool {
     let call = Call { doc: &made.bytes, lengths: &made.lengths, shape: shape(seed, number) };
     let expected = call.by_model();

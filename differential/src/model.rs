@@ -279,6 +279,19 @@ fn values_of(doc: &[u8], wanted: &[u8]) -> Vec<Range<usize>> {
     found
 }
 
+/// The place of the first unreadable item, or the length.
+pub fn readable_len(doc: &[u8]) -> usize {
+    let mut at = match first_item(doc) {
+        Ok(at) => at,
+        Err(place) => return place,
+    };
+    while at < doc.len() {
+        let Some((_, after)) = item_at(doc, at) else { return at };
+        at = after;
+    }
+    at
+}
+
 /// K12: "the TimeSeriesIdentification values in tags before the first unreadable item".
 pub fn identifications(doc: &[u8]) -> Vec<Range<usize>> {
     values_of(doc, b"TimeSeriesIdentification")
