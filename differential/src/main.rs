@@ -93,7 +93,7 @@ fn print_tally(count: u64, edges: usize, tally: &Tally) {
         "{} documents with other digits of prices, {} accepted, {} of them with references in amounts",
         tally.digits[0], tally.digits[1], tally.digits[2]
     );
-    println!("{} accepted documents with references, {} of them", tally.referring[0], tally.referring[1]);
+    println!("{} accepted documents have references, {} in all", tally.referring[0], tally.referring[1]);
     println!("tables of accepted documents: {} added up, refusal 17: {}", tally.documents_added[0], tally.documents_added[1]);
     println!("generated tables: {} added up, refusal 17: {}, 18: {}", tally.tables[0], tally.tables[1], tally.tables[2]);
     let refused: Vec<String> = tally.views.iter().enumerate().skip(1).map(|(number, many)| format!("{number}: {many}")).collect();
@@ -140,9 +140,9 @@ fn same_reading(made: &Document, seed: u64, number: u64, tally: &mut Tally) -> b
     tally.bytes += made.bytes.len() as u64;
     tally.refusals[expected.answer[0] as usize] += 1;
     tally.kinds[expected.answer[2] as usize] += u64::from(expected.answer[0] == 0);
-    let references = if expected.answer[0] == 0 { references_in(&made.bytes) } else { 0 };
+    let references = if expected.answer[0] == 0 { model::references(&made.bytes) } else { 0 };
     tally.referring[0] += u64::from(references > 0);
-    tally.referring[1] += references;
+    tally.referring[1] += references as u64;
     if !call.differs(&expected) {
         return expected.answer[0] != 0 || same_totals_of(&expected, seed, number, tally);
     }
@@ -155,11 +155,6 @@ fn same_reading(made: &Document, seed: u64, number: u64, tally: &mut Tally) -> b
     println!("smallest document found, {} bytes: {}", smallest.len(), smallest.escape_ascii());
     Call { doc: &smallest, ..call }.print_both();
     false
-}
-
-/// In an accepted document every `&` outside of comments begins one.
-fn references_in(doc: &[u8]) -> u64 {
-    doc.iter().filter(|b| **b == b'&').count() as u64
 }
 
 /// The note of a reading says the first five numbers of its answer, also in the other shape; with refusal 10 there is none.

@@ -263,20 +263,32 @@ fn first_item(doc: &[u8]) -> Result<usize, usize> {
     }
 }
 
-/// Where the bytes between the quotes of `v` are in each start or empty tag of a name before the first unreadable item, due or not.
-fn values_of(doc: &[u8], wanted: &[u8]) -> Vec<Range<usize>> {
+/// What is found in the start and empty tags before the first unreadable item, due or not, by their names and attributes.
+fn in_tags<T>(doc: &[u8], mut find: impl FnMut(&[u8], Vec<Given>) -> Vec<T>) -> Vec<T> {
     let mut found = Vec::new();
     let mut at = first_item(doc).unwrap_or(doc.len());
     while at < doc.len() {
         let Some((item, after)) = item_at(doc, at) else { break };
         if let Item::Tag { name, attributes, .. } = item {
-            if name == wanted {
-                found.extend(attributes.into_iter().filter(|given| given.name == b"v").map(|given| given.value));
-            }
+            found.extend(find(name, attributes));
         }
         at = after;
     }
     found
+}
+
+/// Where the bytes between the quotes of `v` are in each such tag of a name.
+fn values_of(doc: &[u8], wanted: &[u8]) -> Vec<Range<usize>> {
+    in_tags(doc, |name, attributes| {
+        let own = attributes.into_iter().filter(|given| name == wanted && given.name == b"v");
+        own.map(|given| given.value).collect()
+    })
+}
+
+/// How many references are in the values of all such tags.
+pub fn references(doc: &[u8]) -> usize {
+    let values = in_tags(doc, |_, attributes| attributes.into_iter().map(|given| given.value).collect());
+    values.into_iter().map(|value| part(doc, value).iter().filter(|b| **b == b'&').count()).sum()
 }
 
 /// The place of the first unreadable item, or the length.
