@@ -278,7 +278,10 @@ const DIGITS: u64 = 3;
 /// Demand 3: with other readable Qty digits the library leaves the same but for amounts, and those are the model's.
 fn same_digits(made: &Document, seed: u64, number: u64, tally: &mut Tally) -> bool {
     let random = &mut Random::new(seed ^ 0x6469_6769, number);
-    let Some(other) = other_digits(random, &made.bytes).filter(|_| number % DIGITS == 0) else { return true };
+    if number % DIGITS != 0 {
+        return true;
+    }
+    let Some(other) = other_digits(random, &made.bytes) else { return true };
     let call = |doc| Call { doc, lengths: &made.lengths, shape: shape(seed, number) };
     let (first, second) = (call(&made.bytes).by_model(), call(&other).by_library());
     tally.digits[0] += 1;

@@ -123,7 +123,8 @@ fn quoted_at(doc: &[u8], at: usize) -> Option<Range<usize>> {
 /// "no tab, CR or LF inside an attribute value", no `<` in a value; an `&` begins one of K4's references: "2 for any other reference".
 fn value_readable(doc: &[u8], value: Range<usize>) -> bool {
     let bytes = part(doc, value.clone());
-    !bytes.iter().any(|b| matches!(b, b'<' | b'\t' | b'\r' | b'\n')) && xml_characters(bytes) && units(doc, value).is_some()
+    let refers = bytes.contains(&b'&');
+    !bytes.iter().any(|b| matches!(b, b'<' | b'\t' | b'\r' | b'\n')) && xml_characters(bytes) && (!refers || units(doc, value).is_some())
 }
 
 fn attribute_at(doc: &[u8], at: usize) -> Option<Given<'_>> {
