@@ -73,8 +73,17 @@ module _ {hex : Bool} {l : List ℕ} where
 xml-past : (c : ℕ) → 0x110000 ≤ c → xmlChar c ≡ false
 unfolding xmlChar within
 xml-past c h =
-    rw (ne-eqb c 0x9 (omega arith), ne-eqb c 0xA (omega arith), ne-eqb c 0xD (omega arith), le-leb 0x20 c (omega arith), lt-leb c 0xD7FF (omega arith),
-    le-leb 0xE000 c (omega arith), lt-leb c 0xFFFD (omega arith), le-leb 0x10000 c (omega arith), lt-leb c 0x10FFFF (omega arith))
+    rw (
+      ne-eqb c 0x9 (omega arith),
+      ne-eqb c 0xA (omega arith),
+      ne-eqb c 0xD (omega arith),
+      le-leb 0x20 c (omega arith),
+      lt-leb c 0xD7FF (omega arith),
+      le-leb 0xE000 c (omega arith),
+      lt-leb c 0xFFFD (omega arith),
+      le-leb 0x10000 c (omega arith),
+      lt-leb c 0x10FFFF (omega arith),
+    )
 
 pub char-capped : (c n : ℕ) → charBy (capped c) n ≡ charBy c n
 unfolding charBy capped

@@ -247,13 +247,13 @@ numbered-shut t {hex} {from} {s} {n = n} b z f w =
       some = omega (arith, w .long);
       last = ap (byte s) (let e : pred n ≡ from + w .digits = omega (arith, w .long) in e) ∙ w .ends;
       only = λ i h q.
-      ⊎-elim
-      (λ l. open-to t from f i (l .0) (sym (sym (byte-take s (length t) i (omega (arith, l .0))) ∙ ap (λ (x : List ℕ). byte x i) b) ∙ q))
-      (λ l.
-      let j : from + (i - from) ≡ i = omega (arith, l .0) in
-      digit-other hex (byte s i) (ap (refDigit hex) (ap (byte s) (sym j) ∙ sym (byte-drop s from (i - from)))
-      ∙ run-each (refDigit hex) (drop from s) (i - from) (omega (arith, w .long, w .count, l .0))) q)
-      (ltb-cases i from);
+          ⊎-elim
+          (λ l. open-to t from f i (l .0) (sym (sym (byte-take s (length t) i (omega (arith, l .0))) ∙ ap (λ (x : List ℕ). byte x i) b) ∙ q))
+          (λ l.
+          let j : from + (i - from) ≡ i = omega (arith, l .0) in
+          digit-other hex (byte s i) (ap (refDigit hex) (ap (byte s) (sym j) ∙ sym (byte-drop s from (i - from)))
+          ∙ run-each (refDigit hex) (drop from s) (i - from) (omega (arith, w .long, w .count, l .0))) q)
+          (ltb-cases i from);
     }
 
 pub reference-shut : (s : List ℕ) {c n : ℕ} → referenceAt s ≡ Is c n → Shut s n

@@ -18,7 +18,11 @@ fn show_said(v: &[u8]) {
 
 // A value that has a double quote stands between single ones.
 fn quote_for(v: &[u8]) -> u8 {
-    if slices::first_at(b"\"", v) < v.len() { 0x27 } else { 0x22 }
+    if slices::first_at(b"\"", v) < v.len() {
+        0x27
+    } else {
+        0x22
+    }
 }
 
 // The attribute ` v="..."`, as much of it as there is room for.

@@ -19,7 +19,6 @@ Inv-loop a b alike i₀ k₀ i k = Abreast a b i k
 abbrev μ-loop : tie.MeasureT-loop
 μ-loop a b alike i₀ k₀ i k = length a - i
 
-
 own-len-requires : tie.Need-own-len-requires Inv-loop μ-loop
 own-len-requires c κs = search needs
 
