@@ -7,7 +7,7 @@ use lib.Dec.{eqb, ltb}
 use Rattle.slices.specs.Bytes.{byte}
 use Rattle.slices.specs.Run.{run}
 use Rattle.slices.specs.Walk.{WalkStep, go, stop, walk}
-use Rattle.characters.specs.Utf8.{charAt, longest}
+use Rattle.characters.specs.Utf8.{charAt}
 use Rattle.characters.specs.References.{referenceAt}
 use Rattle.characters.specs.Says.{Met, referred, standing, met}
 use Rattle.characters.specs.declared.Char.{Char}

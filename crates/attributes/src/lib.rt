@@ -10,7 +10,7 @@ ghost use mathlib.Core.Bool.{true};
 ghost use Prim.Native.Nat.{_+_, _≤_};
 ghost use lib.ListN.{length};
 ghost use Rattle.slices.specs.Run.{run};
-ghost use Rattle.characters.specs.Utf8.{charUse, longest};
+ghost use Rattle.characters.specs.Utf8.{charUse, sliceMost};
 ghost use Rattle.attributes.specs.Names.{nameStart, nameByte, white};
 ghost use Rattle.attributes.specs.Short.{common, opensV, vLen};
 ghost use Rattle.attributes.specs.Attribute.{quote, plain, longer, value, valueEnd, opening, attribute, piece, pieceUse, pieceValue};
@@ -118,7 +118,7 @@ fn is_plain(b: u8) -> bool
 // What stands at a byte that is not plain.
 fn longer_at(s: &[u8]) -> Char
     ensures char { λ r. ⌜ r ≡ longer (now (s .entry)) ⌝ }
-    ensures size { λ r. ⌜ (1 ≤ charUse r) × (charUse r ≤ longest) ⌝ }
+    ensures size { λ r. ⌜ (1 ≤ charUse r) × (charUse r ≤ sliceMost) ⌝ }
 {
     let b = byte_at(s, 0);
     if b == 0x26 {

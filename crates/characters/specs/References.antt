@@ -27,14 +27,14 @@ xmlChar c =
     (within 0x10000 0x10FFFF c)))))
 
 -- XML 1.0, CharRef: "'&#' [0-9]+ ';' | '&#x' [0-9a-fA-F]+ ';'"
-unfoldable pub decimal : ℕ → Bool
-decimal b = cond (leb (code "0") b) (leb b (code "9")) false
+unfoldable pub decimalDigit : ℕ → Bool
+decimalDigit b = cond (leb (code "0") b) (leb b (code "9")) false
 
-unfoldable pub hexadecimal : ℕ → Bool
-hexadecimal b = cond (leb (code "a") b) (leb b (code "f")) (cond (leb (code "A") b) (leb b (code "F")) (decimal b))
+unfoldable pub hexDigit : ℕ → Bool
+hexDigit b = cond (leb (code "a") b) (leb b (code "f")) (cond (leb (code "A") b) (leb b (code "F")) (decimalDigit b))
 
 unfoldable pub refDigit : Bool → ℕ → Bool
-refDigit hex b = cond hex (hexadecimal b) (decimal b)
+refDigit hex b = cond hex (hexDigit b) (decimalDigit b)
 
 unfoldable pub base : Bool → ℕ
 base hex = cond hex 16 10

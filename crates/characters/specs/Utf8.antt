@@ -69,5 +69,5 @@ charUse (Is c n) = n
 charUse NoChar = 1
 
 -- no slice is longer than so many bytes
-abbrev pub longest : ℕ
-longest = 9223372036854775807
+abbrev pub sliceMost : ℕ
+sliceMost = 9223372036854775807

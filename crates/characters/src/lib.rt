@@ -9,7 +9,7 @@ ghost use Prim.Native.Nat.{_-_, _≤_};
 ghost use lib.ListN.{length};
 ghost use Rattle.slices.specs.Bytes.{byte};
 ghost use Rattle.slices.specs.Same.{same};
-ghost use Rattle.characters.specs.Utf8.{seqLen, low, high, second, laterByte, control, nonchar, single, double, triple, fourfold, charAt, charUse, longest};
+ghost use Rattle.characters.specs.Utf8.{seqLen, low, high, second, laterByte, control, nonchar, single, double, triple, fourfold, charAt, charUse, sliceMost};
 ghost use Rattle.characters.specs.Says.{met, charOf, itself, ownEnd, endsOtherwise, ownLen, saidAt, saidUse, says, allChars};
 
 pub enum Char {
@@ -212,7 +212,7 @@ fn is_itself(b: u8) -> bool
 // The character that stands at the front of s, or that a reference there names.
 fn unit_at(s: &[u8]) -> Char
     ensures char { λ r. ⌜ r ≡ charOf (met (now (s .entry))) ⌝ }
-    ensures size { λ r. ⌜ (1 ≤ charUse r) × (charUse r ≤ longest) ⌝ }
+    ensures size { λ r. ⌜ (1 ≤ charUse r) × (charUse r ≤ sliceMost) ⌝ }
 {
     if byte_at(s, 0) == 0x26 {
         return reference_at(s);
@@ -224,7 +224,7 @@ fn unit_at(s: &[u8]) -> Char
 // Ruled out: a byte of a longer character, or of a reference, as a character; an end before the last byte.
 pub fn said_at(v: &[u8]) -> Said
     ensures said { λ r. ⌜ r ≡ saidAt (now (v .entry)) ⌝ }
-    ensures size { λ r. ⌜ (1 ≤ saidUse r) × (saidUse r ≤ longest) ⌝ }
+    ensures size { λ r. ⌜ (1 ≤ saidUse r) × (saidUse r ≤ sliceMost) ⌝ }
 {
     if v.len() == 0 {
         return Said::Over;

@@ -8,8 +8,8 @@ ghost use mathlib.Core.Path.{_≡_};
 ghost use Prim.Native.Nat.{_+_, _≤_};
 ghost use lib.ListN.{length};
 ghost use Rattle.slices.specs.Run.{run};
-ghost use Rattle.characters.specs.Utf8.{charUse, longest};
-ghost use Rattle.characters.specs.References.{within, xmlChar, decimal, hexadecimal, refDigit, digitValue, base, capped, numberBy, numberedAt, namedAt, referenceAt};
+ghost use Rattle.characters.specs.Utf8.{charUse, sliceMost};
+ghost use Rattle.characters.specs.References.{within, xmlChar, decimalDigit, hexDigit, refDigit, digitValue, base, capped, numberBy, numberedAt, namedAt, referenceAt};
 
 fn is_within(low: u32, high: u32, c: u32) -> bool
     ensures { λ r. ⌜ r ≡ within low high c ⌝ }
@@ -39,13 +39,13 @@ fn is_xml_char(c: u32) -> bool
 }
 
 fn is_decimal(b: u8) -> bool
-    ensures { λ r. ⌜ r ≡ decimal b ⌝ }
+    ensures { λ r. ⌜ r ≡ decimalDigit b ⌝ }
 {
     if 0x30 <= b { b <= 0x39 } else { false }
 }
 
 fn is_hexadecimal(b: u8) -> bool
-    ensures { λ r. ⌜ r ≡ hexadecimal b ⌝ }
+    ensures { λ r. ⌜ r ≡ hexDigit b ⌝ }
 {
     if 0x61 <= b {
         b <= 0x66
@@ -121,7 +121,7 @@ fn number_in(hex: bool, digits: &[u8]) -> u32
 // Digits from the place `from` on, and then `;`; a u8, so that each place after it is in range.
 fn numbered_at(hex: bool, from: u8, s: &[u8]) -> Char
     ensures char { λ r. ⌜ r ≡ numberedAt hex from (now (s .entry)) ⌝ }
-    ensures size { λ r. ⌜ (1 ≤ charUse r) × (charUse r ≤ longest) ⌝ }
+    ensures size { λ r. ⌜ (1 ≤ charUse r) × (charUse r ≤ sliceMost) ⌝ }
 {
     let first = from as usize;
     let t = rest(s, first);
@@ -141,7 +141,7 @@ fn numbered_at(hex: bool, from: u8, s: &[u8]) -> Char
 
 fn named_at(s: &[u8]) -> Char
     ensures char { λ r. ⌜ r ≡ namedAt (now (s .entry)) ⌝ }
-    ensures size { λ r. ⌜ (1 ≤ charUse r) × (charUse r ≤ longest) ⌝ }
+    ensures size { λ r. ⌜ (1 ≤ charUse r) × (charUse r ≤ sliceMost) ⌝ }
 {
     if begins_with(b"&amp;", s) {
         return Char::Is(0x26, 5);
@@ -165,7 +165,7 @@ fn named_at(s: &[u8]) -> Char
 // Ruled out: a surrogate or a number past 10FFFF as a character; a number that wraps; `&AMP;`, `&#X41;` or a reference with no `;`.
 pub fn reference_at(s: &[u8]) -> Char
     ensures char { λ r. ⌜ r ≡ referenceAt (now (s .entry)) ⌝ }
-    ensures size { λ r. ⌜ (1 ≤ charUse r) × (charUse r ≤ longest) ⌝ }
+    ensures size { λ r. ⌜ (1 ≤ charUse r) × (charUse r ≤ sliceMost) ⌝ }
 {
     if begins_with(b"&#x", s) {
         return numbered_at(true, 3, s);

@@ -20,7 +20,7 @@ use Rattle.items.specs.Item.{endClose, endName, endTag, tagOf, tagItem, startTa
 use Rattle.prolog.specs.Prolog.{markLen, beginAfter, begin}
 use Rattle.pictures.specs.Picture.{capital, capitalOrDigit, firstThree, digit, takes, held, fitsOf}
 use Rattle.pictures.specs.Number.{shownNumber, numberAt}
-use Rattle.trims.specs.Trim.{space, dropLead, keptBefore as keepEnd, dropTrail, dropped, leadAfter, leadOf, keptFrom, keptAfter, keptOf as keptLength, cutTrail, trimmedOf}
+use Rattle.trims.specs.Trim.{space, dropLead, keptBefore as keepEnd, dropTrail, dropped, leadAfter, leadOf, keptFrom, keptAfter, keptBytes, cutTrail, trimmedOf}
 use Rattle.numbers.specs.Digits.{digits, numberFrom, nothingLeft as nothingAfter, onlyDigits}
 use Rattle.numbers.specs.Amount.{minus, unsigned, fractionForm, unsignedForm, writtenAmount, filled, thousandths, signed, amountOf}
 use Rattle.numbers.specs.Number.{numberForm, atMostNine, numberWithin, numberOf as countOf}
@@ -75,7 +75,7 @@ computed : (allPass examples ≡ true) × (readOf sheet 25 4 4 Old 16 ≡ sheetO
 unfolding byte run same begins walk seqLen control single charAt met charOf saidBy saidAt saysAfter says nameStart nameByte white quote fit standingNext valueNext valueOver
     value openingFrom opening attributeEnd attributeQuote attributeName attribute pieceAfter piece partOf absent dtdName noDtd withDtd noneKnown anotherKnown
     notedKnown onto endsAfter ends keptOf named twice endClose endName endTag tagOf tagItem startTag item markLen beginAfter begin capital
-    capitalOrDigit firstThree digit takes fitsOf shownNumber numberAt space dropLead keepEnd dropTrail dropped leadAfter leadOf keptFrom keptAfter keptLength cutTrail trimmedOf digits numberFrom nothingAfter
+    capitalOrDigit firstThree digit takes fitsOf shownNumber numberAt space dropLead keepEnd dropTrail dropped leadAfter leadOf keptFrom keptAfter keptBytes cutTrail trimmedOf digits numberFrom nothingAfter
     onlyDigits minus unsigned fractionForm unsignedForm writtenAmount filled thousandths signed amountOf numberForm atMostNine numberWithin countOf
     lists codesOf listed held identification gridElement marketPartner resourceObject quarterHour leap monthDays realDate daysBefore leapDay
     dayNumber dayOf minuteOn minuteAt isMinute dateTime between interval costPeriod quarterHours changes marchSunday

@@ -13,6 +13,7 @@ use lib.Seq.{getD-set-same, getD-set-other}
 use borrow.Author.Tests.{lt-leb}
 use Rattle.lists.proofs.Cases.{eqb-cases, zero-not-one}
 use Rattle.trims.specs.Trim.{leadOf, trimmedOf}
+use Rattle.characters.specs.Says.{says}
 use Rattle.slices.specs.declared.Span.{Span}
 use Rattle.items.specs.Parts.{spanOf}
 use Rattle.items.specs.Item.{item, itemEnd}
@@ -102,7 +103,7 @@ module _ (room other : Room) (rooms : room .series ≡ other .series) where
 
     field-same : (doc : List ℕ) (v : Span) (s : List ℕ) (n : ℕ) (f : Field) → n ≤ room .series → usedIn doc t v s n f ≡ usedIn doc u v s n f
     unfolding usedIn
-    field-same doc v s n Identification h = used-same doc (n - 1) (quoted v s) (omega (arith, h))
+    field-same doc v s n Identification h = used-same doc (n - 1) (says (quoted v s)) (omega (arith, h))
     field-same doc v s n Object h = refl
     field-same doc v s n BusinessType h = refl
     field-same doc v s n Direction h = refl

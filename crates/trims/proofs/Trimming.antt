@@ -20,7 +20,7 @@ use Rattle.characters.specs.declared.Said.the-variants.{Says, Over}
 use Rattle.characters.proofs.Low.{char-low}
 use Rattle.characters.proofs.Units.{Unit′, stands, refers, unit-is, reference-shut}
 use Rattle.characters.proofs.Saying.{says-char, says-none, said-not-over, Uttered, unit, stray, uttered, said-some-bytes, said-inside, said-cut}
-use Rattle.trims.specs.Trim.{space, dropLead, keptBefore, dropTrail, dropped, leadAfter, leadOf, keptFrom, keptAfter, keptOf, cutTrail, trimmedOf}
+use Rattle.trims.specs.Trim.{space, dropLead, keptBefore, dropTrail, dropped, leadAfter, leadOf, keptFrom, keptAfter, keptBytes, cutTrail, trimmedOf}
 use Rattle.trims.specs.Short.{bare, bareAtEnds}
 
 -- ---- one unit
@@ -46,8 +46,8 @@ lead-step (b ∷ t) {c} {n} p q m = by n q m
     by zero q m = absurd (omega arith)
     by (suc n) q m = rw (leadAfter, q) (ap (λ (k : ℕ). cond (space c) (suc n + k) 0) (lead-skip n t))
 
-pub kept-step : (v : List ℕ) {c n : ℕ} → 0 < length v → saidAt v ≡ Says c n → 1 ≤ n → keptOf v ≡ keptFrom c n (keptOf (drop n v))
-unfolding keptOf keptAfter
+pub kept-step : (v : List ℕ) {c n : ℕ} → 0 < length v → saidAt v ≡ Says c n → 1 ≤ n → keptBytes v ≡ keptFrom c n (keptBytes (drop n v))
+unfolding keptBytes keptAfter
 kept-step [] p q m = absurd (omega arith)
 kept-step (b ∷ t) {c} {n} p q m = by n q m
   where
@@ -59,8 +59,8 @@ lead-none : leadOf [] ≡ 0
 unfolding leadOf leadAfter
 lead-none = refl
 
-kept-none : keptOf [] ≡ 0
-unfolding keptOf keptAfter
+kept-none : keptBytes [] ≡ 0
+unfolding keptBytes keptAfter
 kept-none = refl
 
 -- what is known of the unit at the front of a value
@@ -143,16 +143,16 @@ kept-by c n more =
     (λ y. inr (rw (y .1)))
     (eqb-cases more 0)
 
-kept-inside : (v : List ℕ) → keptOf v ≤ length v
-kept-inside = by-units (λ (v : List ℕ). keptOf v ≤ length v) (rw kept-none (omega arith)) step
+kept-inside : (v : List ℕ) → keptBytes v ≤ length v
+kept-inside = by-units (λ (v : List ℕ). keptBytes v ≤ length v) (rw kept-none (omega arith)) step
   where
-    step : (v : List ℕ) (f : First v) → 0 < length v → keptOf (drop (f .n) v) ≤ length (drop (f .n) v) → keptOf v ≤ length v
+    step : (v : List ℕ) (f : First v) → 0 < length v → keptBytes (drop (f .n) v) ≤ length (drop (f .n) v) → keptBytes v ≤ length v
     step v f p ih =
         let e = kept-step v p (f .is) (f .some) in
-        ⊎-elim (λ y. omega (arith, e, y .2)) (λ y. omega (arith, e, y, ih, length-drop (f .n) v, f .inside)) (kept-by (f .c) (f .n) (keptOf (drop (f .n) v)))
+        ⊎-elim (λ y. omega (arith, e, y .2)) (λ y. omega (arith, e, y, ih, length-drop (f .n) v, f .inside)) (kept-by (f .c) (f .n) (keptBytes (drop (f .n) v)))
 
 abbrev KeptSays : List ℕ → Type 0
-KeptSays v = says (take (keptOf v) v) ≡ dropTrail (says v)
+KeptSays v = says (take (keptBytes v) v) ≡ dropTrail (says v)
 
 kept-base : KeptSays []
 unfolding dropTrail
@@ -185,25 +185,25 @@ unfolding dropTrail keptBefore keptFrom
 kept-more v f p ih =
     let w = drop (f .n) v in
     let e = kept-step v p (f .is) (f .some) in
-    let t : dropTrail (says v) ≡ keptBefore (f .c) (says (take (keptOf w) w)) = ap dropTrail (f .says) ∙ ap (keptBefore (f .c)) (sym ih) in
+    let t : dropTrail (says v) ≡ keptBefore (f .c) (says (take (keptBytes w) w)) = ap dropTrail (f .says) ∙ ap (keptBefore (f .c)) (sym ih) in
     ⊎-elim
     (λ y.
-    let g : says (take (keptOf w) w) ≡ [] = rw (y .0) says-none in
+    let g : says (take (keptBytes w) w) ≡ [] = rw (y .0) says-none in
     ⊎-elim
     (λ z.
-    let k : keptOf v ≡ 0 = e ∙ (rw (y .1, z)) in
+    let k : keptBytes v ≡ 0 = e ∙ (rw (y .1, z)) in
     ap (λ (k : ℕ). says (take k v)) k ∙ says-none ∙ sym (t ∙ ap (keptBefore (f .c)) g ∙ (rw z)))
     (λ z.
     let o : f .n ≡ f .n + 0 = omega arith in
-    let k : keptOf v ≡ f .n = e ∙ (rw (y .1, z)) in
+    let k : keptBytes v ≡ f .n = e ∙ (rw (y .1, z)) in
     ap (λ (k : ℕ). says (take k v)) (k ∙ o) ∙ cut-says v f 0 p ∙ ap (λ (l : List ℕ). f .c ∷ l) says-none ∙ sym (t ∙ ap (keptBefore (f .c)) g ∙ (rw z)))
     (bool-cases (space (f .c))))
     (λ y.
-    let long : 0 < length (take (keptOf w) w) = rw length-take (let i = kept-inside w in omega (arith, y .0, i)) in
-    let d = says-some (take (keptOf w) w) long in
-    let k : keptOf v ≡ f .n + keptOf w = e ∙ (rw (y .1)) in
-    ap (λ (k : ℕ). says (take k v)) k ∙ cut-says v f (keptOf w) p ∙ ap (λ (l : List ℕ). f .c ∷ l) (d .2) ∙ sym (t ∙ ap (keptBefore (f .c)) (d .2)))
-    (eqb-cases (keptOf w) 0)
+    let long : 0 < length (take (keptBytes w) w) = rw length-take (let i = kept-inside w in omega (arith, y .0, i)) in
+    let d = says-some (take (keptBytes w) w) long in
+    let k : keptBytes v ≡ f .n + keptBytes w = e ∙ (rw (y .1)) in
+    ap (λ (k : ℕ). says (take k v)) k ∙ cut-says v f (keptBytes w) p ∙ ap (λ (l : List ℕ). f .c ∷ l) (d .2) ∙ sym (t ∙ ap (keptBefore (f .c)) (d .2)))
+    (eqb-cases (keptBytes w) 0)
 
 kept-says : (v : List ℕ) → KeptSays v
 kept-says = by-units KeptSays kept-base kept-more
@@ -222,14 +222,14 @@ pub trimmed-length : (v : List ℕ) → leadOf v + length (trimmedOf v) ≤ leng
 unfolding trimmedOf cutTrail
 trimmed-length v =
     let w = drop (leadOf v) v in
-    omega (arith, lead-inside v, kept-inside w, length-take (keptOf w) w, length-drop (leadOf v) v)
+    omega (arith, lead-inside v, kept-inside w, length-take (keptBytes w) w, length-drop (leadOf v) v)
 
 -- behind the leading spaces, as long as it is
 pub part-place : (v : List ℕ) → take (length (trimmedOf v)) (drop (leadOf v) v) ≡ trimmedOf v
 unfolding trimmedOf cutTrail
 part-place v =
     let w = drop (leadOf v) v in
-    ap (λ (k : ℕ). take k w) (length-take-le (keptOf w) w (kept-inside w))
+    ap (λ (k : ℕ). take k w) (length-take-le (keptBytes w) w (kept-inside w))
 
 -- ---- the loops
 
@@ -270,18 +270,18 @@ module _ {v : List ℕ} {i : ℕ} (w : Led v i) where
 -- i bytes are passed, and of those the first `kept` are kept where no more are
 pub record Keeping (v : List ℕ) (i kept : ℕ) : Type 0 where
   pub inside : i ≤ length v
-  pub total : cond (eqb (keptOf (drop i v)) 0) kept (i + keptOf (drop i v)) ≡ keptOf v
+  pub total : cond (eqb (keptBytes (drop i v)) 0) kept (i + keptBytes (drop i v)) ≡ keptBytes v
 
 pub keeping-start : (v : List ℕ) → Keeping v 0 0
 keeping-start v =
     record {
       inside = omega arith;
-      total = ⊎-elim (λ y. rw (y .1) (sym (y .0))) (λ y. rw (y .1) (omega arith)) (eqb-cases (keptOf v) 0);
+      total = ⊎-elim (λ y. rw (y .1) (sym (y .0))) (λ y. rw (y .1) (omega arith)) (eqb-cases (keptBytes v) 0);
     }
 
 module _ {v : List ℕ} {i kept : ℕ} (w : Keeping v i kept) where
-  pub keeping-end : length v ≤ i → kept ≡ keptOf v
-  keeping-end h = let z : keptOf (drop i v) ≡ 0 = rw (drop-of-length-le v h) kept-none in rw z at (w .total)
+  pub keeping-end : length v ≤ i → kept ≡ keptBytes v
+  keeping-end h = let z : keptBytes (drop i v) ≡ 0 = rw (drop-of-length-le v h) kept-none in rw z at (w .total)
 
   module _ {x : Said} (h : i < length v) (e : x ≡ saidAt (drop i v)) where
     more-kept : 0 < length (drop i v)
@@ -294,7 +294,7 @@ module _ {v : List ℕ} {i kept : ℕ} (w : Keeping v i kept) where
       some-bytes : 1 ≤ n
       some-bytes = said-some-bytes (drop i v) more-kept (sym e ∙ q)
 
-      kept-here : keptOf (drop i v) ≡ keptFrom c n (keptOf (drop (i + n) v))
+      kept-here : keptBytes (drop i v) ≡ keptFrom c n (keptBytes (drop (i + n) v))
       kept-here = rw (← drop-drop n i v) (kept-step (drop i v) more-kept (sym e ∙ q) some-bytes)
 
       inside-next : i + n ≤ length v
@@ -307,13 +307,13 @@ module _ {v : List ℕ} {i kept : ℕ} (w : Keeping v i kept) where
             inside = inside-next;
             total =
                 ⊎-elim
-                (λ y. let z : keptOf (drop i v) ≡ 0 = kept-here ∙ rw (y .1, eq-eqb c 0x20 u) in rw (y .1) (rw z at (w .total)))
+                (λ y. let z : keptBytes (drop i v) ≡ 0 = kept-here ∙ rw (y .1, eq-eqb c 0x20 u) in rw (y .1) (rw z at (w .total)))
                 (λ y.
                 let m = some-bytes in
-                let z : keptOf (drop i v) ≡ n + keptOf (drop (i + n) v) = kept-here ∙ rw (y .1) in
-                let t : i + (n + keptOf (drop (i + n) v)) ≡ keptOf v = rw (z, ne-eqb (n + keptOf (drop (i + n) v)) 0 (λ k. omega (arith, k))) at (w .total) in
+                let z : keptBytes (drop i v) ≡ n + keptBytes (drop (i + n) v) = kept-here ∙ rw (y .1) in
+                let t : i + (n + keptBytes (drop (i + n) v)) ≡ keptBytes v = rw (z, ne-eqb (n + keptBytes (drop (i + n) v)) 0 (λ k. omega (arith, k))) at (w .total) in
                 rw (y .1) (omega (arith, t)))
-                (eqb-cases (keptOf (drop (i + n) v)) 0);
+                (eqb-cases (keptBytes (drop (i + n) v)) 0);
           }
 
       pub keeping-other : (c ≡ 0x20 → ⊥) → Keeping v (i + n) (i + n)
@@ -325,14 +325,14 @@ module _ {v : List ℕ} {i kept : ℕ} (w : Keeping v i kept) where
             total =
                 ⊎-elim
                 (λ y.
-                let z : keptOf (drop i v) ≡ n = kept-here ∙ rw (y .1, ne-eqb c 0x20 u) in
-                let t : i + n ≡ keptOf v = rw (z, ne-eqb n 0 (λ k. omega (arith, k))) at (w .total) in
+                let z : keptBytes (drop i v) ≡ n = kept-here ∙ rw (y .1, ne-eqb c 0x20 u) in
+                let t : i + n ≡ keptBytes v = rw (z, ne-eqb n 0 (λ k. omega (arith, k))) at (w .total) in
                 rw (y .1) t)
                 (λ y.
-                let z : keptOf (drop i v) ≡ n + keptOf (drop (i + n) v) = kept-here ∙ rw (y .1) in
-                let t : i + (n + keptOf (drop (i + n) v)) ≡ keptOf v = rw (z, ne-eqb (n + keptOf (drop (i + n) v)) 0 (λ k. omega (arith, k))) at (w .total) in
+                let z : keptBytes (drop i v) ≡ n + keptBytes (drop (i + n) v) = kept-here ∙ rw (y .1) in
+                let t : i + (n + keptBytes (drop (i + n) v)) ≡ keptBytes v = rw (z, ne-eqb (n + keptBytes (drop (i + n) v)) 0 (λ k. omega (arith, k))) at (w .total) in
                 rw (y .1) (omega (arith, t)))
-                (eqb-cases (keptOf (drop (i + n) v)) 0);
+                (eqb-cases (keptBytes (drop (i + n) v)) 0);
           }
 
 -- ---- a value whose first and last byte tell that nothing is dropped
@@ -345,7 +345,7 @@ bare-other b e =
     (eqb-false b 0x20 (a .0), eqb-false b 0x26 (m .0), λ z. never (rw (eq-eqb b 0x3B z) at (m .1)))
 
 abbrev AllKept : List ℕ → Type 0
-AllKept v = 0 < length v → (byte v (length v - 1) ≡ 0x20 → ⊥) → (byte v (length v - 1) ≡ 0x3B → ⊥) → keptOf v ≡ length v
+AllKept v = 0 < length v → (byte v (length v - 1) ≡ 0x20 → ⊥) → (byte v (length v - 1) ≡ 0x3B → ⊥) → keptBytes v ≡ length v
 
 -- the last unit is no space
 last-other : (v : List ℕ) {c n : ℕ} → Uttered v c n → n ≡ length v → (byte v (length v - 1) ≡ 0x20 → ⊥) → (byte v (length v - 1) ≡ 0x3B → ⊥) → c ≡ 0x20 → ⊥
@@ -374,7 +374,7 @@ kept-all v f p ih some a b =
     e ∙ rw (r, k, ne-eqb (length v - f .n) 0 (λ z. omega (arith, z, y .0))) (omega (arith, y .0)))
     (λ y.
     let z : f .n ≡ length v = omega (arith, y .0) in
-    let r : keptOf (drop (f .n) v) ≡ 0 = rw (drop-of-length-le v {i = f .n} (omega arith)) kept-none in
+    let r : keptBytes (drop (f .n) v) ≡ 0 = rw (drop-of-length-le v {i = f .n} (omega arith)) kept-none in
     e ∙ rw (r, ne-eqb (f .c) 0x20 (last-other v (uttered v p (f .is)) z a b)) z)
     (ltb-cases (f .n) (length v))
 
@@ -400,4 +400,4 @@ bare-all v e =
     let first = bare-other (byte v 0) (both .0) in
     let last = bare-other (byte v (length v - 1)) (both .1) in
     let k = by-units AllKept (λ q. absurd (omega arith)) kept-all v p (last .0) (last .2) in
-    rw (lead-bare v p (first .0) (first .1)) (sym (take-all (keptOf v) v (omega (arith, k))))
+    rw (lead-bare v p (first .0) (first .1)) (sym (take-all (keptBytes v) v (omega (arith, k))))

@@ -50,12 +50,12 @@ keptAfter k [] = 0
 keptAfter (suc k) (b ∷ t) = keptAfter k t
 keptAfter zero (b ∷ t) = elim (saidAt (b ∷ t)) [ Says c n ↦ keptFrom c n (keptAfter (pred n) t) | Over ↦ 0 ]
 
-unfoldable pub keptOf : List ℕ → ℕ
-keptOf v = keptAfter 0 v
+unfoldable pub keptBytes : List ℕ → ℕ
+keptBytes v = keptAfter 0 v
 
 -- the bytes that are left
 unfoldable pub cutTrail : List ℕ → List ℕ
-cutTrail v = take (keptOf v) v
+cutTrail v = take (keptBytes v) v
 
 unfoldable pub trimmedOf : List ℕ → List ℕ
 trimmedOf v = cutTrail (drop (leadOf v) v)

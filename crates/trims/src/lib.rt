@@ -6,7 +6,7 @@ use slices::rest;
 ghost use mathlib.Core.Path.{_≡_};
 ghost use Prim.Native.Nat.{_≤_};
 ghost use lib.ListN.{length};
-ghost use Rattle.trims.specs.Trim.{leadOf, keptOf, cutTrail, trimmedOf};
+ghost use Rattle.trims.specs.Trim.{leadOf, keptBytes, cutTrail, trimmedOf};
 ghost use Rattle.trims.specs.Short.{bare, bareAtEnds};
 
 // How many bytes say the spaces that a value begins with: where the part that is left starts.
@@ -30,7 +30,7 @@ pub fn leading_spaces(v: &[u8]) -> usize
 
 // How many bytes are left where the trailing spaces are dropped.
 fn kept_len(v: &[u8]) -> usize
-    ensures { λ r. ⌜ r ≡ keptOf (now (v .entry)) ⌝ }
+    ensures { λ r. ⌜ r ≡ keptBytes (now (v .entry)) ⌝ }
 {
     let mut i = 0;
     let mut kept = 0;
