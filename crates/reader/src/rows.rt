@@ -21,6 +21,7 @@ use tables::set_amount;
 use tables::set_number;
 use trims::leading_spaces;
 use trims::trimmed;
+use trims::without_spaces;
 ghost use mathlib.Core.Path.{_≡_};
 ghost use Prim.Native.Nat.{_+_, _-_, _≤_};
 ghost use lib.ListN.{length};
@@ -83,7 +84,7 @@ fn set_trimmed(t: &mut [u32], row: u32, f: Field, at: usize, b: &[u8])
     ensures { λ _. ⌜ now (t .exit) ≡ withView (now (t .entry)) row f (at + leadOf (now (b .entry))) (length (trimmedOf (now (b .entry)))) ⌝ }
 {
     let from = at + leading_spaces(b);
-    let len = trimmed(b).len();
+    let len = without_spaces(b).len();
     set_view(t, row, f, from as u32, len as u32);
 }
 

@@ -80,11 +80,19 @@ fn without_trail(v: &[u8]) -> &[u8]
 
 // The part of a value that is left where leading and trailing spaces are dropped.
 // Ruled out: a part with a space at an end; spaces between other characters dropped; a space left where all are spaces.
+pub fn without_spaces(v: &[u8]) -> &[u8]
+    ensures { λ r. ⌜ now r ≡ trimmedOf (now (v .entry)) ⌝ }
+{
+    without_trail(rest(v, leading_spaces(v)))
+}
+
+// The same, told at once where nothing is dropped; so short that the compiler puts it where it is called.
+// Ruled out: as above.
 pub fn trimmed(v: &[u8]) -> &[u8]
     ensures { λ r. ⌜ now r ≡ trimmedOf (now (v .entry)) ⌝ }
 {
     if is_bare_at_ends(v) {
         return v;
     }
-    without_trail(rest(v, leading_spaces(v)))
+    without_spaces(v)
 }
