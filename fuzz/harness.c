@@ -57,6 +57,7 @@ static void hold(int holds, const char *promise) {
     abort();
 }
 
+#include "references.h"
 #include "views.h"
 
 typedef uint32_t reading(const uint8_t *, size_t, uint32_t *, size_t, uint32_t *, size_t, int64_t *, size_t, uint32_t, uint8_t *, size_t, uint32_t *, size_t);
@@ -117,10 +118,12 @@ static void judge_optional(struct outcome o, const uint32_t *n, const uint32_t *
         return;
     }
     hold(view[0] > row[LUMINTAYAG_IDENTIFICATION] && view[0] < row[LUMINTAYAG_OBJECT], "a Direction or area is that of its own series");
-    hold(view[1] == (is_direction ? 3 : 16), "a Direction has three bytes, and an area sixteen");
+    struct said said = said_by(o.doc, view);
+    hold(said.count == (is_direction ? 3 : 16), "a Direction has three characters, and an area sixteen");
+    free(said.bytes);
     hold(is_direction ? n[2] != 1 && in_tag(o.doc, view[0], "Direction", "Direction") : in_tag(o.doc, view[0], "InArea", "ConnectingArea"),
          "a view stands in the tag of its element");
-    hold(o.doc[view[0]] != ' ' && o.doc[view[0] + view[1] - 1] != ' ', "spaces are dropped");
+    hold(has_no_space_at_ends(o.doc + view[0], view[1]), "spaces are dropped");
 }
 
 static void judge_series(struct outcome o, const uint32_t *n, size_t i, uint32_t *rows) {
@@ -130,6 +133,7 @@ static void judge_series(struct outcome o, const uint32_t *n, size_t i, uint32_t
         hold((size_t)row[k] + row[k + 1] < length, "a view is a part of the document");
         if (k == LUMINTAYAG_DIRECTION || k == LUMINTAYAG_AREA) judge_optional(o, n, row, k);
         else hold(row[k] > 0, "a value that has to be there is shown");
+        if (k == LUMINTAYAG_BUSINESS_TYPE) hold(has_no_space_at_ends(o.doc + row[k], row[k + 1]), "spaces are dropped");
     }
     hold(first == *rows && count >= 1, "rows come in document order");
     *rows += count;
@@ -152,8 +156,7 @@ static int has_tag(const uint8_t *doc, const char *tag) {
 }
 
 static int says(struct outcome o, size_t series, int cell, const char *code) {
-    const uint32_t *view = o.series + LUMINTAYAG_SERIES_ROW * series + cell;
-    return view[1] == strlen(code) && memcmp(o.doc + view[0], code, view[1]) == 0;
+    return says_code(o.doc, o.series + LUMINTAYAG_SERIES_ROW * series + cell, code);
 }
 
 /* Kind 3: with DocStatus at most one series; else one or two of A77, of different Direction, and one of B59, or no series. */
@@ -178,6 +181,7 @@ static void judge_acceptance(struct outcome o, const uint32_t *n) {
     hold(LUMINTAYAG_SERIES_ROW * (size_t)n[3] <= lent.series && n[4] <= room, "rows have room");
     for (size_t i = 0; i < n[3]; i++) judge_series(o, n, i, &rows);
     hold(rows == n[4], "the rows of the series are the intervals");
+    judge_meanings(o.doc, o.series, n[3]);
     if (n[2] == 3) judge_constraint(o, n);
     hold(is_zero(o.series, 4 * LUMINTAYAG_SERIES_ROW * (size_t)n[3], 4 * lent.series) && is_zero(o.positions, 4 * (size_t)rows, 4 * lent.positions) &&
              is_zero(o.amounts, 8 * (size_t)rows, 8 * lent.amounts),
@@ -337,7 +341,13 @@ static void judge_other_shape(const uint8_t *doc, struct outcome first, const ui
     let_go(o);
 }
 
-/* In an accepted document each tag Qty has one attribute, so that its quoted digits are readable Qty digits; those in a comment change nothing either. */
+/* In an accepted document each tag Qty has one attribute, so that its quoted digits are readable Qty digits, but for those of a reference; those in a comment
+ * change nothing either. */
+static size_t after_reference(const uint8_t *doc, size_t at) {
+    while (at + 1 < length && doc[at] != ';') at++;
+    return at;
+}
+
 static void turn_digits(uint8_t *doc) {
     for (size_t i = 0; i + 4 < length; i++) {
         if (memcmp(doc + i, "<Qty", 4) != 0) continue;
@@ -345,6 +355,7 @@ static void turn_digits(uint8_t *doc) {
         for (; i < length && !(quote == 0 && doc[i] == '>'); i++) {
             if (quote == 0 && (doc[i] == '"' || doc[i] == '\'')) quote = doc[i];
             else if (doc[i] == quote) quote = 0;
+            else if (quote != 0 && doc[i] == '&') i = after_reference(doc, i);
             else if (quote != 0 && doc[i] >= '0' && doc[i] <= '9') doc[i] = (uint8_t)('9' - (doc[i] - '0'));
         }
     }
@@ -359,6 +370,20 @@ static void judge_digits(const uint8_t *doc, struct outcome first, const uint32_
     judge_views(doc, other);
     let_go(o);
     free(other);
+}
+
+/* The same document with its values by references: what they say is judged, so that nothing but places and views differs. */
+static void judge_respelled(const uint8_t *doc, struct outcome first, const uint32_t *n) {
+    size_t own = length, rows = n[4];
+    uint8_t *other = filled(6 * own + 8, 0);
+    size_t count = respell(doc, other);
+    length = count;
+    struct outcome o = read_by(lumintayag_read_v3, other, 7, lent.shape, 0x33);
+    hold(o.answer[0] == 0 && o.answer[1] == count && memcmp(o.answer + 2, n + 2, 16) == 0, "a value by references is judged by what it says");
+    hold(memcmp(o.positions, first.positions, 4 * rows) == 0 && memcmp(o.amounts, first.amounts, 8 * rows) == 0, "a number by references is the same number");
+    let_go(o);
+    free(other);
+    length = own;
 }
 
 /* Those of ASCII's 95 printed characters that may stand in an identification which is replaced. */
@@ -409,7 +434,7 @@ int LLVMFuzzerTestOneInput(const uint8_t *data, size_t size) {
     hold(memcmp(a.answer, n, 4 * (lent.answer < 7 ? lent.answer : 7)) == 0, "the answer in fewer cells is its first numbers");
     hold(lent.answer <= 7 || is_zero(a.answer, 28, 4 * lent.answer), "cells past the seventh are 0");
     hold(b.returned == n[0], "what is returned is the refusal");
-    if (n[0] == 0) judge_acceptance(b, n), judge_digits(doc, a, n), judge_identifications(doc, a, n);
+    if (n[0] == 0) judge_acceptance(b, n), judge_digits(doc, a, n), judge_identifications(doc, a, n), judge_respelled(doc, a, n);
     else judge_refusal(b, n);
     refusals[n[0]]++;
     if (n[0] == 10) hold(is_zero(b.note, 0, lent.note) && is_zero(n + 1, 0, 24), "on 10 the note buffer and the other numbers are 0");
@@ -429,8 +454,8 @@ static const uint8_t ROOM[][SIZES] = {
     {71, 3, 0, 2, 0, 20, 9, 1, 63, 100, 119, 0, 6},      {255, 255, 1, 255, 1, 15, 7, 5, 0, 1, 32, 0, 3},
 };
 
-/* libFuzzer's own changes break most documents. Half of the changes are these, which keep a document near to acceptance: another value between quotes, white
- * text or a comment after a tag, other sizes. */
+/* libFuzzer's own changes break most documents. More than half of the changes are these, which keep a document near to acceptance: another value between
+ * quotes, references in a value, white text or a comment after a tag, other sizes. */
 size_t LLVMFuzzerMutate(uint8_t *data, size_t size, size_t room);
 size_t LLVMFuzzerCustomMutator(uint8_t *data, size_t size, size_t room, unsigned seed);
 
@@ -480,6 +505,26 @@ static size_t with_value(uint8_t *data, size_t size, size_t room) {
     return replaced(data, size, room, from, (size_t)(end - data), text);
 }
 
+/* A character of a value by reference, spaces by reference at its ends, or a reference that is right or not. */
+static size_t with_reference(uint8_t *data, size_t size, size_t room) {
+    static const char *const OTHERS[] = {"&amp;", "&lt;", "&#9;", "&#10;", "&#x10FFFF;", "&amp;lt;", "&#38;", "&bad;", "&#;", "&#xD800;", "&#xFFFE;", "&#0;",
+                                         "&#x110000;", "&#4294967361;", "&AMP;", "&#X41;", "&amp", "& amp;", "&", "&#x0000000000000000041;"};
+    char text[64];
+    size_t from = somewhere(data, size, '=') + 2;
+    if (from >= size) return size;
+    const uint8_t *quote = memchr(data + from, data[from - 1], size - from);
+    if (quote == NULL) return size;
+    size_t end = (size_t)(quote - data), at = from + below(end - from + 1);
+    switch (below(4)) {
+    case 0: return replaced(data, size, room, at, at, OTHERS[below(20)]);
+    case 1: at = below(2) ? from : end; return replaced(data, size, room, at, at, below(2) ? "&#32;" : "&#x20;");
+    default:
+        if (at == end || data[at] >= 0x80 || data[at] == '&') return size;
+        snprintf(text, sizeof text, below(2) ? "&#%u;" : below(2) ? "&#x%x;" : "&#x00%X;", data[at]);
+        return replaced(data, size, room, at, at + 1, text);
+    }
+}
+
 static size_t with_text(uint8_t *data, size_t size, size_t room) {
     static const char *const TEXTS[] = {" ", "\n", "\r\n\t", "<!---->", "<!-- - -->", "<!--&\xC3\xA4-->\n", "<!-- <Direction v='A02'/> -->"};
     size_t tag = somewhere(data, size, '>');
@@ -488,10 +533,11 @@ static size_t with_text(uint8_t *data, size_t size, size_t room) {
 
 size_t LLVMFuzzerCustomMutator(uint8_t *data, size_t size, size_t room, unsigned seed) {
     state = seed;
-    switch (below(8)) {
+    switch (below(10)) {
     case 0: case 1: return with_value(data, size, room);
     case 2: return with_text(data, size, room);
-    case 3:
+    case 3: case 4: return with_reference(data, size, room);
+    case 5:
         if (size >= SIZES) memcpy(data, ROOM[below(8)], SIZES);
         return size;
     default: return LLVMFuzzerMutate(data, size, room);

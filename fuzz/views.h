@@ -91,10 +91,11 @@ static void judge_pair(const uint8_t *doc, const uint32_t *cells, struct pair of
     }
     hold(!in_comment(doc, from), "a value is not that of a comment");
     hold(of.attribute != NULL && to < length, "a value is known to the kind, and a part of the document");
-    hold(!of.drops || (to > from && doc[from] != ' ' && doc[to - 1] != ' '), "spaces are dropped");
+    hold(!of.drops || has_no_space_at_ends(doc + from, to - from), "spaces are dropped");
     size_t at = from, end = to;
-    while (of.drops && doc[at - 1] == ' ') at--;
-    while (of.drops && doc[end] == ' ') end++;
+    while (of.drops && at > 1 && doc[at - 1] != '"' && doc[at - 1] != '\'') at--;
+    while (of.drops && end + 1 < length && doc[end] != '"' && doc[end] != '\'') end++;
+    hold(all_spaces(doc + at, from - at) && all_spaces(doc + to, end - to), "nothing but spaces is dropped");
     uint8_t quote = doc[--at];
     hold((quote == '"' || quote == '\'') && doc[end] == quote && memchr(doc + from, quote, to - from) == NULL, "a value stands between its quotes");
     do at--;
@@ -138,8 +139,10 @@ static uint32_t minutes_of(const uint8_t *text) {
 }
 
 static void judge_period(struct views o, const uint32_t *n, uint32_t quarters) {
-    const uint8_t *covered = o.doc + o.table[2 * LUMINTAYAG_VIEW_TIME_PERIOD_COVERED];
-    hold(n[4] == minutes_of(covered) && n[5] == minutes_of(covered + 18), "the two ends are those of TimePeriodCovered");
+    struct said covered = said_by(o.doc, o.table + 2 * LUMINTAYAG_VIEW_TIME_PERIOD_COVERED);
+    hold(covered.count == 35, "a period has 35 characters");
+    hold(n[4] == minutes_of(covered.bytes) && n[5] == minutes_of(covered.bytes + 18), "the two ends are those of TimePeriodCovered");
+    free(covered.bytes);
     hold(n[5] - n[4] == 15 * quarters, "N quarter hours are between them");
 }
 

@@ -30,12 +30,12 @@ extern "C" {
 #endif
 
 /*
- * The version of this header, a.b.c as 10000 a + 100 b + c: 0.6.0. lumintayag_version answers that of the archive
+ * The version of this header, a.b.c as 10000 a + 100 b + c: 0.7.0. lumintayag_version answers that of the archive
  * or shared object; a program that checks that the two are equal knows that they belong together.
  * A function whose arguments, rows or cells are laid out anew gets a new name, and the old name is gone: a
  * program that knows the old layout is not linked with the new one.
  */
-#define LUMINTAYAG_VERSION 600
+#define LUMINTAYAG_VERSION 700
 uint32_t lumintayag_version(void);
 
 /* A longer document is refused with 1. */
@@ -99,7 +99,7 @@ uint32_t lumintayag_version(void);
  */
 #define LUMINTAYAG_ACCEPTED 0        /* the document is read; the place is its length */
 #define LUMINTAYAG_TOO_LONG 1        /* the document is longer than 1,048,576 bytes; place 0 */
-#define LUMINTAYAG_UNREADABLE 2      /* the item is unreadable */
+#define LUMINTAYAG_UNREADABLE 2      /* the item is unreadable; so it is with any other reference than those below */
 #define LUMINTAYAG_NOT_DUE 3         /* element not due, too many, too few, wrong end tag, other text, second
                                         root, document over too early */
 #define LUMINTAYAG_TABLE_FULL 4      /* a due series or Interval start finds its table full; in lumintayag_views also a
@@ -145,11 +145,19 @@ enum {
 };
 
 /*
+ * References. An attribute value may hold the five of XML 1.0 that have names (&amp; &lt; &gt; &quot; &apos;) and
+ * numeric ones of legal characters, decimal (&#65;) or hexadecimal (&#x41;), with any number of leading zeros. Values
+ * are judged by what they say: lengths, forms, codes, times and amounts, and whether two identifications are equal.
+ * Each reference is replaced once: &amp;lt; says the four characters &lt;. What the tables show is what stands in the
+ * document, with its references: a caller who compares or prints a value replaces them, as library/examples/plants.c
+ * does.
+ *
  * The cells of a series row: row i is series[12 * i] to series[12 * i + 11]. A start is an index into the document
  * and a length is in bytes between the quotes, so what it shows is doc[start] to doc[start + length - 1], without
- * a 0 after it. Lengths may be 0. A value that the series does not have is start 0 and length 0; one that it has
- * never starts at 0. In kind 2 Direction and ConnectingArea may be absent. In kind 1 there is no Direction, and
- * InArea is always there. In kind 3 both are always there.
+ * a 0 after it. Where spaces at an end are left out, so are references to spaces. Lengths may be 0. A value that the
+ * series does not have is start 0 and length 0; one that it has never starts at 0. In kind 2 Direction and
+ * ConnectingArea may be absent. In kind 1 there is no Direction, and InArea is always there. In kind 3 both are
+ * always there.
  */
 enum {
     LUMINTAYAG_IDENTIFICATION = 0,  /* start and length of the TimeSeriesIdentification */
@@ -170,10 +178,11 @@ enum {
 /*
  * The pairs of the table of views. A pair is the start and the length of a value, as in a series row: an index into the
  * document, and bytes between the quotes. Where the guideline says collapse the spaces at both ends are left out, and
- * always of a codingScheme. A value that the document does not have, or its kind does not know, is 0 and 0; one that it
- * has never starts at 0, also where it is empty. Pair k of the header is in cells 2 * k and 2 * k + 1; a pair of series
- * i, counted from 0, is 22 * i pairs after that of the first one. LUMINTAYAG_PAIR is the cell of its start, with i of 0
- * for a pair of the header; the length is in the cell after it.
+ * always of a codingScheme; so are references to spaces. All other references are shown as they stand. A value that the
+ * document does not have, or its kind does not know, is 0 and 0; one that it has never starts at 0, also where it is
+ * empty. Pair k of the header is in cells 2 * k and 2 * k + 1; a pair of series i, counted from 0, is 22 * i pairs after
+ * that of the first one. LUMINTAYAG_PAIR is the cell of its start, with i of 0 for a pair of the header; the length is
+ * in the cell after it.
  */
 #define LUMINTAYAG_PAIR(k, i) (2 * ((size_t)(k) + LUMINTAYAG_SERIES_PAIRS * (size_t)(i)))
 
@@ -313,7 +322,8 @@ enum {
  *
  * Nothing but the amounts depends on the digits of a price: two documents of equal length that differ only in
  * digits of readable Qty values get the same answer and, in the same shape, the same note, and the same cells but for
- * the amounts of accepted intervals whose own digits differ (proved: docs/ARCHITECTURE.md).
+ * the amounts of accepted intervals whose own digits differ (proved: docs/ARCHITECTURE.md). Digits of a reference are
+ * not among them.
  */
 uint32_t lumintayag_read_v3(const uint8_t *doc, size_t doc_len,
                             uint32_t *series, size_t series_len,

@@ -15,8 +15,10 @@ CHAR = "[\t\n\r\x20-\ud7ff\ue000-\ufffd\U00010000-\U0010ffff]"
 S = "[ \t\r\n]"
 # "names are ASCII letters, digits, `_ - . :` and begin with a letter or `_`"
 NAME = "[A-Za-z_][A-Za-z0-9_.:-]*"
-# 10 AttValue, 41 Attribute, 25 Eq: with "no `&`" and "no tab, CR or LF inside an attribute value"
-VALUE = "|".join("%s(?:(?![%s<&\t\r\n])%s)*%s" % (q, q, CHAR, q) for q in "\"'")
+# 66 CharRef, 68 EntityRef: "the five named references of XML 1.0 and numeric ones"; that these name a Char is asked in `tag`
+REFERENCE = "&(?:amp|lt|gt|quot|apos|#[0-9]+|#x[0-9a-fA-F]+);"
+# 10 AttValue, 41 Attribute, 25 Eq: with "no tab, CR or LF inside an attribute value"
+VALUE = "|".join("%s(?:(?![%s<&\t\r\n])%s|%s)*%s" % (q, q, CHAR, REFERENCE, q) for q in "\"'")
 ATTRIBUTE = "%s+(%s)%s*=%s*(%s)" % (S, NAME, S, S, VALUE)
 # 40 STag, 44 EmptyElemTag, 42 ETag, 15 Comment
 TAG = "<(%s)((?:%s)*)%s*(/?)>" % (NAME, re.sub(r"\((?!\?)", "(?:", ATTRIBUTE), S)
@@ -30,7 +32,7 @@ CUTS = [
     ("no DOCTYPE", r"<!DOCTYPE.*>", "<!---->"),
     ("CDATA", r"<!\[CDATA\[.*?\]\]>", "<!---->"),
     ("or other processing instruction", r"<\?(?!xml\s).*?\?>", "<!---->"),
-    ("no `&` anywhere but in a comment", r"&[a-z0-9#]+;", "x"),
+    ("no `&` in a text", r"&[a-z0-9#]+;", "x"),
     ("no tab, CR or LF inside an attribute value", r"[\t\r\n]", " "),
     ("names are ASCII letters, digits, `_ - . :`", r"[^\x00-\x7F]", "n"),
     ("and begin with a letter or `_`", r"(?<=[</ ]):", "n"),
@@ -45,8 +47,17 @@ def size(text):
     return len(text.encode("utf-8", "surrogateescape"))
 
 
+def names_a_char(number):
+    """of `#65` or `#x41`; a number of more digits than any Char has is none's"""
+    digits, base = (number[2:], 16) if number.startswith("#x") else (number[1:], 10)
+    digits = digits.lstrip("0")
+    return 0 < len(digits) < 8 and int(digits, base) <= 0x10FFFF and bool(re.fullmatch(CHAR, chr(int(digits, base))))
+
+
 def tag(found):
     name, attributes, slash = found.groups()
+    if not all(names_a_char(number) for number in re.findall("&(#[^;]*);", attributes)):
+        return None
     spans = {}
     for m in re.finditer(ATTRIBUTE, attributes):
         if m.group(1) in spans:
@@ -174,6 +185,23 @@ def in_tags():
         yield b"<a v='x" + b + b"y'>"
 
 
+def of_references():
+    right = ("&amp;", "&lt;", "&gt;", "&quot;", "&apos;", "&#65;", "&#x41;", "&#x4a;", "&#x4A;", "&#0065;", "&#x0000041;", "&#9;", "&#10;", "&#13;", "&#32;", "&#60;", "&#38;", "&#34;", "&#39;", "&#127;", "&#xD7FF;",
+             "&#xE000;", "&#xFFFD;", "&#x10000;", "&#x10FFFF;", "&#1114111;", "&amp;lt;", "&#38;#38;", "&amp;&amp;", "&#" + 60 * "0" + "65;", "\xE4&#228;\u20AC")
+    wrong = ("&;", "&#;", "&#x;", "&#X41;", "&AMP;", "&Lt;", "&amp", "& amp;", "&amp ;", "&bad;", "&ampx;", "&am;", "&#", "&#x", "&#65", "&# 65;", "&#65 ;", "&#+65;", "&#6A;", "&#xG;", "&65;", "&x41;", "&#0;", "&#x0;", "&#8;", "&#11;",
+             "&#12;", "&#14;", "&#31;", "&#xD800;", "&#xDFFF;", "&#xFFFE;", "&#xFFFF;", "&#x110000;", "&#1114112;", "&#4294967361;", "&#x100000041;", "&#18446744073709551681;", "&&amp;", "&am&amp;p;", "&#&#54;5;", "&lt<;", "&#\u0663;")
+    for value in right + wrong:
+        yield "<a v='%s'/>" % value
+        yield "<a b='1' v=\"x%sy\" codingScheme='%s'>" % (value, value)
+        yield "<a xmlns='%s' v='1'/>" % value
+    for value in wrong:
+        yield "<a v='&amp;%s'>" % value
+        yield "<a v='%s&amp;'>" % value
+    # a quote in one that is not finished, and where no reference may stand
+    yield from ("<a v='&am'p;'/>", "<a v='&am' p;'/>", "<a v='&am\"p;'/>", "<a v=\"&#6\"5;/>", "<a v='&", "<a v='&a", "<a v='&amp;", "<a v='&#6", "<a&amp;>", "<&#97;>", "<a b&#61;'1'>", "<a &amp;='1'>", "<a v=&quot;1&quot;>", "</a&amp;>",
+                "</&#97;>", "<a&#32;v='1'>", "<a v='1'&#62;", "<a v='&amp;' v='&#38;'/>", "<a v='&amp;' b='&lt;' v='1'/>", "<a v='&#39;' b=\"&#34;\"/>", "<a v='1' xsi:a='&lt;' c='&bad;'>")
+
+
 def of_attributes():
     # the three that are known, and their places
     yield from ("<Qty v='12.5'/>", "<Qty v=''/>", "<Kostenblatt DtdBDEWNachrichtenVersion=\"1.0\">", "<a codingScheme='A10' v='1'/>", "<a v='1' codingScheme='NDE'>",
@@ -288,7 +316,7 @@ def of_declarations():
 
 def main():
     documents, used = [], set()
-    for group in (in_tags, of_attributes, of_names, cut_off, other_markup, of_texts, of_marks, of_declarations):
+    for group in (in_tags, of_references, of_attributes, of_names, cut_off, other_markup, of_texts, of_marks, of_declarations):
         for d in group():
             documents.append(d if isinstance(d, bytes) else d.encode())
     for d in documents:

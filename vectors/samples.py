@@ -24,7 +24,12 @@ from pathlib import Path
 WHITE = rb"[ \t\r\n]"
 NAME = rb"[A-Za-z_][A-Za-z0-9_.:-]*"
 EQUALS = WHITE + rb"*=" + WHITE + rb"*"
-VALUE = rb"(?:\"[^\"<&\t\r\n]*\"|'[^'<&\t\r\n]*')"
+# The five named references and numeric ones, decimal or hexadecimal.
+REFERENCE = rb"&(?:amp|lt|gt|quot|apos|#[0-9]+|#x[0-9A-Fa-f]+);"
+VALUE = rb"(?:\"(?:[^\"<&\t\r\n]|" + REFERENCE + rb")*\"|'(?:[^'<&\t\r\n]|" + REFERENCE + rb")*')"
+# Spaces at an end, referenced ones too.
+SPACES = rb"(?: |&#0*32;|&#x0*20;)*"
+NAMED = {b"amp": "&", b"lt": "<", b"gt": ">", b"quot": '"', b"apos": "'"}
 
 DECLARATION = re.compile(
     rb"<\?xml" + WHITE + rb"+version" + EQUALS + rb"(?:\"1\.0\"|'1\.0')"
@@ -45,6 +50,23 @@ def xml_characters(part):
     except UnicodeDecodeError:
         return False
     return all(c in "\t\n\r" or " " <= c <= "\ud7ff" or "\ue000" <= c <= "\ufffd" or "\U00010000" <= c for c in said)
+
+
+def referenced(reference):
+    """The character that a reference stands for; for a number that is none's, 0, which is no XML character."""
+    inside = reference[1:-1]
+    if inside in NAMED:
+        return NAMED[inside]
+    digits, base = (inside[2:], 16) if inside.startswith(b"#x") else (inside[1:], 10)
+    shortest = digits.lstrip(b"0") or b"0"
+    number = int(shortest, base) if len(shortest) < 9 else 0
+    return chr(number) if number <= 0x10FFFF else "\0"
+
+
+def meaning(value):
+    """What the bytes of a value say; each reference is replaced once. Whether it names an XML character is not asked here."""
+    parts = re.split(b"(" + REFERENCE + b")", value)
+    return "".join(referenced(part) if part.startswith(b"&") else part.decode() for part in parts)
 
 
 def comment_at(doc, at):
@@ -74,7 +96,8 @@ def tag_at(doc, at):
         return UNREADABLE
     found = list(ATTRIBUTE.finditer(doc, *tag.span(2)))
     attributes = {a[1]: (a.start(2) + 1, len(a[2]) - 2) for a in found}
-    if len(attributes) < len(found):
+    named = all(xml_characters(meaning(a[2]).encode("utf-8", "surrogatepass")) for a in found)
+    if len(attributes) < len(found) or not named:
         return UNREADABLE
     return Item("empty" if tag[3] else "start", tag.end(), tag[1], attributes)
 
@@ -244,6 +267,12 @@ def midnight(day):
     return datetime(day.year, day.month, day.day) - timedelta(hours=2 if summer else 1)
 
 
+def view(start, raw):
+    """Start and length of what isn't dropped."""
+    first, last = re.match(SPACES, raw).end(), re.search(SPACES + b"$", raw).start()
+    return start + first, last - first
+
+
 # ---------------------------------------------------------------- Reading
 
 class Reading:
@@ -279,7 +308,7 @@ class Reading:
 
     def values(self, item):
         """On the root, attributes named `xmlns` or beginning `xmlns:` or `xsi:` are passed over."""
-        said = {name.decode(): self.doc[start:start + length].decode() for name, (start, length) in item.attributes.items()}
+        said = {name.decode(): meaning(self.doc[start:start + length]) for name, (start, length) in item.attributes.items()}
         if self.open:
             return said
         return {name: v for name, v in said.items() if not re.match("xmlns$|xmlns:|xsi:", name)}
@@ -382,10 +411,11 @@ class Reading:
     def keep(self, row, item):
         start, length = item.attributes.get(b"v", (0, 0))
         raw = self.doc[start:start + length]
+        said = meaning(raw)
         if row.name in KINDS:
             self.kind = KINDS[row.name]
         elif row.name == "TimePeriodCovered":
-            self.period = raw.decode()
+            self.period = said
             first, last = interval(self.period)
             self.n = (last - first) // QUARTER
         elif row.name == "DocStatus":
@@ -394,16 +424,16 @@ class Reading:
             self.series.append([0] * FIRST + [self.intervals, 0])
             self.originals = 0
         elif row.name == "TimeSeriesIdentification":
-            self.used.add(raw.decode())
+            self.used.add(said)
             self.series[-1][0:2] = start, length
         elif row.name == "InParty" or row.name == "ResourceObject":
             self.series[-1][2:4] = start, length
         elif row.name == "BusinessType":
-            self.businesses.append(raw.decode().strip(" "))
-            self.series[-1][4:6] = start + len(raw) - len(raw.lstrip(b" ")), len(raw.strip(b" "))
+            self.businesses.append(said.strip(" "))
+            self.series[-1][4:6] = view(start, raw)
         elif row.name == "Direction":
-            self.directions.append(raw.decode().strip(" "))
-            self.series[-1][6:8] = start + len(raw) - len(raw.lstrip(b" ")), len(raw.strip(b" "))
+            self.directions.append(said.strip(" "))
+            self.series[-1][6:8] = view(start, raw)
         elif row.name == "InArea" or row.name == "ConnectingArea":
             self.series[-1][8:10] = start, length
         elif row.name.startswith("Original"):
@@ -412,9 +442,9 @@ class Reading:
             self.intervals += 1
             self.series[-1][COUNT] += 1
         elif row.name == "Pos":
-            self.positions.append(int(raw.strip(b" ")))
+            self.positions.append(int(said.strip(" ")))
         elif row.name == "Qty":
-            self.amounts.append(thousandths(raw.decode().strip(" ")))
+            self.amounts.append(thousandths(said.strip(" ")))
 
     def run(self):
         """The first item with a fault decides: its smallest number and its place."""
@@ -989,7 +1019,7 @@ def short_documents():
     short("root-xmlns-twice", 2, "@@" + START_2.replace(">", ' xmlns="a" xmlns="a">'))
     short("root-many-namespaces-one-twice", 2, "@@" + START_2.replace(">", MANY + " xmlns:a7=''>"))
     short("root-many-unknown", 5, "@@" + START_2.replace(">", MANY.replace("xmlns:a149", "xmlna:a149") + ">"))
-    short("root-xsi-ampersand", 2, "@@" + START_2.replace(">", ' xsi:a="&amp;">'))
+    short("root-xsi-ampersand", 2, "@@" + START_2.replace(">", ' xsi:a="&amp">'))
     short("root-unknown-and-1-1", 5, "@@" + START_2.replace("1.0", "1.1").replace(">", ' w="">'))
 
 
@@ -1018,7 +1048,7 @@ def unreadable_items():
             ("stylesheet", '@@<?xml-stylesheet href="a"?>'), ("doctype", "\n@@<!DOCTYPE Kostenblatt>"),
             ("cdata", "@@<![CDATA[ ]]>"), ("text-reference", "@@ &amp;\n"), ("text-other-and-ampersand", "@@abc &"),
             ("text-brackets", "@@ ]]> "), ("text-control", "@@ \x01"), ("text-latin-1", "@@ \udce4 "),
-            ("text-cut-character", "@@\n\udce2\udc82"), ("value-ampersand", value % "a&amp;b"), ("value-less-than", value % "a<b"),
+            ("text-cut-character", "@@\n\udce2\udc82"), ("value-ampersand", value % "a&b"), ("value-less-than", value % "a<b"),
             ("value-tab", value % "a\tb"), ("value-lf", value % "a\nb"), ("value-cr", value % "\r"), ("value-control", value % "\x1f"),
             ("value-fffe", value % "\ufffe"), ("value-surrogate", value % "\udced\udca0\udc80"),
             ("value-long-c1", value % "\udcc1\udcbf"),
@@ -1645,6 +1675,146 @@ def other_examples():
         2 * [(4, pair.rindex(b"<CostTimeSeries>"))] + 2 * [(0, len(pair))]
 
 
+# ---------------------------------------------------------------- References
+
+def by_reference(text, spelled="&#{};"):
+    """The document with each character of its values as a reference."""
+    return re.sub('="([^"]*)"', lambda value: '="%s"' % "".join(spelled.format(ord(c)) for c in value[1]), text)
+
+
+def spelled_row(row, spelled="&#{};"):
+    """A row of a sample whose views are spelled so."""
+    identification, thing, business, pairs, *rest = row
+    return tuple("".join(spelled.format(ord(c)) for c in said) for said in (identification, thing, business)) + (pairs,) + tuple(
+        said and "".join(spelled.format(ord(c)) for c in said) for said in rest)
+
+
+def accepted_references():
+    """Values are judged by what they say and shown as they stand."""
+    def identified(name, *identifications):
+        taken("two-reference-" + name, 2, 96, [(i, *TWO_ROW[1:]) for i in identifications], two(*(cost(i) for i in identifications)))
+    identified("amp", "M&amp;B-1")
+    identified("named", "&amp;&lt;&gt;&quot;&apos;")
+    identified("35", 35 * "&amp;")
+    identified("white", "&#9;&#10;&#13; &#x20;")
+    identified("edges", "&#9;&#127;&#x85;&#xD7FF;&#xE000;&#xfffd;&#x10000;&#x1FFFE;&#x10fFFf;&#1114111;")
+    identified("zeros", "&#00000000000000000000065;&#x00000000000000000041;&#0038;")
+    identified("ids-differ", "&amp;lt;", "&lt;", "&amp;amp;", "&amp;", "&#38;#38;", "&#32;", "", "&#9;", "&#10;", "a&#776;", "&#228;")
+    identified("then-letters", "&amp;amp;", "&#49;2", "x&#x2d;;")
+    for name, spelled in (("decimal", "&#{};"), ("hexadecimal", "&#x{:x};"), ("upper-hexadecimal", "&#x00{:X};")):
+        taken("two-reference-all-" + name, 2, 96, [spelled_row(ALL_ROW, spelled)],
+              DECLARED + by_reference(ALL_TWO[len(DECLARED):], spelled))
+    taken("three-reference-all", 3, 96, [spelled_row(row) for row in THREE_ROWS], DECLARED + by_reference(THREE[len(DECLARED):]))
+    start, interval, rest = one(schedule(first(92), period=SPRING), period=SPRING).partition("<Interval>")
+    row = ("T-1", "11XINVENTED-IN-A", "A02", first_rows(92), None, "10YDE-VE-------2")
+    taken("one-reference-all-but-intervals", 1, 92, [spelled_row(row)], DECLARED + by_reference(start[len(DECLARED):]) + interval + rest)
+    taken("two-reference-passed-over", 2, 96, [TWO_ROW], edited(TWO, (START_2, START_2.replace(">", " xmlns='&amp;' xsi:a=\"&#60;&#x3E;\">"))))
+    taken("two-reference-quotes", 2, 96, [("'&quot;&#39;", *TWO_ROW[1:])], edited(two(cost("'&quot;&#39;")), ('v="D-1"', "v='\"&apos;'")))
+    amounts = [("1&#50;3", 123000), ("&#45;1", -1000), ("&#x2D;0.&#48;01", -1), ("5&#46;5", 5500), ("&#57;99999999999.99&#57;", 999999999999999),
+               ("&#32;7&#32; ", 7000), ("&#0000048;", 0)]
+    taken("two-reference-amounts", 2, 96, [("S-1", "C0ABCDEFGH1", "A01", [(i + 1, amount) for i, (_, amount) in enumerate(amounts)])],
+          two(cost(pairs=[(f"&#{ord(str(i + 1))};", text) for i, (text, _) in enumerate(amounts)])))
+    taken("two-reference-period", 2, 96, [TWO_ROW],
+          two(cost(period=DAY.replace("-", "&#45;")), period=DAY.replace("/", "&#x2F;").replace("Z", "&#90;")))
+    taken("three-reference-36", 3, 96, [three_row(thing=36 * "&lt;"), sensitivity_row()], three(constraint(thing=36 * "&lt;"), sensitivity()))
+    taken("three-reference-businesses", 3, 96,
+          [three_row(business="A7&#55;", direction="A0&#49;"), sensitivity_row(), three_row("N-3", "&#65;77", "&#x41;02")],
+          three(constraint(business="A7&#55;", direction="A0&#49;"), sensitivity(), constraint("N-3", "&#65;77", "&#x41;02")))
+
+
+def spaces_by_reference():
+    """A referenced space is dropped at a collapsed end like any other; nothing else is."""
+    taken("two-reference-business-spaces", 2, 96, [("S-1", "C0ABCDEFGH1", "A0&#49;", SOME_ROWS)], two(cost(business=" &#32;A0&#49;&#x20; ")))
+    taken("two-reference-direction-spaces", 2, 96, [(*TWO_ROW, "&#65;02")], two(cost(direction='<Direction v="&#x0020;&#65;02 &#032;"/>\n')))
+    taken("two-reference-spaces-dropped", 2, 96, [ALL_ROW], edited(ALL_TWO, *(
+        (f'v="{value}"', f'v="&#32; {value}&#x20;"') for value in (
+            "3", "Z05", "A14", "A27", "A39", "2024-05-06T07:08:09Z", "8716867000016", "A03", "2024-05-05T10:11:12Z", "PT15M",
+            "1", "5", "10.5", "-3.25")), ('codingScheme="A01"', 'codingScheme="&#32;A01"')))
+    for name, refusal, old, new in (
+            ("version-tab", 6, '<DocumentVersion v="3"/>', '<DocumentVersion v="&#9;3"/>'),
+            ("version-lf", 6, '<DocumentVersion v="3"/>', '<DocumentVersion v="3&#10;"/>'),
+            ("type-cr", 7, '<DocumentType v="Z05"/>', '<DocumentType v="Z05&#13;"/>'),
+            ("process-no-break-space", 7, '<ProcessType v="A14"/>', '<ProcessType v="&#160;A14"/>'),
+            ("sender-space", 6, '<SenderIdentification v="4012345000016"', '<SenderIdentification v="4012345000016&#32;"'),
+            ("period-space", 6, f'<TimePeriodCovered v="{DAY}"', f'<TimePeriodCovered v="&#32;{DAY}"')):
+        in_two("two-reference-" + name, refusal, 0, 0, (old, "@@" + new))
+    in_two("two-reference-original-version-space", 6, 1, 0, ('<OriginalDocumentVersion v="7"/>', '@@<OriginalDocumentVersion v="&#32;7"/>'))
+    in_two("two-reference-resolution-tab", 8, 1, 0, ('<Resolution v="PT15M"/>', '@@<Resolution v="PT15M&#9;"/>'))
+    refused("root-reference-space", 6, 0, 0, 0, "@@" + START_2.replace("1.0", "1.0&#x20;"))
+
+
+def other_references():
+    """Any other reference is 2."""
+    for name, text in (
+            ("bad", "&bad;"), ("upper-name", "&AMP;"), ("no-semicolon", "&amp"), ("space-first", "& amp;"), ("space-last", "&amp ;"), ("alone", "&;"),
+            ("at-the-end", "a&"), ("name-longer", "&ampx;"), ("name-shorter", "&am;"), ("no-digits", "&#;"), ("no-hexadecimal-digits", "&#x;"),
+            ("upper-x", "&#X41;"), ("no-x", "&#4a;"), ("letter-g", "&#x4g;"), ("plus", "&#+65;"), ("space-in-number", "&#6 5;"), ("cut-number", "&#65"),
+            ("0", "&#0;"), ("8", "&#x8;"), ("b", "&#11;"), ("e", "&#14;"), ("1f", "&#x1F;"), ("d800", "&#xD800;"), ("dfff", "&#57343;"),
+            ("fffe", "&#xFFFE;"), ("ffff", "&#65535;"), ("110000", "&#x110000;"), ("32-bits-and-65", "&#4294967361;"),
+            ("64-bits-and-65", "&#18446744073709551681;"), ("hexadecimal-32-bits-and-65", "&#x100000041;"), ("in-a-reference", "&am&amp;p;"),
+            ("ampersand-before-one", "&&amp;"), ("less-than-in-one", "&l<t;"), ("after-a-right-one", "&amp;&lt"), ("arabic-digit", "&#\u0663;")):
+        after_root("item-reference-" + name, 2, f'@@<DocumentIdentification v="{text}"/>')
+    after_root("item-reference-quote-in-one", 2, "@@<DocumentIdentification v='&am'p;/>")
+    after_root("item-reference-cut", 2, '@@<DocumentIdentification v="&#6')
+    after_root("item-reference-not-due", 2, '@@<Qty v="&bad;"/>')
+    refused("root-reference-xmlns", 2, 0, 0, 0, "@@" + START_2.replace(">", " xmlns='&bad;'>"))
+
+
+def references_elsewhere():
+    """In values alone."""
+    for name, text in (("name", "@@<a&amp;/>"), ("attribute-name", "@@<a b&#61;'1'/>"), ("end-tag", "@@</Kostenblatt&#32;>"), ("text-space", "@@&#32;"),
+                       ("quotes", "@@<DocumentIdentification v=&quot;1&quot;/>")):
+        after_root("item-reference-as-" + name, 2, text)
+    refused("declaration-reference-version", 2, 0, 0, 0, '@@<?xml version="1&#46;0"?>' + START_2)
+    refused("declaration-reference-encoding", 2, 0, 0, 0, "@@<?xml version='1.0' encoding='UTF&#45;8'?>" + START_2)
+    after_root("two-reference-not-due", 3, '@@<Qty v="&amp;"/>')
+    after_root("two-reference-unknown-attribute", 5, '@@<DocumentIdentification v="" w="&amp;"/>')
+    refused("root-reference-alone", 3, 2, 0, 0, START_2.replace("1.0", "&#49;.&#x30;") + "@@")
+    refused("root-reference-1-1", 6, 0, 0, 0, "@@" + START_2.replace("1.0", "1.&#49;"))
+
+
+def values_by_reference():
+    """Each form against what a reference stands for."""
+    def fault(name, refusal, series, intervals, old, new):
+        in_two("two-reference-" + name, refusal, series, intervals, (old, "@@" + new))
+    fault("id-36", 6, 0, 0, '<DocumentIdentification v="D-1"/>', '<DocumentIdentification v="%s"/>' % (36 * "&amp;"))
+    fault("version-0", 6, 0, 0, '<DocumentVersion v="3"/>', '<DocumentVersion v="&#48;3"/>')
+    fault("said-twice", 6, 0, 0, '<DocumentVersion v="3"/>', '<DocumentVersion v="&amp;#51;"/>')
+    fault("sender-14", 6, 0, 0, '<SenderIdentification v="4012345000016"', '<SenderIdentification v="4012345000016&#48;"')
+    fault("role", 7, 0, 0, '<SenderRole v="A27"/>', '<SenderRole v="A2&#56;"/>')
+    fault("second-60", 6, 0, 0, '<DocumentDateTime v="2024-05-06T07:08:09Z"/>', '<DocumentDateTime v="2024-05-06T07:08:&#54;0Z"/>')
+    fault("scheme", 7, 1, 0, CONNECTING, CONNECTING.replace('"A01"', '"A0&#50;"'))
+    fault("object", 6, 1, 0, '<ResourceObject v="C', '<ResourceObject v="&#68;')
+    fault("interval-differs", 8, 1, 0, f'<TimeInterval v="{DAY}"', '<TimeInterval v="%s"' % DAY.replace("07T", "0&#56;T"))
+    fault("pos-0", 6, 1, 1, '<Pos v="1"/>', '<Pos v="&#48;"/>')
+    fault("pos-2", 8, 1, 1, '<Pos v="1"/>', '<Pos v="&#50;"/>')
+    fault("qty-plus", 6, 1, 1, '<Qty v="10.5"/>', '<Qty v="&#43;5"/>')
+    fault("qty-tab", 6, 1, 1, '<Qty v="10.5"/>', '<Qty v="10&#9;"/>')
+    fault("qty-13", 6, 1, 1, '<Qty v="10.5"/>', '<Qty v="123456789012&#51;"/>')
+    fault("qty-arabic-digit", 6, 1, 1, '<Qty v="10.5"/>', '<Qty v="&#1635;"/>')
+    in_three("reference-thing-37", 6, 1, 0, ('<ResourceObject v="NBM-17"', '@@<ResourceObject v="%s"' % (37 * "&#228;")))
+
+
+def equal_meanings():
+    """Two identifications are equal when their meanings are; so are two Directions."""
+    used = '<TimeSeriesIdentification v="%s"/>'
+    for name, earlier, later in (
+            ("amp", "&amp;", "&#38;"), ("letters", "S-1", "S&#45;1"), ("hexadecimal", "&#228;", "&#xE4;"), ("character", "&#xe4;", "\u00e4"),
+            ("space", "&#32;", " "), ("once", "&amp;lt;", "&#38;lt;"), ("zeros", "&#65;", "&#x00041;"), ("four-bytes", "\U0010ffff", "&#1114111;")):
+        refused("two-reference-used-" + name, 9, 2, 2, 2, two(cost(earlier), cost("S").replace(used % "S", "@@" + used % later)))
+    refused("two-reference-used-not-neighbours", 9, 2, 3, 3, two(
+        cost("&lt;"), cost("&amp;lt;", pairs=[(1, 1)]), cost("S").replace(used % "S", "@@" + used % "&#60;")))
+    direction = '<Direction v="%s"/>'
+    refused("three-reference-equal-direction", 8, 3, 2, 2, three(
+        constraint(direction="A0&#49;"), constraint("N-3", direction="A02").replace(direction % "A02", "@@" + direction % "&#32;A01")))
+    business = '<BusinessType v="%s"/>'
+    refused("three-reference-third-a77", 8, 3, 3, 4, three(
+        constraint(business="&#65;77"), constraint("N-3", direction="A02"),
+        constraint("N-4").replace(business % "A77", "@@" + business % "A7&#55;")))
+    refused("three-reference-withdrawn", 8, 3, 1, 2, three(
+        constraint(), "@@" + sensitivity(), status=DOC_STATUS.replace("A13", "A1&#51;")))
+
+
 # ---------------------------------------------------------------- The script
 
 # The elements that the views of a row show, in kind 1 and in kind 2.
@@ -1660,7 +1830,7 @@ def check_views(doc, row, expected, where):
             continue
         tag = doc[doc.rindex(b"<", 0, start):start]
         assert tag.startswith(tuple(b"<" + name for name in names)), (*where, names)
-        assert re.search(rb"\bv\s*=\s*[\"'] *$", tag) and doc[start:start + length] == raw(said), (*where, names)
+        assert re.search(rb"\bv\s*=\s*[\"']" + SPACES + b"$", tag) and doc[start:start + length] == raw(said), (*where, names)
 
 
 def check(name, sample, answer):
@@ -1691,7 +1861,8 @@ def main():
                   values_of_three, starts_of_three, head_of_three, series_of_three, period_of_three, series_against_each_other, short_documents,
                   declarations, unreadable_items, other_text, rows_of_head, rows_of_series, rows_of_originals, rows_of_period, rows_of_one, counts_of_one,
                   missing_rows, near_names, places_in_notes, full_tables, used_identifications, several_faults, late_faults,
-                  other_examples):
+                  other_examples, accepted_references, spaces_by_reference, other_references, references_elsewhere, values_by_reference,
+                  equal_meanings):
         group()
     if len(sys.argv) > 1:
         sys.stdout.buffer.write(SAMPLES[sys.argv[1]].doc)

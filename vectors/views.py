@@ -7,9 +7,13 @@ It shares no line with the project's code, and it reads no document: it writes o
 document is said by hand, and its place is that of the piece.
 """
 import datetime
+import re
 import sys
 
 HEADER, SERIES = 32, 44  # cells
+
+# A space as such or by reference
+SPACES = "(?: |&#0*32;|&#x0*20;)*"
 
 # The names of the pairs, in their order; `+` stands for the codingScheme of the element before it.
 HEAD = ("DtdVersion DtdRelease DtdBDEWNachrichtenVersion DocumentIdentification DocumentVersion DocumentType ProcessType SenderIdentification + SenderRole "
@@ -38,6 +42,7 @@ class Writer:
 
     def __init__(self, kind, covered):
         self.kind, self.covered, self.series = kind, covered, 0
+        self.spelled = covered  # in a TimeInterval
         self.bytes, self.pairs, self.seen = b"", {}, []
         self.bare = False  # both tags for an element of a single value, single quotes, the attributes the other way round
 
@@ -48,9 +53,8 @@ class Writer:
         names, first = (PAIRS[self.kind], 16 + 22 * (self.series - 1)) if self.series else (HEAD, 0)
         at = names.index(name) + scheme
         drops = scheme or name not in KEPT
-        lead = len(value) - len(value.lstrip(" ")) if drops and value.strip(" ") else len(value) if drops else 0
-        said = value.strip(" ") if drops else value
-        self.pairs[first + at] = (start + lead, len(said.encode()))
+        said = re.fullmatch("(%s)(.*?)%s" % (SPACES, SPACES), value) if drops else re.fullmatch("()(.*)", value)
+        self.pairs[first + at] = (start + len(said[1]), len(said[2].encode()))
 
     def attribute(self, name, of, scheme, value):
         self.raw(" %s=%s" % (name, "'" if self.bare else '"'))
@@ -80,7 +84,7 @@ class Writer:
 
     def period(self, positions):
         self.raw("<Period>")
-        self.tag("TimeInterval", self.covered)
+        self.tag("TimeInterval", self.spelled)
         self.tag("Resolution", "PT15M" if not self.bare else "  PT15M ")
         for pos in positions:
             self.raw("<Interval>")
@@ -179,6 +183,27 @@ def sheets():
         yield w.end()
 
 
+def by_reference():
+    """the same with references: views show what stands between the quotes, less spaces and references to them"""
+    w = Writer(2, QUARTER)
+    w.root(DtdBDEWNachrichtenVersion="1&#46;&#x30;", xmlns="&lt;&amp;")
+    w.head(DocumentIdentification="&#32;M&amp;B&#32;", DocumentVersion=" &#32;1&#x32;&#0032;", DocumentType="&#90;05 ", SenderIdentification="99000&#48;0000017",
+           SenderIdentificationScheme="&#x20; N&#68;E&#x00020;", SenderRole="A1&#56;", DocumentDateTime="&#32;2031-02-02T10&#58;15:00Z",
+           TimePeriodCovered=QUARTER.replace("T", "&#84;"))
+    w.one([("TimeSeriesIdentification", 35 * "&amp;"), ("BusinessType", " &#32;A0&#49;&#x20; "), ("Direction", "&#x20;&#65;02"), ("Product", "871686700001&#54;&#32;"),
+           ("ConnectingArea", "10YDE&#45;VE-------2", "A01&#32;"), ("ResourceObject", "&#67;0000000017", "&#32;NDE"), ("ResourceProvider", "&#57;900000000017", "A10"),
+           ("CurveType", "A03"), ("MeasurementUnit", "&#x5A;02"), ("Status", "&#32;&#32;Z05&#32; &#32;")] + ORIGINAL)
+    w.bare, w.spelled = True, QUARTER.replace("/", "&#x2f;")
+    w.one(cost("&quot;&#39;", "A0&#50; &#32;", unit="Z03&#x020;"))
+    yield w.end()
+    w = Writer(3, QUARTER)
+    w.root(DtdVersion="&#52;", DtdRelease="&#x31;", DtdBDEWNachrichtenVersion="1.1&#97;")
+    w.head()
+    w.tag("DocStatus", "&#32;A1&#51; ")
+    w.one(limit("&#9;", "B5&#57;&#32;", "&#65;01", [("GridElement", "&#32;&lt;&#32;", "&#32;A02")]))
+    yield w.end()
+
+
 def minutes(text):
     since = datetime.datetime.strptime(text, "%Y-%m-%dT%H:%MZ") - datetime.datetime(2000, 1, 1)
     return since.days * 1440 + since.seconds // 60
@@ -224,7 +249,9 @@ def faults():
         return w.end()
 
     for rows, tag, number in ((cost("a"), "<TimeSeriesIdentification", 9), (cost("b", "A03"), "<Direction", 7), (cost("b") + ORIGINAL[:2], "<Period", 8),
-                              (cost("b") + ["<Status/>"], "<Status", 5), (cost("b") + ["<Status v='&'/>"], "<Status", 2)):
+                              (cost("b") + ["<Status/>"], "<Status", 5), (cost("b") + ["<Status v='&'/>"], "<Status", 2),
+                              (cost("b") + ["<Status v='&bad;'/>"], "<Status", 2), (cost("&#97;"), "<TimeSeriesIdentification", 9),
+                              (cost("b", "A01&#9;"), "<Direction", 7), (cost(36 * "&lt;"), "<TimeSeriesIdentification", 6)):
         w = two(rows)
         yield w.bytes, number, w.bytes.rindex(tag.encode()), 2, 2
     whole = two(cost("b")).bytes
@@ -232,7 +259,7 @@ def faults():
 
 
 def cases():
-    for w in sheets():
+    for w in [*sheets(), *by_reference()]:
         need = HEADER + SERIES * w.series
         yield w.bytes, need, 6, viewed(w, need, 6)
         if w.series != 1:

@@ -36,16 +36,21 @@ static void digits(unsigned n) {
     }
 }
 
-/* Of every shape that an amount can have, and now and then of one that it cannot. */
+/* Of every shape that an amount can have, and now and then of one that it cannot. Signs, points, spaces and one digit may stand by reference: the digits of a
+ * reference are no readable ones, and are the same in both documents. */
 static void amount(int bad) {
-    both(chance(2) ? "  " : "");
-    both(chance(2) ? "-" : "");
-    digits(bad ? 13 : 1 + chance(12));
+    unsigned plain = bad ? 13 : 1 + chance(12);
+    both(chance(2) ? "  " : chance(2) ? "&#32; " : "");
+    both(chance(2) ? "-" : chance(2) ? "&#x2D;" : "");
+    if (plain > 1 && chance(3) == 0) {
+        digits(--plain);
+        both("&#50;");
+    } else digits(plain);
     if (chance(2)) {
-        both(".");
+        both(chance(3) ? "." : "&#46;");
         digits(1 + chance(3));
     }
-    both(chance(3) ? "" : " ");
+    both(chance(3) ? "" : chance(2) ? " " : "&#x20;");
 }
 
 static void document(unsigned pair) {

@@ -1,14 +1,35 @@
 //! Sheets of about a given size, made in memory. All values are invented.
 
+/// How a sheet is laid out: on one line, a tag to a line, or on one line with the first character of each value by reference.
+#[derive(Clone, Copy, PartialEq, Eq)]
+pub enum Layout {
+    Plain,
+    Pretty,
+    Referring,
+}
+
+pub const LAYOUTS: [(&str, Layout); 3] = [("plain", Layout::Plain), ("pretty-printed", Layout::Pretty), ("with references", Layout::Referring)];
+
 struct Sheet {
     text: String,
-    pretty: bool,
+    layout: Layout,
     depth: usize,
 }
 
 impl Sheet {
+    fn new(layout: Layout) -> Sheet {
+        Sheet { text: String::new(), layout, depth: 0 }
+    }
+    /// A value as it is written.
+    fn spelled(&self, value: &str) -> String {
+        let mut rest = value.chars();
+        match (self.layout, rest.next()) {
+            (Layout::Referring, Some(first)) => format!("&#{};{}", first as u32, rest.as_str()),
+            _ => value.to_string(),
+        }
+    }
     fn line(&mut self, tag: &str) {
-        if self.pretty {
+        if self.layout == Layout::Pretty {
             if !self.text.is_empty() {
                 self.text.push('\n');
             }
@@ -27,9 +48,11 @@ impl Sheet {
         self.line(&format!("</{name}>"));
     }
     fn leaf(&mut self, name: &str, v: &str) {
+        let v = self.spelled(v);
         self.line(&format!("<{name} v=\"{v}\"/>"));
     }
     fn coded(&mut self, name: &str, v: &str, scheme: &str) {
+        let (v, scheme) = (self.spelled(v), self.spelled(scheme));
         self.line(&format!("<{name} v=\"{v}\" codingScheme=\"{scheme}\"/>"));
     }
 }
@@ -107,8 +130,8 @@ fn constraint(s: &mut Sheet, k: usize, size: usize) {
 }
 
 /// Series until `size` bytes are nearly reached, and three at least: two A77 and a B59.
-pub fn network_constraint_document(size: usize, pretty: bool) -> Vec<u8> {
-    let mut s = Sheet { text: String::new(), pretty, depth: 0 };
+pub fn network_constraint_document(size: usize, layout: Layout) -> Vec<u8> {
+    let mut s = Sheet::new(layout);
     s.open("<NetworkConstraintDocument DtdVersion=\"4\" DtdRelease=\"1\" DtdBDEWNachrichtenVersion=\"1.1a\">");
     head(&mut s, "B15", "A18");
     let mut k = 0;
@@ -124,8 +147,8 @@ pub fn network_constraint_document(size: usize, pretty: bool) -> Vec<u8> {
 const FRONT: usize = 1500;
 
 /// Series until `size` bytes are nearly reached; curve A03 lets the last one have fewer intervals.
-pub fn kostenblatt(size: usize, pretty: bool) -> Vec<u8> {
-    let mut s = Sheet { text: String::new(), pretty, depth: 0 };
+pub fn kostenblatt(size: usize, layout: Layout) -> Vec<u8> {
+    let mut s = Sheet::new(layout);
     s.open("<Kostenblatt DtdBDEWNachrichtenVersion=\"1.0\">");
     head(&mut s, "Z05", "A27");
     let mut k = 0;
@@ -159,8 +182,8 @@ fn request(s: &mut Sheet, k: usize) {
 }
 
 /// As many whole series as `size` bytes hold, and one at least: a series has 96 intervals, so that no document of 4 KiB can hold one.
-pub fn beschaffungsanforderung(size: usize, pretty: bool) -> Vec<u8> {
-    let mut s = Sheet { text: String::new(), pretty, depth: 0 };
+pub fn beschaffungsanforderung(size: usize, layout: Layout) -> Vec<u8> {
+    let mut s = Sheet::new(layout);
     s.open("<Beschaffungsanforderung DtdBDEWNachrichtenVersion=\"1.0\">");
     head(&mut s, "Z07", "A18");
     let (mut k, mut one) = (0, 0);
@@ -214,6 +237,9 @@ pub fn hostile(size: usize) -> Vec<(String, Vec<u8>)> {
     all.push(("one long text".into(), vec![b'x'; size]));
     all.push(("one long comment".into(), [b"<!--".to_vec(), vec![b'x'; size - 7], b"-->".to_vec()].concat()));
     all.push(("one long value".into(), [b"<a b='".to_vec(), vec![b'x'; size - 8], b"'>".to_vec()].concat()));
+    all.push(("one long value of references".into(), [b"<a b='".to_vec(), b"&amp;".repeat(size / 5 - 2), b"'>".to_vec()].concat()));
+    all.push(("one reference of many zeros".into(), [b"<a b='&#".to_vec(), vec![b'0'; size - 13], b"65;'>".to_vec()].concat()));
+    all.push(("one long value of `&`".into(), [b"<a b='".to_vec(), vec![b'&'; size - 8], b"'>".to_vec()].concat()));
     all.push(("start tags one in the other".into(), b"<a>".repeat(size / 3)));
     all.push(("a tag that does not end".into(), [b"<a".to_vec(), b" b=''".repeat(size / 5 - 1)].concat()));
     all.retain(|(_, d)| d.len() <= size + size / 8);

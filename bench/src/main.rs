@@ -10,9 +10,9 @@ fn reader(doc: &[u8]) -> usize {
 fn sheets() {
     let walks: &[(&str, Walk)] = &[("reader", reader), ("expat", peers::expat), ("quick-xml", peers::quick)];
     print_head(&["layout", "bytes", "reader MB/s", "expat", "quick-xml", "reader/expat", "reader/quick-xml"]);
-    for (layout, pretty) in [("plain", false), ("pretty-printed", true)] {
+    for (layout, of) in document::LAYOUTS {
         for size in [4 << 10, 64 << 10, 1 << 20] {
-            let doc = document::kostenblatt(size, pretty);
+            let doc = document::kostenblatt(size, of);
             assert!(reader(&doc) == doc.len(), "the reader refuses the document");
             for (name, walk) in walks {
                 assert!(walk(&doc) > 0, "{name} refuses the document");

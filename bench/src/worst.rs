@@ -47,6 +47,18 @@ fn long_id(k: u32, after: usize) -> String {
     "\u{10000}".repeat(34 - after) + &own + &"\u{10000}".repeat(after)
 }
 
+/// 35 characters, 34 of them equal and by reference, the last one by number; every second one spelled otherwise, so that equal bytes say nothing.
+fn referring_id(k: u32) -> String {
+    let own = 0x10000 + k;
+    if k % 2 == 0 { "&#65;".repeat(34) + &format!("&#{own};") } else { "&#x41;".repeat(34) + &format!("&#x{own:X};") }
+}
+
+/// The same with 34 letters: each second one is plain.
+fn half_referring_id(k: u32) -> String {
+    let own = 0x10000 + k;
+    if k % 2 == 0 { "A".repeat(34) + &format!("&#{own};") } else { "&#65;".repeat(34) + &format!("&#x{own:x};") }
+}
+
 /// The front, as much of `fill` as has room, and the back.
 fn filled(size: usize, front: &str, fill: &str, back: &str) -> String {
     front.to_string() + &fill.repeat((size - front.len() - back.len()) / fill.len()) + back
@@ -54,9 +66,14 @@ fn filled(size: usize, front: &str, fill: &str, back: &str) -> String {
 
 /// A sheet with `fill` again and again before the first `mark` in it.
 fn within(size: usize, mark: &str, fill: &str) -> String {
+    between(size, mark, "", fill, "")
+}
+
+/// The same, with something before all of `fill` and something after it.
+fn between(size: usize, mark: &str, before: &str, fill: &str, after: &str) -> String {
     let sheet = ROOT.to_string() + &head(DAY) + &series("a", DAY, &interval(1, "1")) + END;
     let (front, back) = sheet.split_at(sheet.find(mark).expect("the mark"));
-    filled(size, front, fill, back)
+    filled(size, &(front.to_string() + before), fill, &(after.to_string() + back))
 }
 
 fn most_intervals(size: usize) -> String {
@@ -92,6 +109,8 @@ pub fn documents(size: usize) -> Vec<(&'static str, Vec<u8>)> {
         ("most series, identifications equal but for the last character", many_series(size, |k| long_id(k, 0))),
         ("most series, identifications equal but for the last character but one", many_series(size, |k| long_id(k, 1))),
         ("most series, short identifications", many_series(size, |k| format!("{k:04}"))),
+        ("most series, identifications by references, equal but for the last character", many_series(size, referring_id)),
+        ("the same, every second one plain", many_series(size, half_referring_id)),
         ("most intervals, one series", most_intervals(size)),
         ("a root of xmlns: attributes, in mixed order", root_of(size, "xmlns:")),
         ("a root of unknown attributes, in mixed order", root_of(size, "")),
@@ -106,6 +125,17 @@ pub fn documents(size: usize) -> Vec<(&'static str, Vec<u8>)> {
         ("an amount of many digits", within(size, "\"/></Interval>", "1")),
         ("a code of many letters", within(size, "A01\"/><Product", "A")),
         ("a long period", within(size, "2031-02-02T23:00Z/", "2")),
+        ("one long identification of references", within(size, "\"/><BusinessType", "&amp;")),
+        ("one reference of many zeros", between(size, "\"/><BusinessType", "&#", "0", "65;")),
+        ("a reference that does not end", between(size, "\"/><BusinessType", "&#", "0", "")),
+        ("an identification of `&`", within(size, "\"/><BusinessType", "&")),
+        ("a code after referenced spaces", within(size, "A01\"/><Product", "&#32;")),
+        ("a code before referenced spaces", within(size, "\"/><Product", "&#x20;")),
+        ("a code before referenced spaces and a letter", between(size, "\"/><Product", "", " &#32;", "x")),
+        ("a code before a space by many zeros", between(size, "\"/><Product", "&#", "0", "32;")),
+        ("a code of many `;`", within(size, "\"/><Product", ";")),
+        ("an amount of referenced digits", within(size, "\"/></Interval>", "&#49;")),
+        ("a period of references", within(size, "2031-02-02T23:00Z/", "&#50;")),
         ("start tags one in the other", "<a>".repeat(size / 3)),
         ("a tag that does not end", "<a".to_string() + &" b=''".repeat(size / 5 - 1)),
         ("roots that do not end", filled(size, ROOT, ROOT, "")),

@@ -109,6 +109,14 @@ static void put(struct document *d, const char *s) {
     "<TimeInterval v=\"2031-02-02T23:00Z/2031-02-03T23:00Z\"/><Resolution v=\"PT15M\"/><Interval><Pos v=\" 1 \"/><Qty v=\" -999999999999.999 \"/></Interval>" \
     "</Period></CostTimeSeries>"
 
+/* The same with references. */
+#define REFERRING \
+    "<CostTimeSeries><TimeSeriesIdentification v=\"&amp;%u&#x20;\"/><BusinessType v=\"&#32;Z0&#51; \"/><Direction v=\"&#65;02\"/><Product v=\"871686700001&#54;\"/>" \
+    "<ConnectingArea v=\"10YFLENSBURG&#45;--3\" codingScheme=\"A0&#x31;\"/><ResourceObject v=\"&#67;0000000017\" codingScheme=\"NDE&#x20;\"/>" \
+    "<ResourceProvider v=\"&#57;900000000017\" codingScheme=\"NDE\"/><CurveType v=\"A03\"/><MeasurementUnit v=\"Z02\"/><Status v=\"Z05\"/><Period>" \
+    "<TimeInterval v=\"2031-02-02T23:00Z&#47;2031-02-03T23:00Z\"/><Resolution v=\"PT15M\"/><Interval><Pos v=\" &#49; \"/><Qty v=\"&#45;99999999999&#57;.999&#32;\"/></Interval>" \
+    "</Period></CostTimeSeries>"
+
 /* `form` is printed with numbers in mixed order, again and again. */
 static void make(const char *name, const char *front, const char *form, const char *back) {
     struct document *d = add(name);
@@ -171,6 +179,8 @@ int main(int argc, char **argv) {
     make("comments", ROOT ">", "<!--%u-->\n", "</Kostenblatt>");
     make("one long text", "", "%u", "");
     make("one long value", ROOT ">\n<DocumentIdentification v=\"", "%u", "\"/>");
+    make("one long value of references", ROOT ">\n<DocumentIdentification v=\"", "&amp;%u&#33;", "\"/>");
+    make("identifications by references", ROOT ">" HEAD, REFERRING, "</Kostenblatt>");
     make("start tags one in the other", "", "<a%u>", "");
     return measure("lumintayag_read_v3", read_it) || measure("lumintayag_views", view);
 }

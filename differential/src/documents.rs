@@ -3,6 +3,7 @@
 
 use crate::model::{Lengths, LONGEST, ROW};
 use crate::random::Random;
+use crate::respelling::{escaped, misspelled, respelled};
 use crate::rows::{Row, Task, ROOTS};
 use crate::spelling::{spelled, Style};
 use crate::values::{changed, odd_period, period, right, spaced, wrong, Plan};
@@ -78,7 +79,9 @@ fn long_document(random: &mut Random) -> Document {
     let mut bytes = spelled(random, &pieces, &Style::plain());
     let length = LONGEST - 1 + random.below(3);
     let missing = length.saturating_sub(bytes.len());
-    match random.below(4) {
+    match random.below(6) {
+        4 => lengthen_value(&mut bytes, &[b"&#", &vec![b'0'; missing.saturating_sub(5)][..], b"65;"].concat()),
+        5 => lengthen_value(&mut bytes, &b"&#x20;".repeat(missing / 6)),
         0 => bytes.resize(length, b' '),
         1 => {
             bytes.extend_from_slice(b"<!--");
@@ -93,6 +96,13 @@ fn long_document(random: &mut Random) -> Document {
         lengths.note = random.below(20);
     }
     Document { bytes, lengths }
+}
+
+/// Something in front of the first value of a single element.
+fn lengthen_value(bytes: &mut Vec<u8>, more: &[u8]) {
+    if let Some(at) = bytes.windows(4).position(|part| part == b" v=\"" || part == b" v='") {
+        bytes.splice(at + 4..at + 4, more.iter().copied());
+    }
 }
 
 // ---------------------------------------------------------------- Right documents
@@ -329,7 +339,8 @@ fn break_rule(random: &mut Random, pieces: &mut Pieces, plan: &Plan) {
     if plan.kind == 3 && random.one_in(3) {
         return break_constraint(random, pieces, plan);
     }
-    match random.below(20) {
+    match random.below(22) {
+        20 | 21 => break_reference(random, pieces),
         0..=5 => break_value(random, pieces, plan),
         6..=8 => break_attributes(random, pieces, plan),
         9..=13 => break_structure(random, pieces, plan),
@@ -375,6 +386,16 @@ fn break_value(random: &mut Random, pieces: &mut [Piece], plan: &Plan) {
             tag.attributes[at].1 = wrong(random, row.attributes[at].form, plan);
         }
     }
+}
+
+/// In a value of any attribute, one that is passed over or unknown too, something that is no reference or says another thing.
+fn break_reference(random: &mut Random, pieces: &mut [Piece]) {
+    let Some(tag) = any_tag(random, pieces) else { return };
+    if tag.attributes.is_empty() {
+        return;
+    }
+    let at = random.below(tag.attributes.len());
+    tag.attributes[at].1 = misspelled(random, &tag.attributes[at].1);
 }
 
 const UNKNOWN: &[&str] = &[
@@ -669,11 +690,18 @@ fn use_again(random: &mut Random, pieces: &mut [Piece], plan: &Plan) {
     if places.is_empty() || plan.identifications.is_empty() {
         return;
     }
-    let mut value = random.pick(&plan.identifications).clone();
-    match random.below(6) {
-        0 => value.push(b' '),
+    // Of what has references more is looked at: what they say shows here alone.
+    let referring: Vec<&Vec<u8>> = plan.identifications.iter().filter(|value| value.contains(&b'&')).collect();
+    let mut value = if referring.is_empty() { random.pick(&plan.identifications).clone() } else { random.pick(&referring).to_vec() };
+    match random.below(9) {
+        0 => value.extend_from_slice(random.part(&[b" ", b"&#32;", b"&#x20;"])),
         1 => value.make_ascii_lowercase(),
         2 => value.truncate(0),
+        3 => value = escaped(&respelled(random, &value, 3)),
+        4..=6 => {
+            let rarely = random.within(1, 4);
+            value = respelled(random, &value, rarely);
+        }
         _ => {}
     }
     let at = *random.pick(&places);
@@ -710,6 +738,7 @@ const SEQUENCES: &[&[u8]] = &[
     b"\xEF\xBB\xBF", b"\xEF\xBF\xBD", b"\xEF\xBF\xBE", b"\xEF\xBF\xBF", b"\xEF\xBF", b"\xF0\x8F\xBF\xBF", b"\xF0\x90\x80\x80", b"\xF0\x9F\xBF\xBE",
     b"\xF0\x90\x80", b"\xF1\x80\x80\x80", b"\xF3\xBF\xBF\xBF", b"\xF3\xBF\xBF\xC0", b"\xF4\x8F\xBF\xBF", b"\xF4\x90\x80\x80", b"\xF5\x80\x80\x80",
     b"\xFE", b"\xFF", b"\x00", b"\x01", b"\x08", b"\x0B", b"\x0C", b"\x0E", b"\x1F", b"\x7F", b"\t", b"\r", b"\n", b"&", b"<", b">", b"]]>",
+    b"&amp;", b"&#38;lt;", b"&#xD800;",
 ];
 
 fn some_characters(random: &mut Random) -> Vec<u8> {
@@ -742,12 +771,14 @@ const ITEMS: &[&str] = &[
     "abc", "abc &", "&amp;", "&", "]]>", "]]", "]>", " ]] > ", "\u{FEFF}", "ä", "<", "</", "<!", "<!-", "<!--", "<!-->", "<!--->", "<!---->",
     "<!--->-->", "<!-- --->", "<!-- -- -->", "<!-- & ]]> < > -->", "<!--a-b- -->", "<!--\u{FFFD}-->", "<![CDATA[x]]>", "<!DOCTYPE Kostenblatt>",
     "<?xml version=\"1.0\"?>", "<?xml?>", "<?pi x?>", "<? ?>", "<Qty v=\"1\"/>", "<Qty v=\"1\"></Qty>", "< Qty v=\"1\"/>", "<Qty v=\"1\"/ >",
-    "<Qty v=1/>", "<Qty v/>", "<Qty v=\"1\"w=\"2\"/>", "<Qty v=\"1'/>", "<Qty v=\"a<b\"/>", "<Qty v=\"a&b\"/>", "<Qty v=\"a\tb\"/>",
-    "<Qty v=\"a\nb\"/>", "<Qty v=\"a>b]]>\"/>", "<Qty v = '1' />", "<Qty\tv\n=\r'1'\n>", "</Qty v=\"1\">", "</ Qty>", "</Qty >", "</Qty\n>",
-    "</Qty/>", "</>", "<>", "</1>", "<:a/>", "<-a/>", "<1a/>", "<a:b:c/>", "<a:/>", "<_/>", "<ä/>", "<a ä=\"\"/>", "<Qty :v=\"1\"/>",
-    "<Qty v=\"1\" v=\"1\"/>", "<x v='1' w='2' v='3'/>", "<Qty=\"1\"/>", "<Qty v==\"1\"/>", "<Qty v=\"1\"", "<Qty v=\"1", "<Qty", "<Qty /",
-    "<Interval/>", "<Period/>", "<CostTimeSeries/>", "<NetworkConstraintTimeSeries/>", "<NetworkConstraintTimeSeries a=''>",
-    "<DocStatus v=\"A13\"/>", "<ScheduleTimeSeries a=\"\">", "<Interval a='1'>", "<Period a='1'>", "</Interval>", "</Period>",
+    "<Qty v=1/>", "<Qty v/>", "<Qty v=\"1\"w=\"2\"/>", "<Qty v=\"1'/>", "<Qty v=\"a<b\"/>", "<Qty v=\"a&b\"/>", "<Qty v=\"1&#50;3\"/>",
+    "<a b=\"&amp;\"/>", "<a b='&bad;'/>", "<a&amp;b/>", "</a&amp;>", "<a b&#61;'1'/>", "<a b=&quot;1&quot;/>", "<Qty v='&am'p;'/>",
+    "<Qty v=\"&#6\"5;/>", "<Qty v=\"&lt<;\"/>", "<Qty v=\"1&", "<Qty v=\"1&#5", "&#32;", "&lt;Qty/>", "<Qty v=\"a\tb\"/>", "<Qty v=\"a\nb\"/>",
+    "<Qty v=\"a>b]]>\"/>", "<Qty v = '1' />", "<Qty\tv\n=\r'1'\n>", "</Qty v=\"1\">", "</ Qty>", "</Qty >", "</Qty\n>", "</Qty/>", "</>", "<>",
+    "</1>", "<:a/>", "<-a/>", "<1a/>", "<a:b:c/>", "<a:/>", "<_/>", "<ä/>", "<a ä=\"\"/>", "<Qty :v=\"1\"/>", "<Qty v=\"1\" v=\"1\"/>",
+    "<x v='1' w='2' v='3'/>", "<Qty=\"1\"/>", "<Qty v==\"1\"/>", "<Qty v=\"1\"", "<Qty v=\"1", "<Qty", "<Qty /", "<Interval/>", "<Period/>",
+    "<CostTimeSeries/>", "<NetworkConstraintTimeSeries/>", "<NetworkConstraintTimeSeries a=''>", "<DocStatus v=\"A13\"/>",
+    "<ScheduleTimeSeries a=\"\">", "<Interval a='1'>", "<Period a='1'>", "</Interval>", "</Period>",
 ];
 
 fn insert_item(random: &mut Random, pieces: &mut Pieces) {
@@ -762,10 +793,11 @@ fn insert_item(random: &mut Random, pieces: &mut Pieces) {
 
 const CRUMBS: &[&[u8]] = &[
     b"<", b">", b"/", b"</", b"/>", b"=", b"\"", b"'", b" ", b" ", b"\n", b"\t", b"v", b" v=\"1\"", b" w='2'", b"<!--", b"--", b"-->", b"-", b"!",
-    b"?", b"&", b"]]>", b"]", b"<?xml", b" version=\"1.0\"", b" encoding='utf-8'", b"?>", b"\xEF\xBB\xBF", b"Kostenblatt",
-    b"<Kostenblatt DtdBDEWNachrichtenVersion=\"1.0\">", b"</Kostenblatt>", b"Qty", b"a", b"0", b":", b".", b"\xC3\xA4", b"\xE2\x82\xAC", b"\x80",
-    b"<NetworkConstraintDocument DtdVersion=\"4\" DtdRelease=\"1\">", b"</NetworkConstraintDocument>", b" DtdVersion=\"4\"", b" DtdRelease='1'",
-    b"<NetworkConstraintDocument", b"\x00", b"DtdBDEWNachrichtenVersion", b"<DocumentIdentification v=\"\"", b" xmlns=\"\"", b" xsi:a=''", b"1.0",
+    b"?", b"&", b"&amp;", b"&#", b"x41;", b"&#65;", b"&#x41;", b"&lt", b";", b"#", b"]]>", b"]", b"<?xml", b" version=\"1.0\"", b" encoding='utf-8'",
+    b"?>", b"\xEF\xBB\xBF", b"Kostenblatt", b"<Kostenblatt DtdBDEWNachrichtenVersion=\"1.0\">", b"</Kostenblatt>", b"Qty", b"a", b"0", b":", b".",
+    b"\xC3\xA4", b"\xE2\x82\xAC", b"\x80", b"<NetworkConstraintDocument DtdVersion=\"4\" DtdRelease=\"1\">", b"</NetworkConstraintDocument>",
+    b" DtdVersion=\"4\"", b" DtdRelease='1'", b"<NetworkConstraintDocument", b"\x00", b"DtdBDEWNachrichtenVersion",
+    b"<DocumentIdentification v=\"\"", b" xmlns=\"\"", b" xsi:a=''", b"1.0",
 ];
 
 fn soup(random: &mut Random) -> Vec<u8> {
@@ -799,9 +831,9 @@ fn damage(random: &mut Random, bytes: &mut Vec<u8>) {
     let end = (at + random.within(1, 60)).min(bytes.len());
     match random.below(9) {
         0 => bytes[at] = random.byte(),
-        1 => bytes[at] = *random.pick(b"<>/=\"' &-!?]:.\t\n0aA"),
+        1 => bytes[at] = *random.pick(b"<>/=\"' &;#x-!?]:.\t\n0aA"),
         2 => bytes.insert(at, random.byte()),
-        3 => bytes.insert(at, *random.pick(b"<>/=\"' &-!?]:.\t\n0aA")),
+        3 => bytes.insert(at, *random.pick(b"<>/=\"' &;#x-!?]:.\t\n0aA")),
         4 => drop(bytes.remove(at)),
         5 => change_digit(random, bytes, at),
         6 => drop(bytes.drain(at..end)),

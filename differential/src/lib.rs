@@ -1,9 +1,12 @@
 //! An independent reader of document 01 as 02 changes it, totals of 02, views, and generators of documents and of tables, to be held against the proved library.
 
+pub mod digits;
 pub mod documents;
 pub mod model;
 pub mod random;
+pub mod references;
 pub mod renaming;
+pub mod respelling;
 pub mod rows;
 pub mod spelling;
 pub mod tables;

@@ -3,7 +3,9 @@
 use differential::model::{Lengths, Outcome};
 use differential::totals::{Added, Asked};
 use differential::views::Viewed;
-use lumintayag_sys::{lumintayag_convert_note, lumintayag_read_note_v2, lumintayag_read_v3, lumintayag_totals, lumintayag_views};
+use lumintayag_sys::{
+    lumintayag_convert_note, lumintayag_read_note_v2, lumintayag_read_v3, lumintayag_readable_len, lumintayag_totals, lumintayag_views,
+};
 
 /// Cells after those that are lent; none of them may change.
 const GUARD: usize = 3;
@@ -54,6 +56,11 @@ pub fn read_in(shape: u32, doc: &[u8], lengths: &Lengths) -> Result<Outcome, &'s
         return Err("returned another number than the answer's refusal");
     }
     Ok(Outcome { answer, series: lent(series, WORD)?, positions: lent(positions, WORD)?, amounts: lent(amounts, LONG)?, note: lent(note, BYTE)? })
+}
+
+pub fn readable_len(doc: &[u8]) -> usize {
+    // The length is the document's.
+    unsafe { lumintayag_readable_len(doc.as_ptr(), doc.len()) }
 }
 
 /// The refusal and `cells` cells with the numbers of a note.

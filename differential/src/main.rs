@@ -4,6 +4,7 @@
 //!
 //! All that is lent is full of a pattern, so that a cell which was not cleared shows; cells past the lent ones have to keep it.
 
+use differential::digits::other_digits;
 use differential::documents::{document, shape, Document};
 use differential::model::{self, Lengths, Outcome};
 use differential::random::Random;
@@ -26,6 +27,10 @@ struct Tally {
     notes: notes::Tally,
     renamed: u64,
     renamed_taken: u64,
+    /// Documents with other digits of prices, those accepted, and those accepted that have a reference in a value of Qty.
+    digits: [u64; 3],
+    /// Accepted documents with a reference, and the references in them.
+    referring: [u64; 2],
     bytes: u64,
     /// Tables of accepted documents that were added up, those refused with 17; and of generated tables 0, 17 and 18.
     documents_added: [u64; 2],
@@ -50,6 +55,8 @@ fn main() -> ExitCode {
         notes: notes::Tally::default(),
         renamed: 0,
         renamed_taken: 0,
+        digits: [0; 3],
+        referring: [0; 2],
         bytes: 0,
         documents_added: [0; 2],
         tables: [0; 3],
@@ -62,6 +69,7 @@ fn main() -> ExitCode {
         if !same_reading(&made, seed, number, &mut tally)
             || !notes::same(seed, number, &mut tally.notes)
             || !same_renamed(&made, seed, number, &mut tally)
+            || !same_digits(&made, seed, number, &mut tally)
             || !same_tables(seed, number, &mut tally)
             || !same_views(&made, seed, number, &mut tally)
         {
@@ -81,6 +89,11 @@ fn print_tally(count: u64, edges: usize, tally: &Tally) {
     println!("{edges} notes at the edges");
     println!("{} notes: {} old, {} new", tally.notes.all, tally.notes.old, tally.notes.new);
     println!("{} documents with other identifications, {} accepted", tally.renamed, tally.renamed_taken);
+    println!(
+        "{} documents with other digits of prices, {} accepted, {} of them with references in amounts",
+        tally.digits[0], tally.digits[1], tally.digits[2]
+    );
+    println!("{} accepted documents have references, {} in all", tally.referring[0], tally.referring[1]);
     println!("tables of accepted documents: {} added up, refusal 17: {}", tally.documents_added[0], tally.documents_added[1]);
     println!("generated tables: {} added up, refusal 17: {}, 18: {}", tally.tables[0], tally.tables[1], tally.tables[2]);
     let refused: Vec<String> = tally.views.iter().enumerate().skip(1).map(|(number, many)| format!("{number}: {many}")).collect();
@@ -106,27 +119,30 @@ impl Call<'_> {
 
     fn differs(&self, expected: &Outcome) -> bool {
         match self.by_library() {
-            Ok(outcome) => outcome != *expected || !read_back(&outcome),
+            Ok(outcome) => outcome != *expected || !read_back(&outcome) || library::readable_len(self.doc) != model::readable_len(self.doc),
             Err(_) => true,
         }
     }
 
     fn print_both(&self) {
-        println!("model:   {:?}", self.by_model());
+        println!("model:   {:?}, readable up to {}", self.by_model(), model::readable_len(self.doc));
         match self.by_library() {
-            Ok(outcome) => println!("library: {outcome:?}"),
+            Ok(outcome) => println!("library: {outcome:?}, readable up to {}", library::readable_len(self.doc)),
             Err(broken) => println!("library: {broken}"),
         }
     }
 }
 
-/// The answer, all cells, the note, and the note read back; of an accepted document the totals too.
+/// The answer, all cells, the note, the note read back, and how far the document is readable; of an accepted document the totals too.
 fn same_reading(made: &Document, seed: u64, number: u64, tally: &mut Tally) -> bool {
     let call = Call { doc: &made.bytes, lengths: &made.lengths, shape: shape(seed, number) };
     let expected = call.by_model();
     tally.bytes += made.bytes.len() as u64;
     tally.refusals[expected.answer[0] as usize] += 1;
     tally.kinds[expected.answer[2] as usize] += u64::from(expected.answer[0] == 0);
+    let references = if expected.answer[0] == 0 { model::references(&made.bytes) } else { 0 };
+    tally.referring[0] += u64::from(references > 0);
+    tally.referring[1] += references as u64;
     if !call.differs(&expected) {
         return expected.answer[0] != 0 || same_totals_of(&expected, seed, number, tally);
     }
@@ -254,4 +270,38 @@ fn same_renamed(made: &Document, seed: u64, number: u64, tally: &mut Tally) -> b
     println!("difference: seed {seed}, number {number}, identifications replaced\nbefore: {first:?}\nafter:  {second:?}");
     println!("before: {}\nafter:  {}", made.bytes.escape_ascii(), other.escape_ascii());
     false
+}
+
+/// Of how many documents one is read with other digits.
+const DIGITS: u64 = 3;
+
+/// Demand 3: with other readable Qty digits the library leaves the same but for amounts, and those are the model's.
+fn same_digits(made: &Document, seed: u64, number: u64, tally: &mut Tally) -> bool {
+    let random = &mut Random::new(seed ^ 0x6469_6769, number);
+    if number % DIGITS != 0 {
+        return true;
+    }
+    let Some(other) = other_digits(random, &made.bytes) else { return true };
+    let call = |doc| Call { doc, lengths: &made.lengths, shape: shape(seed, number) };
+    let (first, second) = (call(&made.bytes).by_model(), call(&other).by_library());
+    tally.digits[0] += 1;
+    tally.digits[1] += u64::from(first.answer[0] == 0);
+    tally.digits[2] += u64::from(first.answer[0] == 0 && refers_in_amounts(&made.bytes));
+    let alike = second.as_ref().is_ok_and(|second| Outcome { amounts: second.amounts.clone(), ..first.clone() } == *second);
+    let cells = lent(seed, number, &made.bytes)[0];
+    if alike
+        && !call(&other).differs(&call(&other).by_model())
+        && library::view(&made.bytes, cells.0, cells.1) == library::view(&other, cells.0, cells.1)
+    {
+        return true;
+    }
+    println!("difference: seed {seed}, number {number}, other digits\nbefore: {first:?}\nafter:  {second:?}");
+    println!("before: {}\nafter:  {}", made.bytes.escape_ascii(), other.escape_ascii());
+    false
+}
+
+fn refers_in_amounts(doc: &[u8]) -> bool {
+    const QTY: &[u8] = b"<Qty";
+    let tags = doc.windows(QTY.len()).enumerate().filter(|(_, part)| *part == QTY);
+    tags.into_iter().any(|(at, _)| doc[at..].iter().take_while(|b| **b != b'>').any(|b| *b == b'&'))
 }

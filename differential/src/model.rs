@@ -1,5 +1,6 @@
 //! A reader of document 01 as 02 changes it, written from the papers alone, in the order of 01.
 
+use crate::references::{meaning, spaces_dropped, units};
 use crate::rows::{Attribute, Form, Row, Task, ROOTS};
 use std::collections::BTreeSet;
 use std::ops::Range;
@@ -119,15 +120,17 @@ fn quoted_at(doc: &[u8], at: usize) -> Option<Range<usize>> {
     Some(at + 1..at + 1 + length)
 }
 
-/// "no `&` anywhere but in a comment; no tab, CR or LF inside an attribute value", no `<` in a value.
-fn value_readable(value: &[u8]) -> bool {
-    !value.iter().any(|b| matches!(b, b'<' | b'&' | b'\t' | b'\r' | b'\n')) && xml_characters(value)
+/// "no tab, CR or LF inside an attribute value", no `<` in a value; an `&` begins one of K4's references: "2 for any other reference".
+fn value_readable(doc: &[u8], value: Range<usize>) -> bool {
+    let bytes = part(doc, value.clone());
+    let refers = bytes.contains(&b'&');
+    !bytes.iter().any(|b| matches!(b, b'<' | b'\t' | b'\r' | b'\n')) && xml_characters(bytes) && (!refers || units(doc, value).is_some())
 }
 
 fn attribute_at(doc: &[u8], at: usize) -> Option<Given<'_>> {
     let name = name_at(doc, at)?;
     let value = quoted_at(doc, after_equals(doc, at + name.len())?)?;
-    if value_readable(part(doc, value.clone())) {
+    if value_readable(doc, value.clone()) {
         Some(Given { name, value })
     } else {
         None
@@ -261,34 +264,59 @@ fn first_item(doc: &[u8]) -> Result<usize, usize> {
     }
 }
 
-/// K12: "the TimeSeriesIdentification values in tags before the first unreadable item", due or not: where the bytes between the quotes of `v` are.
-pub fn identifications(doc: &[u8]) -> Vec<Range<usize>> {
+/// What is found in the start and empty tags before the first unreadable item, due or not, by their names and attributes.
+fn in_tags<T>(doc: &[u8], mut find: impl FnMut(&[u8], Vec<Given>) -> Vec<T>) -> Vec<T> {
     let mut found = Vec::new();
     let mut at = first_item(doc).unwrap_or(doc.len());
     while at < doc.len() {
         let Some((item, after)) = item_at(doc, at) else { break };
         if let Item::Tag { name, attributes, .. } = item {
-            if name == b"TimeSeriesIdentification" {
-                found.extend(attributes.into_iter().filter(|given| given.name == b"v").map(|given| given.value));
-            }
+            found.extend(find(name, attributes));
         }
         at = after;
     }
     found
 }
 
-// ---------------------------------------------------------------- Forms of values
-
-fn spaces_dropped(doc: &[u8], value: Range<usize>) -> Range<usize> {
-    let bytes = part(doc, value.clone());
-    let leading = bytes.iter().take_while(|b| **b == b' ').count();
-    let trailing = bytes.iter().rev().take_while(|b| **b == b' ').count();
-    if leading == bytes.len() {
-        value.end..value.end
-    } else {
-        value.start + leading..value.end - trailing
-    }
+/// Where the bytes between the quotes of `v` are in each such tag of a name.
+fn values_of(doc: &[u8], wanted: &[u8]) -> Vec<Range<usize>> {
+    in_tags(doc, |name, attributes| {
+        let own = attributes.into_iter().filter(|given| name == wanted && given.name == b"v");
+        own.map(|given| given.value).collect()
+    })
 }
+
+/// How many references are in the values of all such tags.
+pub fn references(doc: &[u8]) -> usize {
+    let values = in_tags(doc, |_, attributes| attributes.into_iter().map(|given| given.value).collect());
+    values.into_iter().map(|value| part(doc, value).iter().filter(|b| **b == b'&').count()).sum()
+}
+
+/// The place of the first unreadable item, or the length.
+pub fn readable_len(doc: &[u8]) -> usize {
+    let mut at = match first_item(doc) {
+        Ok(at) => at,
+        Err(place) => return place,
+    };
+    while at < doc.len() {
+        let Some((_, after)) = item_at(doc, at) else { return at };
+        at = after;
+    }
+    at
+}
+
+/// K12: "the TimeSeriesIdentification values in tags before the first unreadable item".
+pub fn identifications(doc: &[u8]) -> Vec<Range<usize>> {
+    values_of(doc, b"TimeSeriesIdentification")
+}
+
+/// The readable Qty digits: "digits inside a reference no longer count among" them.
+pub fn qty_digits(doc: &[u8]) -> Vec<usize> {
+    let all = values_of(doc, b"Qty").into_iter().filter_map(|value| units(doc, value)).flatten();
+    all.filter(|unit| unit.place.len() == 1 && unit.says.is_ascii_digit()).map(|unit| unit.place.start).collect()
+}
+
+// ---------------------------------------------------------------- Forms of values
 
 fn all_digits(bytes: &[u8]) -> bool {
     bytes.iter().all(u8::is_ascii_digit)
@@ -487,14 +515,14 @@ struct Open {
 /// What kind 3 asks of its series together: "one or two of BusinessType A77, two only with different Direction, and at least one B59", or with DocStatus
 /// "at most one series".
 #[derive(Default)]
-struct Constraints<'d> {
+struct Constraints {
     doc_status: bool,
     /// How many series are A77 and B59, and whether the one at hand is A77.
     a77: usize,
     b59: usize,
     at_a77: bool,
-    /// The Directions of the A77 series, spaces dropped.
-    directions: Vec<&'d [u8]>,
+    /// What the Directions of the A77 series say, spaces dropped.
+    directions: Vec<Vec<u8>>,
 }
 
 struct Reading<'d> {
@@ -506,12 +534,14 @@ struct Reading<'d> {
     /// Start tags and end tags in items before the one at hand.
     starts: u32,
     ends: u32,
-    /// The value of TimePeriodCovered and its length divided by 15 minutes.
-    covered: &'d [u8],
+    /// What TimePeriodCovered says, and its length divided by 15 minutes.
+    covered: Vec<u8>,
     n: u32,
     originals: usize,
     last_pos: u32,
-    constraints: Constraints<'d>,
+    constraints: Constraints,
+    /// What the identifications of the series say.
+    identifications: BTreeSet<Vec<u8>>,
     series: Vec<[u32; ROW]>,
     positions: Vec<u32>,
     amounts: Vec<i64>,
@@ -558,11 +588,12 @@ impl<'d> Reading<'d> {
             open: Vec::new(),
             starts: 0,
             ends: 0,
-            covered: &[],
+            covered: Vec::new(),
             n: 0,
             originals: 0,
             last_pos: 0,
             constraints: Constraints::default(),
+            identifications: BTreeSet::new(),
             series: Vec::new(),
             positions: Vec::new(),
             amounts: Vec::new(),
@@ -632,7 +663,7 @@ impl<'d> Reading<'d> {
     fn against_series(&self, row: &Row, attributes: &[Given]) -> bool {
         let before = &self.constraints;
         let value = row.attributes.first().and_then(|wanted| self.value(wanted, attributes)).unwrap_or(0..0);
-        let said = part(self.doc, value);
+        let said = meaning(self.doc, value);
         self.kind == 3
             && match row.task {
                 Task::Series => before.doc_status && !self.series.is_empty(),
@@ -674,7 +705,7 @@ impl<'d> Reading<'d> {
     fn value_fault(&self, row: &Row, attributes: &[Given]) -> u32 {
         let faults = row.attributes.iter().filter_map(|wanted| {
             let value = self.value(wanted, attributes)?;
-            Some(self.fault(wanted.form, part(self.doc, value)))
+            Some(self.fault(wanted.form, &meaning(self.doc, value)))
         });
         faults.filter(|fault| *fault > 0).min().unwrap_or(0)
     }
@@ -689,6 +720,7 @@ impl<'d> Reading<'d> {
         }
     }
 
+    /// "Lengths, forms and codes are judged on what the reference stands for": a value is here what it says.
     fn fault(&self, form: Form, value: &[u8]) -> u32 {
         match form {
             Form::Fixed(fixed) => unless(value == fixed.as_bytes(), 6),
@@ -713,10 +745,8 @@ impl<'d> Reading<'d> {
         if !is_identification(value) {
             return 6;
         }
-        // The last row is that of the series at hand, whose identification is not yet there.
-        let earlier = self.series.len().saturating_sub(1);
-        let used = self.series.iter().take(earlier).any(|row| part(self.doc, view(row[0], row[1])) == value);
-        unless(!used, 9)
+        // "two identifications are equal when their meanings are"
+        unless(!self.identifications.contains(value), 9)
     }
 
     fn covered_fault(&self, value: &[u8]) -> u32 {
@@ -745,33 +775,36 @@ impl<'d> Reading<'d> {
     /// What an element without a fault leaves behind.
     fn take(&mut self, row: &Row, attributes: &[Given]) {
         let value = row.attributes.first().and_then(|wanted| self.value(wanted, attributes)).unwrap_or(0..0);
-        let bytes = part(self.doc, value.clone());
+        let said = meaning(self.doc, value.clone());
         match row.task {
             Task::Nothing => {}
             Task::Root => self.kind = ROOTS.iter().zip(1..).find(|(root, _)| root.name == row.name).map_or(0, |(_, kind)| kind),
-            Task::Covered => self.take_covered(bytes),
+            Task::Covered => self.take_covered(said),
             Task::Series => self.take_series(),
-            Task::SeriesIdentification => self.set_view(0, value),
+            Task::SeriesIdentification => {
+                self.set_view(0, value);
+                self.identifications.insert(said);
+            }
             Task::Object => self.set_view(2, value),
             Task::DocStatus => self.constraints.doc_status = true,
             Task::BusinessType => {
                 self.set_view(4, value);
-                self.constraints.at_a77 = bytes == b"A77";
-                self.constraints.a77 += usize::from(bytes == b"A77");
-                self.constraints.b59 += usize::from(bytes == b"B59");
+                self.constraints.at_a77 = said == b"A77";
+                self.constraints.a77 += usize::from(said == b"A77");
+                self.constraints.b59 += usize::from(said == b"B59");
             }
             Task::Direction => {
                 self.set_view(6, value);
                 if self.constraints.at_a77 {
-                    self.constraints.directions.push(bytes);
+                    self.constraints.directions.push(said);
                 }
             }
             Task::Area => self.set_view(8, value),
             Task::Original => self.originals += 1,
             Task::Period => self.last_pos = 0,
             Task::Interval => self.take_interval(),
-            Task::Pos => self.take_pos(plain_number(bytes, 5).unwrap_or(0)),
-            Task::Qty => self.take_amount(amount(bytes).unwrap_or(0)),
+            Task::Pos => self.take_pos(plain_number(&said, 5).unwrap_or(0)),
+            Task::Qty => self.take_amount(amount(&said).unwrap_or(0)),
         }
     }
 
@@ -787,8 +820,8 @@ impl<'d> Reading<'d> {
         }
     }
 
-    fn take_covered(&mut self, value: &'d [u8]) {
-        let (start, end) = interval(value).unwrap_or((0, 0));
+    fn take_covered(&mut self, value: Vec<u8>) {
+        let (start, end) = interval(&value).unwrap_or((0, 0));
         self.period = (start, end);
         self.n = u32::try_from((end - start) / 15).unwrap_or(0);
         self.covered = value;
@@ -857,10 +890,6 @@ impl Open {
         let enough = rest.next().is_none_or(|row| self.count >= row.least);
         enough && rest.all(|row| row.least == 0)
     }
-}
-
-fn view(start: u32, length: u32) -> Range<usize> {
-    start as usize..start as usize + length as usize
 }
 
 /// "attribute missing or unknown"; "On the root, attributes named `xmlns` or beginning `xmlns:` or `xsi:` are passed over."

@@ -2,6 +2,7 @@
 
 use crate::documents::{Piece, Tag};
 use crate::random::Random;
+use crate::respelling::respelled;
 
 /// Each number tells how rarely a thing is done: 0 is never, 1 always.
 pub struct Style {
@@ -12,16 +13,31 @@ pub struct Style {
     pub shuffle: usize,
     pub white_in_tag: usize,
     pub start_and_end: usize,
+    /// Characters of values by reference, and whether those of series identifications are among them: K12 asks for some that are not.
+    pub references: usize,
+    pub in_identifications: bool,
 }
 
 impl Style {
     pub const fn plain() -> Style {
-        Style { prolog: 0, between: 0, comment: 0, single_quotes: 0, shuffle: 0, white_in_tag: 0, start_and_end: 0 }
+        Style {
+            prolog: 0,
+            between: 0,
+            comment: 0,
+            single_quotes: 0,
+            shuffle: 0,
+            white_in_tag: 0,
+            start_and_end: 0,
+            references: 0,
+            in_identifications: false,
+        }
     }
 
     pub fn any(random: &mut Random) -> Style {
+        let references = random.one_of(&[0, 0, 0, 0, 0, 1, 3, 10, 60]);
+        let in_identifications = random.one_in(2);
         if random.one_in(3) {
-            return Style::plain();
+            return Style { references, in_identifications, ..Style::plain() };
         }
         Style {
             prolog: random.one_of(&[0, 1, 2]),
@@ -31,6 +47,8 @@ impl Style {
             shuffle: random.one_of(&[0, 1, 2]),
             white_in_tag: random.one_of(&[0, 0, 5, 30]),
             start_and_end: random.one_of(&[0, 1, 2, 10]),
+            references,
+            in_identifications,
         }
     }
 }
@@ -41,8 +59,8 @@ fn happens(random: &mut Random, rarely: usize) -> bool {
 
 const WHITE: &[&[u8]] = &[b" ", b"\n", b"\r\n", b"\t", b"\n  ", b" \t\r\n", b"\n\n"];
 const COMMENTS: &[&str] = &[
-    "<!---->", "<!-- a -->", "<!--->-->", "<!--<Qty v=\"1\"/>-->", "<!--&]]>\n\t-->", "<!--ä€𝄞-->", "<!-- - - -->", "<!--<Direction v=\"A02\"/>-->",
-    "<!-- <MeasurementUnit v=' Z03'/> -->", "<!--<SenderRole v=\"A18\"/>-->",
+    "<!---->", "<!-- a -->", "<!--->-->", "<!--<Qty v=\"1\"/>-->", "<!--&]]>\n\t-->", "<!--&bad;&#0;-->", "<!--ä€𝄞-->", "<!-- - - -->",
+    "<!--<Direction v=\"A02\"/>-->", "<!-- <MeasurementUnit v=' Z03'/> -->", "<!--<SenderRole v=\"A18\"/>-->",
 ];
 const MARKS: &[&str] = &[
     "<?xml version=\"1.0\"?>", "<?xml version='1.0' encoding='UTF-8'?>", "<?xml version=\"1.0\" encoding='utf-8'?>",
@@ -56,7 +74,8 @@ const BAD_MARKS: &[&str] = &[
     "<?xml version=\"1.0\" encoding=\"ISO-8859-1\"?>", "<?xml version=\"1.0\" encoding=\"\"?>", "<?xml version=\" 1.0\"?>", "<?xmlversion=\"1.0\"?>",
     "<?xml version=\"1.0\"? >", "<?xml version=\"1.0\" ENCODING=\"UTF-8\"?>", "<?xml version=\"1.0\">", "<?xml ?>", " <?xml version=\"1.0\"?>",
     "<!----><?xml version=\"1.0\"?>", "<?xml version=1.0?>", "<?xml-stylesheet version=\"1.0\"?>", "<?xml version=\"1.0\" encoding=\"UTF-8 \"?>",
-    "\u{FEFF}", "<?xml version=\"1.0\"?><?xml version=\"1.0\"?>", "<?xml Version=\"1.0\"?>",
+    "<?xml version=\"1&#46;0\"?>", "<?xml version='1.0' encoding='UTF&#45;8'?>", "<?xml version='1.0' encoding='&amp;'?>", "\u{FEFF}",
+    "<?xml version=\"1.0\"?><?xml version=\"1.0\"?>", "<?xml Version=\"1.0\"?>",
 ];
 
 pub fn spelled(random: &mut Random, pieces: &[Piece], style: &Style) -> Vec<u8> {
@@ -139,10 +158,16 @@ fn put_tag(random: &mut Random, style: &Style, tag: &Tag, out: &mut Vec<u8>) {
     out.push(b'<');
     out.extend_from_slice(&tag.name);
     let count = tag.attributes.len();
+    let referring = style.references > 0 && (style.in_identifications || tag.name != b"TimeSeriesIdentification");
     let turn = if count > 1 && happens(random, style.shuffle) { random.below(count) } else { 0 };
     for at in 0..count {
         let (name, value) = &tag.attributes[(at + turn) % count];
-        put_attribute(random, style, name, value, out);
+        if referring {
+            let value = respelled(random, value, style.references);
+            put_attribute(random, style, name, &value, out);
+        } else {
+            put_attribute(random, style, name, value, out);
+        }
     }
     put_white(random, style, out);
 }

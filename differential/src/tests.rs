@@ -8,6 +8,9 @@ use crate::tables::tables;
 use crate::totals::{add_up, causes, Asked, Cause, CAUSES, MOST_SERIES, TOO_LARGE};
 use crate::views::{lent, view, Viewed, HEADER_CELLS, SERIES_CELLS};
 
+mod references;
+mod samples;
+
 const ROOM: Lengths = Lengths { series: 64 * ROW, positions: 2048, amounts: 2048, note: 16 };
 const ROOT: &str = "<Kostenblatt DtdBDEWNachrichtenVersion=\"1.0\">";
 
@@ -543,7 +546,7 @@ fn generated() {
 #[test]
 fn identifications_replaced() {
     let mut many = 0;
-    for number in 0..3000 {
+    for number in 0..5000 {
         let made = document(7, number);
         let Some(other) = renamed(&mut Random::new(7, number), &made.bytes) else { continue };
         let places = identifications(&made.bytes);

@@ -2,6 +2,7 @@
 
 use crate::model::{last_sunday, midnight};
 use crate::random::Random;
+use crate::respelling::{misspelled, NEEDED};
 use crate::rows::{Form, AREAS};
 
 /// What the values of one document have in common.
@@ -147,16 +148,18 @@ fn grid_element(random: &mut Random) -> Vec<u8> {
 }
 
 fn text(random: &mut Random, length: usize) -> Vec<u8> {
-    let wide = random.one_in(3);
+    let (wide, referring) = (random.one_in(3), random.one_in(6));
     let mut value = Vec::new();
     for _ in 0..length {
-        if wide && random.one_in(2) {
+        if referring && random.one_in(3) {
+            value.extend_from_slice(random.pick(NEEDED).as_bytes());
+        } else if wide && random.one_in(2) {
             value.extend_from_slice(random.pick(WIDE).as_bytes());
         } else {
             value.push(*random.pick(NARROW));
         }
     }
-    if random.one_in(8) && !value.is_empty() && value[0] < 128 {
+    if random.one_in(8) && value.first().is_some_and(|b| *b < 128 && *b != b'&') {
         value[0] = *random.pick(b"\"' ");
     }
     value
@@ -237,7 +240,7 @@ pub fn changed(random: &mut Random, value: &[u8]) -> Vec<u8> {
 
 /// A value that most often is not of the form.
 pub fn wrong(random: &mut Random, form: Form, plan: &Plan) -> Vec<u8> {
-    match random.below(8) {
+    match random.below(10) {
         0..=3 => known_wrong(random, form, plan),
         4..=5 => {
             let value = right(random, form, plan);
@@ -246,6 +249,10 @@ pub fn wrong(random: &mut Random, form: Form, plan: &Plan) -> Vec<u8> {
         6 => {
             let value = right(random, form, plan);
             spaced(random, &value)
+        }
+        7 | 8 => {
+            let value = right(random, form, plan);
+            misspelled(random, &value)
         }
         _ => {
             let forms =

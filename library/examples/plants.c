@@ -3,7 +3,8 @@
  * usage: plants [QUARTER]     the quarter hour, of which 1 is the first of TimePeriodCovered; else each one in which a price changes
  *
  * A price is ranked beside those of the same BusinessType, Direction, MeasurementUnit and area of a Kostenblatt alone; `-` stands for a Direction or an
- * area that a series does not have. The unit (euros per piece, per megawatt hour or per hour) and the times are shown by lumintayag_views.
+ * area that a series does not have. The unit (euros per piece, per megawatt hour or per hour) and the times are shown by lumintayag_views. A value may hold
+ * references, so that it is compared and printed by what it says.
  */
 #include <inttypes.h>
 #include <stdio.h>
@@ -34,7 +35,7 @@ static const char sheet[] =
     PLANT("Neckar, down", "A01", DOWN, SOUTH, "C0000000017", "Z02", FROM("1", "-40") FROM("41", "12.5"))
     PLANT("Neckar, start", "Z01", UP, SOUTH, "C0000000017", "Z01", FROM("1", "1250"))
     PLANT("Neckar, hour", "Z02", "", SOUTH, "C0000000017", "Z03", FROM("1", "310"))
-    PLANT("Isar, up", "A01", UP, SOUTH, "C0000000025", "Z02", FROM("1", "72"))
+    PLANT("Isar &amp; Amper, up", "A0&#49;", UP, SOUTH, "C0000000025", "Z02", FROM("1", "72"))
     PLANT("Isar, down", "A01", DOWN, SOUTH, "C0000000025", "Z02", FROM("1", "3.25"))
     PLANT("Isar, start", "Z01", UP, SOUTH, "C0000000025", "Z01", FROM("1", "980") FROM("41", "1400.5"))
     PLANT("Oste, up", "A01", UP, NORTH, "C0000000033", "Z02", FROM("1", "55.125") FROM("41", "-3.75") FROM("57", "120.001"))
@@ -52,12 +53,39 @@ static uint32_t views[PAIRS], told[LUMINTAYAG_VIEWS_NUMBERS];
 /* A series by its number, and its price. */
 struct offer { uint32_t i; int64_t price; };
 
-/* By what pair k shows of two series. */
+/* What a value says, at most 36 characters in UTF-8. */
+struct said { size_t length; char text[4 * 36]; };
+
+/* The character of the reference at the front: every `&` in a value of an accepted document begins one. */
+static unsigned long referenced(const char *s) {
+    if (s[1] == '#') return strtoul(s + (s[2] == 'x' ? 3 : 2), NULL, s[2] == 'x' ? 16 : 10);
+    return s[1] == 'l' ? '<' : s[1] == 'g' ? '>' : s[1] == 'q' ? '"' : s[2] == 'm' ? '&' : '\'';
+}
+
+static void put_character(struct said *to, unsigned long c) {
+    int more = c < 0x80 ? 0 : c < 0x800 ? 1 : c < 0x10000 ? 2 : 3;
+    to->text[to->length++] = (char)(more == 0 ? c : (0xF0u << (3 - more) & 0xFF) | c >> 6 * more);
+    while (more-- > 0) to->text[to->length++] = (char)(0x80 | (c >> 6 * more & 0x3F));
+}
+
+/* What pair k of a series says, `-` where it is absent: a value that starts at 0. */
+static struct said said_by(int k, uint32_t i) {
+    const uint32_t *pair = views + LUMINTAYAG_PAIR(k, i);
+    const char *s = pair[0] == 0 ? "-" : sheet + pair[0], *end = s + (pair[0] == 0 ? 1 : pair[1]);
+    struct said said = {0, ""};
+    for (; s < end; s++) {
+        if (*s != '&') said.text[said.length++] = *s;
+        else put_character(&said, referenced(s)), s = strchr(s, ';');
+    }
+    return said;
+}
+
+/* By what pair k says of two series; one that is absent comes first. */
 static int by_view(uint32_t i, uint32_t j, int k) {
-    const uint32_t *a = views + LUMINTAYAG_PAIR(k, i), *b = views + LUMINTAYAG_PAIR(k, j);
-    uint32_t n = a[1], m = b[1];
-    int order = memcmp(sheet + a[0], sheet + b[0], n < m ? n : m);
-    return order != 0 ? order : (n > m) - (n < m);
+    int absent = (views[LUMINTAYAG_PAIR(k, j)] == 0) - (views[LUMINTAYAG_PAIR(k, i)] == 0);
+    struct said a = said_by(k, i), b = said_by(k, j);
+    int order = memcmp(a.text, b.text, a.length < b.length ? a.length : b.length);
+    return absent != 0 ? absent : order != 0 ? order : (a.length > b.length) - (a.length < b.length);
 }
 
 static const int like[] = {LUMINTAYAG_VIEW_2_BUSINESS_TYPE, LUMINTAYAG_VIEW_2_DIRECTION, LUMINTAYAG_VIEW_2_MEASUREMENT_UNIT, LUMINTAYAG_VIEW_2_CONNECTING_AREA};
@@ -90,11 +118,9 @@ static void print_time(uint32_t minutes) {
            minutes % 60);
 }
 
-/* A value that starts at 0 is absent. */
 static void print_view(int k, uint32_t i) {
-    const uint32_t *pair = views + LUMINTAYAG_PAIR(k, i);
-    if (pair[0] == 0) printf("-");
-    else printf("%.*s", (int)pair[1], sheet + pair[0]);
+    struct said said = said_by(k, i);
+    printf("%.*s", (int)said.length, said.text);
 }
 
 static void print_offer(struct offer o) {

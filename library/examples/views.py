@@ -4,10 +4,11 @@
 usage: views.py [LIBRARY]     liblumintayag.so where the loader finds it, if not said
 """
 import ctypes
+import re
 import sys
 from datetime import datetime, timedelta
 
-VERSION, HEADER_PAIRS, SERIES_PAIRS, VIEWS_NUMBERS = 600, 16, 22, 6  # lumintayag.h
+VERSION, HEADER_PAIRS, SERIES_PAIRS, VIEWS_NUMBERS = 700, 16, 22, 6  # lumintayag.h
 REFUSAL, PLACE, KIND, SERIES, FROM, TO = range(6)
 DOCUMENT, SENDER = 3, 7
 TIME_SERIES_IDENTIFICATION, BUSINESS_TYPE = 16, 17
@@ -26,12 +27,20 @@ table, answer = (ctypes.c_uint32 * (2 * (HEADER_PAIRS + 64 * SERIES_PAIRS)))(), 
 
 
 def shown(pair, series=0):
-    """What a pair shows, and `-` where the document has no such value."""
+    """What the value that a pair shows says, and `-` where the document has none."""
     if pair is None:
         return "-"
     cell = 2 * (pair + SERIES_PAIRS * series)
     start, length = table[cell], table[cell + 1]
-    return doc[start : start + length].decode() if start else "-"
+    return re.sub("&([^;]*);", said, doc[start : start + length].decode()) if start else "-"
+
+
+def said(reference):
+    """The character of a reference, of which an accepted document has no others."""
+    name = reference[1]
+    if name.startswith("#"):
+        return chr(int(name[2:], 16) if name[1] == "x" else int(name[1:].lstrip("0")))
+    return {"amp": "&", "lt": "<", "gt": ">", "quot": '"', "apos": "'"}[name]
 
 
 def time(minutes):

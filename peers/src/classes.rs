@@ -1,6 +1,7 @@
 //! Where 01 is narrower than XML 1.0 and the schemas: why the reader refuses what the peers take.
 
 use crate::library::Answer;
+use differential::references::reference;
 
 fn is_white(b: u8) -> bool {
     matches!(b, b' ' | b'\t' | b'\r' | b'\n')
@@ -59,15 +60,19 @@ pub fn cut(doc: &[u8], place: usize) -> Option<&'static str> {
         return text.contains(&b'&').then_some("& in a text");
     }
     let tag = spelled(item);
-    if tag.values.contains(&b'&') {
-        Some("& in a value")
-    } else if tag.values.iter().any(|b| matches!(b, b'\t' | b'\r' | b'\n')) {
+    if tag.values.iter().any(|b| matches!(b, b'\t' | b'\r' | b'\n')) {
         Some("tab, CR or LF in a value")
     } else if has_odd_name(&tag.outside) {
         Some("name that is not ASCII or begins with a colon")
     } else {
         None
     }
+}
+
+/// Whether a value has a tab, CR or LF by reference, which the collapse of XML Schema drops at an end as it drops spaces, and 01 does not.
+fn refers_to_white(values: &[u8]) -> bool {
+    let begins = (0..values.len()).filter(|at| values[*at] == b'&');
+    begins.filter_map(|at| reference(&values[at..])).any(|(says, _)| matches!(says, '\t' | '\r' | '\n'))
 }
 
 /// Why a document is refused that is well-formed to both peers and that the schema takes; None where 01 has no reason.
@@ -80,6 +85,7 @@ pub fn why(doc: &[u8], answer: Answer) -> Option<&'static str> {
             let declares = tag.outside.windows(6).any(|six| is_white(six[0]) && &six[1..] == b"xmlns");
             declares.then_some("namespace declared on an element that is not the root: to 01 an unknown attribute")
         }
+        6 | 7 if refers_to_white(&spelled(doc.get(answer.place..)?).values) => Some("tab, CR or LF by reference at the end of a collapsed value"),
         8 => Some("rule between values: periods, Pos, counts, Originals, the series of kind 3"),
         9 => Some("TimeSeriesIdentification used before"),
         _ => None,

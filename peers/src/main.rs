@@ -21,7 +21,7 @@ mod views;
 
 use library::Answer;
 use libxml::{Schema, Tree};
-use tags::passed_over;
+use tags::{few_zeros, passed_over};
 
 const USAGE: &str = "usage: peers SCHEMAS SAMPLES COUNT [SEED]";
 const ROOTS: [&str; 3] = ["Beschaffungsanforderung", "Kostenblatt", "NetworkConstraintDocument"];
@@ -80,13 +80,14 @@ impl Judge {
     }
 
     fn verdict(&self, doc: &[u8]) -> Verdict {
-        let tree = Tree::of(doc);
-        let odd_names = tree.is_none() && libxml::well_formed_by_names_alone(doc);
+        let short = few_zeros(doc);
+        let tree = Tree::of(&short);
+        let odd_names = tree.is_none() && libxml::well_formed_by_names_alone(&short);
         let libxml = tree.is_some() || odd_names;
         let mut schema = tree.map_or(0, |tree| self.kind(&tree));
         let plainly = schema != 0;
         if libxml && !plainly {
-            schema = Tree::of(&passed_over(doc)).map_or(0, |tree| self.kind(&tree));
+            schema = Tree::of(&passed_over(&short)).map_or(0, |tree| self.kind(&tree));
         }
         Verdict { expat: expat::well_formed(doc), libxml, odd_names, schema, passed_over: schema != 0 && !plainly }
     }

@@ -2,6 +2,7 @@
 
 use crate::tags::{tags_of, without, Tag};
 use differential::random::Random;
+use differential::respelling::{misspelled, respelled};
 use std::ops::Range;
 
 /// The element that begins with a tag, to the end of its end tag.
@@ -35,10 +36,13 @@ fn other_value(random: &mut Random, doc: &[u8], value: Range<usize>) -> Vec<u8> 
 
 fn other_attribute(random: &mut Random, doc: &[u8], tag: &Tag) -> Vec<u8> {
     let attribute = random.pick(&tag.attributes);
-    match random.below(8) {
+    let value = attribute.value.clone();
+    match random.below(10) {
         0 => without(doc, attribute.range.clone()),
         1 => with(doc, attribute.range.start, random.part(&[b" w='1'", b" V='1'", b" a:b=''"])),
-        _ => other_value(random, doc, attribute.value.clone()),
+        2 => with(&without(doc, value.clone()), value.start, &respelled(random, &doc[value.clone()], 2)),
+        3 => with(&without(doc, value.clone()), value.start, &misspelled(random, &doc[value.clone()])),
+        _ => other_value(random, doc, value),
     }
 }
 

@@ -70,6 +70,20 @@ pub fn without(doc: &[u8], range: Range<usize>) -> Vec<u8> {
     [&doc[..range.start], &doc[range.end..]].concat()
 }
 
+/// The document with at most one zero before the other digits of a reference. libxml2 2.9 takes no letter after twenty digits of one, where XML 1.0 has no bound.
+pub fn few_zeros(doc: &[u8]) -> Vec<u8> {
+    let mut less = Vec::with_capacity(doc.len());
+    let mut rest = doc;
+    while let Some(first) = rest.first() {
+        let front = [&b"&#x0"[..], b"&#0"].into_iter().find(|front| rest.starts_with(front));
+        let taken = front.map_or(1, <[u8]>::len);
+        less.extend_from_slice(if front.is_some() { &rest[..taken] } else { std::slice::from_ref(first) });
+        let zeros = if front.is_some() { rest[taken..].iter().take_while(|b| **b == b'0').count() } else { 0 };
+        rest = &rest[taken + zeros..];
+    }
+    less
+}
+
 fn is_passed_over(attribute: &[u8]) -> bool {
     let name = attribute.trim_ascii_start();
     let name = &name[..name.iter().position(|b| b" \t\r\n=".contains(b)).unwrap_or(name.len())];

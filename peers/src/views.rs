@@ -1,6 +1,7 @@
 //! What views show of an accepted document, held against the attribute values that expat tells of it.
 
 use crate::{expat, library};
+use differential::references::meaning;
 use differential::views::cell_of;
 
 const SERIES: [&str; 3] = ["ScheduleTimeSeries", "CostTimeSeries", "NetworkConstraintTimeSeries"];
@@ -21,7 +22,7 @@ fn said<'v>(element: &str, attribute: &str, value: &'v str) -> &'v str {
     }
 }
 
-/// How many values the views of an accepted document show, each of them as expat tells it; nothing where one differs, or where one more is shown.
+/// How many values the views of an accepted document show, each of them in what it says as expat tells it; nothing where one differs, or where one more is shown.
 pub fn agreed(doc: &[u8]) -> Option<u64> {
     let (kind, mut table) = library::views(doc)?;
     let (mut series, mut shown) = (0, 0);
@@ -30,7 +31,7 @@ pub fn agreed(doc: &[u8]) -> Option<u64> {
         for (attribute, value) in &element.attributes {
             let Some(cell) = cell_of(kind, series, &element.name, attribute) else { continue };
             let (start, length) = (table[cell] as usize, table[cell + 1] as usize);
-            if doc.get(start..start + length)? != said(&element.name, attribute, value).as_bytes() || start == 0 {
+            if meaning(doc, start..start + length) != said(&element.name, attribute, value).as_bytes() || start == 0 {
                 return None;
             }
             (table[cell], table[cell + 1]) = (0, 0);

@@ -68,15 +68,15 @@ fn views(doc: &[u8]) -> usize {
 
 const WALKS: &[(&str, Walk)] = &[("reader", reader), ("views", views)];
 
-type Make = fn(usize, bool) -> Vec<u8>;
+type Make = fn(usize, document::Layout) -> Vec<u8>;
 
 fn sheets() {
     let kinds: [(u32, Make); 3] = [(1, document::beschaffungsanforderung), (2, document::kostenblatt), (3, document::network_constraint_document)];
     print_head(&["kind", "layout", "bytes", "reader, ms", "views, ms", "views over reader", "views, MB/s"]);
     for (kind, make) in kinds {
-        for (layout, pretty) in [("plain", false), ("pretty-printed", true)] {
+        for (layout, of) in document::LAYOUTS {
             for (size, (series, intervals)) in [(4 << 10, (64, 2_048)), (64 << 10, (64, 2_048)), (1 << 20, MOST)] {
-                let doc = make(size, pretty);
+                let doc = make(size, of);
                 LENT.replace(lent(series, intervals));
                 assert!(reader(&doc) > 0 && views(&doc) > 0, "the document is refused");
                 let rounds = ((200 << 20) / doc.len().max(1 << 17)).max(50);

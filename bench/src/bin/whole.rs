@@ -56,7 +56,7 @@ const OLD: u32 = 0;
 /// Room for every document of 1 MiB.
 const MOST: (usize, usize) = (2_635, 23_302);
 
-type Make = fn(usize, bool) -> Vec<u8>;
+type Make = fn(usize, document::Layout) -> Vec<u8>;
 
 const WALKS: &[(&str, Walk)] = &[
     ("reader", reader),
@@ -82,9 +82,9 @@ fn lines() -> Vec<Line> {
     let kinds: [(u32, Make); 3] = [(1, document::beschaffungsanforderung), (2, document::kostenblatt), (3, document::network_constraint_document)];
     let mut lines = Vec::new();
     for (kind, make) in kinds {
-        for (layout, pretty) in [("plain", false), ("pretty-printed", true)] {
+        for (layout, of) in document::LAYOUTS {
             for (size, (series, intervals)) in SIZES {
-                let doc = make(size, pretty);
+                let doc = make(size, of);
                 LENT.replace(lent(series, intervals));
                 for (name, walk) in WALKS {
                     assert!(walk(&doc) > 0, "{name} refuses the document");

@@ -6,28 +6,23 @@ use mathlib.Core.Bool.{true, false}
 use mathlib.Core.Logic.{⊎-elim}
 use native.Mathlib.Omega.{arith}
 use lib.Dec.{eqb}
-use lib.ListN.{length, drop, take, List·getD-eq-default}
-use lib.Seq.{getD-drop}
-use borrow.Author.Tests.{le-leb, ne-eqb, eqb-true}
+use lib.ListN.{length, drop, take}
+use borrow.Author.Tests.{le-ltb, lt-ltb, ne-eqb, eqb-true}
 use Rattle.lists.proofs.Cases.{bool-cases, leb-cases, ltb-cases, eqb-cases, never, both-true}
 use Rattle.slices.specs.Bytes.{byte}
 use Rattle.slices.specs.Run.{run}
 use Rattle.slices.specs.Text.{text}
 use Rattle.slices.specs.Walk.{go, stop, walk}
+use Rattle.slices.proofs.Bytes.{byte-there, byte-drop}
 use Rattle.slices.proofs.Runs.{run-by}
-use Rattle.characters.specs.Utf8.{control, single, charAt}
-use Rattle.characters.proofs.Ascii.{char-ascii}
+use Rattle.characters.specs.Says.{met}
 use Rattle.attributes.specs.Names.{nameStart, nameByte, white}
 use Rattle.slices.specs.Part.{partOf}
-use Rattle.attributes.specs.Attribute.{quote, fit, valueNext, valueOver, value, openingFrom, opening, attributeEnd, attributeQuote, attributeName, attribute, pieceAfter, piece}
+use Rattle.attributes.specs.Attribute.{quote, plain, valueNext, valueOver, value, openingFrom, opening, attributeEnd, attributeQuote, attributeName, attribute, pieceAfter, piece}
 use Rattle.attributes.specs.declared.Value.the-variants.{Long}
 use Rattle.attributes.specs.declared.Piece.the-variants.{Attribute, Close, CloseEmpty}
+use Rattle.attributes.proofs.Values.{plain-step}
 use Rattle.attributes.specs.Short.{common, opensV, vUpto, vLen}
-
--- a byte that is not 0 is there
-pub byte-there : (t : List ℕ) (i : ℕ) {b : ℕ} → b ≡ byte t i → 0 < b → i < length t
-unfolding byte
-byte-there t i {b} e h = ⊎-elim (λ y. let f : b ≡ 0 = e ∙ List·getD-eq-default t 0 (y .0) in absurd (omega arith)) (λ d. d .0) (leb-cases (length t) i)
 
 common-in : (b : ℕ) → common b ≡ true → (0x28 ≤ b) × (b < 0x80) × (b ≡ 0x3C → ⊥)
 unfolding common
@@ -49,18 +44,18 @@ common-in b e =
     (leb-cases 0x28 b))
     (ltb-cases 0x3C b)
 
-common-step : (at b : ℕ) → common b ≡ true → valueNext 0x22 at (single b) ≡ go 1 (at + 1)
-unfolding single control fit valueNext
-common-step at b e =
+common-plain : (b : ℕ) → common b ≡ true → plain b ≡ true
+unfolding plain
+common-plain b e =
     let i = common-in b e in
-    simp (le-leb 0x20 b (omega (arith, i .0)), ne-eqb b 0x3C (i .2), ne-eqb b 0x26 (omega (arith, i .0)), ne-eqb b 0x09 (omega (arith, i .0)), ne-eqb b 0x0A (omega (arith, i .0)), ne-eqb b 0x0D (omega (arith, i .0)), ne-eqb b 0x22 (omega (arith, i .0)))
+    rw (le-ltb b 0x20 (omega (arith, i .0)), ne-eqb b 0x3C (i .2), ne-eqb b 0x26 (λ z. omega (arith, i .0, z)), lt-ltb b 0x80 (i .1))
 
-quote-step : (at : ℕ) → valueNext 0x22 at (single 0x22) ≡ stop (Long at)
-unfolding single control fit valueNext
-quote-step at = refl
+quote-plain : plain 0x22 ≡ true
+unfolding plain
+quote-plain = refl
 
 -- common bytes up to a double quote are a value
-common-value : (u : List ℕ) (at : ℕ) → byte u (run common u) ≡ 0x22 → walk charAt (valueNext 0x22) valueOver at 0 u ≡ Long (at + run common u)
+common-value : (u : List ℕ) (at : ℕ) → byte u (run common u) ≡ 0x22 → walk met (valueNext 0x22) valueOver at 0 u ≡ Long (at + run common u)
 unfolding byte walk
 common-value [] at e = absurd (omega (arith, e))
 common-value (b ∷ t) at e =
@@ -68,13 +63,13 @@ common-value (b ∷ t) at e =
     (λ y.
     let i = common-in b y in
     let n : run common (b ∷ t) ≡ suc (run common t) = run-by common b t y in
-    let step : valueNext 0x22 at (charAt (b ∷ t)) ≡ go 1 (at + 1) = ap (valueNext 0x22 at) (char-ascii (b ∷ t) (i .1)) ∙ common-step at b y in
+    let step : valueNext 0x22 at (met (b ∷ t)) ≡ go 1 (at + 1) =
+    plain-step 0x22 at (b ∷ t) (common-plain b y) ∙ rw (ne-eqb b 0x22 (λ z. omega (arith, i .0, z))) in
     rw (walk, step) (common-value t (at + 1) (rw n at e) ∙ ap Long (rw n (omega arith))))
     (λ d.
     let n : run common (b ∷ t) ≡ 0 = run-by common b t d in
     let q : b ≡ 0x22 = rw n at e in
-    let step : valueNext 0x22 at (charAt (b ∷ t)) ≡ stop (Long at) =
-    ap (valueNext 0x22 at) (char-ascii (b ∷ t) (omega (arith, q)) ∙ ap single q) ∙ quote-step at in
+    let step : valueNext 0x22 at (met (b ∷ t)) ≡ stop (Long at) = plain-step 0x22 at (b ∷ t) (rw q quote-plain) ∙ rw q in
     rw (walk, step) (ap Long (rw n (omega arith))))
     (bool-cases (common b))
 
@@ -98,10 +93,6 @@ opens t e =
     let b = both-true (eqb (byte t 2) 0x3D) (a .1) in
     let c = both-true (eqb (byte t 1) 0x76) (b .1) in
     shape t (eqb-true (byte t 0) 0x20 (c .1)) (eqb-true (byte t 1) 0x76 (c .0)) (eqb-true (byte t 2) 0x3D (b .0)) (eqb-true (byte t 3) 0x22 (a .0))
-
-pub byte-drop : (t : List ℕ) (k j : ℕ) → byte (drop k t) j ≡ byte t (k + j)
-unfolding byte
-byte-drop t k j = getD-drop k t j 0
 
 -- what a length of `v` that is not 0 says
 upto : (t : List ℕ) {r : ℕ} → r ≡ vLen t → 0 < r → (opensV t ≡ true) × (byte t (run common (drop 4 t) + 4) ≡ 0x22) × (r ≡ run common (drop 4 t) + 1)

@@ -8,6 +8,8 @@ use Rattle.slices.specs.Bytes.{byte}
 use Rattle.slices.specs.Run.{run}
 use Rattle.slices.specs.Walk.{WalkStep, go, stop, walk}
 use Rattle.characters.specs.Utf8.{charAt}
+use Rattle.characters.specs.References.{referenceAt}
+use Rattle.characters.specs.Says.{Met, referred, standing, met}
 use Rattle.characters.specs.declared.Char.{Char}
 use Rattle.characters.specs.declared.Char.the-variants.{Is, NoChar}
 use Rattle.attributes.specs.Names.{nameStart, nameByte, white}
@@ -20,24 +22,28 @@ use Rattle.attributes.specs.declared.Piece.the-variants.{Attribute, Clos
 unfoldable pub quote : ℕ → Bool
 quote b = cond (eqb b 0x22) true (eqb b 0x27)
 
--- "no `&` anywhere but in a comment; no tab, CR or LF inside an attribute value"; "`<` in a value, makes the item unreadable"
+-- "no tab, CR or LF inside an attribute value"; "`<` in a value, makes the item unreadable"
 unfoldable pub fit : ℕ → Bool
-fit c = cond (eqb c 0x3C) false (cond (eqb c 0x26) false (cond (eqb c 0x09) false (cond (eqb c 0x0A) false (cond (eqb c 0x0D) false true))))
+fit c = cond (eqb c 0x3C) false (cond (eqb c 0x09) false (cond (eqb c 0x0A) false (cond (eqb c 0x0D) false true)))
 
--- the same of a byte below 80, and that it is an XML character
-unfoldable pub plain : ℕ → Bool
-plain b = cond (ltb b 0x20) false (cond (eqb b 0x3C) false (cond (eqb b 0x26) false true))
+-- a value: characters that may stand in it, and references, up to the quote q. K4: "2 for any other reference", which makes the item unreadable
+unfoldable pub standingNext : ℕ → ℕ → Char → WalkStep ℕ Value
+standingNext q at (Is c n) = cond (fit c) (cond (eqb c q) (stop (Long at)) (go n (at + n))) (stop Broken)
+standingNext q at NoChar = stop Broken
 
--- a value: characters that may stand in it, up to the quote q
-unfoldable pub valueNext : ℕ → ℕ → Char → WalkStep ℕ Value
-valueNext q at (Is c n) = cond (fit c) (cond (eqb c q) (stop (Long at)) (go n (at + n))) (stop Broken)
-valueNext q at NoChar = stop Broken
+unfoldable pub referredNext : ℕ → Char → WalkStep ℕ Value
+referredNext at (Is c n) = go n (at + n)
+referredNext at NoChar = stop Broken
+
+unfoldable pub valueNext : ℕ → ℕ → Met → WalkStep ℕ Value
+valueNext q at (referred x) = referredNext at x
+valueNext q at (standing x) = standingNext q at x
 
 unfoldable pub valueOver : ℕ → Value
 valueOver at = Broken
 
 unfoldable pub value : ℕ → List ℕ → Value
-value q s = walk charAt (valueNext q) valueOver 0 0 s
+value q s = walk met (valueNext q) valueOver 0 0 s
 
 -- the place of the opening quote, after the name that ends before a, white space, `=` and white space; with no `=` it is 0, where a piece has white space and no quote
 unfoldable pub openingFrom : List ℕ → ℕ → ℕ
@@ -87,3 +93,13 @@ pieceValue (Attribute w n v m e) = v + m
 pieceValue (Close n) = 0
 pieceValue (CloseEmpty n) = 0
 pieceValue Torn = 0
+
+-- ---- what the code does. Public contracts do not cite this.
+
+-- a byte below 80 that may stand as it is: an XML character, and neither `<` nor `&`
+unfoldable pub plain : ℕ → Bool
+plain b = cond (ltb b 0x20) false (cond (eqb b 0x3C) false (cond (eqb b 0x26) false (ltb b 0x80)))
+
+-- what stands at any other byte: a reference, a character of several bytes, or nothing that may
+unfoldable pub longer : List ℕ → Char
+longer s = cond (eqb (byte s 0) 0x26) (referenceAt s) (cond (ltb (byte s 0) 0x80) NoChar (charAt s))

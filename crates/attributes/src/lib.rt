@@ -1,16 +1,19 @@
 // What stands in a tag after its name: white space, attributes, `>` or `/>`.
 use characters::Char;
 use characters::char_at;
+use characters::reference_at;
 use slices::byte_at;
 use slices::front;
 use slices::rest;
 ghost use mathlib.Core.Path.{_≡_};
+ghost use mathlib.Core.Bool.{true};
 ghost use Prim.Native.Nat.{_+_, _≤_};
 ghost use lib.ListN.{length};
 ghost use Rattle.slices.specs.Run.{run};
+ghost use Rattle.characters.specs.Utf8.{charUse, sliceMost};
 ghost use Rattle.attributes.specs.Names.{nameStart, nameByte, white};
 ghost use Rattle.attributes.specs.Short.{common, opensV, vLen};
-ghost use Rattle.attributes.specs.Attribute.{quote, fit, plain, value, valueEnd, opening, attribute, piece, pieceUse, pieceValue};
+ghost use Rattle.attributes.specs.Attribute.{quote, plain, longer, value, valueEnd, opening, attribute, piece, pieceUse, pieceValue};
 
 // Whether a name may begin with the byte.
 // Ruled out: true for a digit, `-`, `.` or `:`; false for `_`.
@@ -98,24 +101,6 @@ fn is_quote(b: u8) -> bool
     if b == 0x22 { true } else { b == 0x27 }
 }
 
-fn is_fit(c: u32) -> bool
-    ensures { λ r. ⌜ r ≡ fit c ⌝ }
-{
-    if c == 0x3C {
-        false
-    } else if c == 0x26 {
-        false
-    } else if c == 0x09 {
-        false
-    } else if c == 0x0A {
-        false
-    } else if c == 0x0D {
-        false
-    } else {
-        true
-    }
-}
-
 fn is_plain(b: u8) -> bool
     ensures { λ r. ⌜ r ≡ plain b ⌝ }
 {
@@ -126,8 +111,23 @@ fn is_plain(b: u8) -> bool
     } else if b == 0x26 {
         false
     } else {
-        true
+        b < 0x80
     }
+}
+
+// What stands at a byte that is not plain.
+fn longer_at(s: &[u8]) -> Char
+    ensures char { λ r. ⌜ r ≡ longer (now (s .entry)) ⌝ }
+    ensures size { λ r. ⌜ (1 ≤ charUse r) × (charUse r ≤ sliceMost) ⌝ }
+{
+    let b = byte_at(s, 0);
+    if b == 0x26 {
+        return reference_at(s);
+    }
+    if b < 0x80 {
+        return Char::NoChar;
+    }
+    char_at(s)
 }
 
 pub enum Value {
@@ -136,37 +136,25 @@ pub enum Value {
     Broken,
 }
 
-// The value at the front of s, up to the closing quote q. A byte below 80 is looked at as it stands, without `char_at`.
+// The value at the front of s, up to the closing quote q. A plain byte is looked at as it stands.
 fn value_at(q: u8, s: &[u8]) -> Value
+    requires { ⌜ quote q ≡ true ⌝ }
     ensures value { λ r. ⌜ r ≡ value q (now (s .entry)) ⌝ }
     ensures size { λ r. ⌜ valueEnd r ≤ length (now (s .entry)) ⌝ }
 {
     let mut i = 0;
     while i < s.len() {
         let b = s[i];
-        if b < 0x80 {
-            if is_plain(b) {
-                if b == q {
-                    return Value::Long(i);
-                }
-                i += 1;
-            } else {
-                return Value::Broken;
+        if is_plain(b) {
+            if b == q {
+                return Value::Long(i);
             }
+            i += 1;
         } else {
-            match char_at(&s[i..]) {
-                Char::Is(c, n) => {
-                    if is_fit(c) {
-                        if c == q as u32 {
-                            return Value::Long(i);
-                        }
-                        i += n;
-                    } else {
-                        return Value::Broken;
-                    }
-                }
-                Char::NoChar => return Value::Broken,
-            }
+            let Char::Is(_, n) = longer_at(&s[i..]) else {
+                return Value::Broken;
+            };
+            i += n;
         }
     }
     Value::Broken
@@ -230,7 +218,7 @@ fn attribute_at(s: &[u8], w: usize) -> Piece
 
 // The next piece of a tag.
 // Ruled out: an attribute with no white space before it; `/ >` as an end; a name that runs into the value; a value that ends at the other quote, or
-// one with `<`, `&`, a tab or half a character in it.
+// one with `<`, a tab, half a character or no reference behind an `&` in it.
 pub fn piece_at(s: &[u8]) -> Piece
     ensures piece { λ r. ⌜ r ≡ piece (now (s .entry)) ⌝ }
     ensures size { λ r. ⌜ (1 ≤ pieceUse r) × (pieceUse r ≤ length (now (s .entry)) + 3) × (pieceValue r ≤ pieceUse r) ⌝ }

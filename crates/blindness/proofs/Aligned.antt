@@ -8,6 +8,7 @@ use lib.ListN.{length, drop}
 use lib.Seq.{drop-drop, ext-getD}
 use Rattle.slices.specs.Bytes.{byte}
 use Rattle.items.specs.Item.{item, itemRefusal, itemEnd}
+use Rattle.items.specs.Parts.{spanOf}
 use Rattle.items.specs.declared.Item.{Item}
 use Rattle.items.specs.declared.Item.the-variants.{Start, Empty, End, Text, Comment, Unreadable}
 use Rattle.items.specs.declared.Tag.{Tag}
@@ -16,10 +17,10 @@ use Rattle.prolog.specs.Prolog.{begin}
 use Rattle.prolog.specs.declared.Begin.{Begin}
 use Rattle.prolog.specs.declared.Begin.the-variants.{From, Misdeclared}
 use Rattle.reader.specs.Items.{Placed, itemsAfter, itemsFrom}
-use Rattle.attributes.proofs.Short.{byte-drop}
+use Rattle.slices.proofs.Bytes.{byte-drop}
 use Rattle.digits.specs.Unseen.{Unseen}
 use Rattle.digits.specs.Items.{InSpan, InV, TagLaid, Laid}
-use Rattle.digits.proofs.Near.{long-drop}
+use Rattle.slices.proofs.Near.{long-drop}
 use Rattle.digits.proofs.Parts.{item-laid}
 use Rattle.digits.proofs.Items.{item-same}
 use Rattle.digits.proofs.Begins.{begin-same}
@@ -35,7 +36,7 @@ tag-inside t l i h =
     (λ e. (omega (arith, e .0, h .0, l .some), omega (arith, e .1, h .1)))
     (l .values .v)
 
-v-inside : (x : Item) → Laid x → (i : ℕ) → InV x i → (5 ≤ i) × (i < itemEnd x)
+pub v-inside : (x : Item) → Laid x → (i : ℕ) → InV x i → (5 ≤ i) × (i < itemEnd x)
 unfolding Laid InV
 v-inside (Start t) l i h = tag-inside t l i h
 v-inside (Empty t) l i h = tag-inside t l i h
@@ -43,6 +44,16 @@ v-inside (End n e) l i h = absurd h
 v-inside (Text w e) l i h = absurd h
 v-inside (Comment e) l i h = absurd h
 v-inside (Unreadable p) l i h = absurd h
+
+-- a place of its value
+pub in-v : (x : Item) (i : ℕ) → InSpan i (spanOf x) → InV x i
+unfolding spanOf InV
+in-v (Start t) i h = h
+in-v (Empty t) i h = h
+in-v (End n e) i h = omega (arith, h .1)
+in-v (Text w e) i h = omega (arith, h .1)
+in-v (Comment e) i h = omega (arith, h .1)
+in-v (Unreadable p) i h = omega (arith, h .1)
 
 -- an unreadable item has no `v`
 unread-v : (x : Item) (i : ℕ) → itemRefusal x ≡ 2 → InV x i → ⊥
@@ -68,7 +79,7 @@ tail-of doc at b t e = let z : at + 1 ≡ suc at = omega arith in ap (drop 1) e 
 
 module _ (name : List ℕ) where
   -- the place is in no item before these, and not in the first bytes of one
-  tags-from : (l : List ℕ) (k at p : ℕ) → InTags name (itemsAfter k at l) p → at + k + 5 ≤ p
+  pub tags-from : (l : List ℕ) (k at p : ℕ) → InTags (InTag name) (itemsAfter k at l) p → at + k + 5 ≤ p
   unfolding itemsAfter InTags
   tags-from [] k at p h = absurd h
   tags-from (b ∷ t) (suc k) at p h = let q = tags-from t k (suc at) p h in omega (arith, q)
@@ -88,7 +99,7 @@ module _ (name : List ℕ) where
 
     -- from a place on, the documents differ in values of these items alone
     abbrev Differ : ℕ → List Placed → Type 0
-    Differ from xs = (p : ℕ) → from ≤ p → (byte x p ≡ byte y p) ⊎ InTags name xs p
+    Differ from xs = (p : ℕ) → from ≤ p → (byte x p ≡ byte y p) ⊎ InTags (InTag name) xs p
 
     -- the item at the front of x
     module _ (at b c : ℕ) (t v : List ℕ) (long : length (b ∷ t) ≡ length (c ∷ v)) (ex : b ∷ t ≡ drop at x) (ey : c ∷ v ≡ drop at y)
@@ -169,7 +180,7 @@ aligned name {R} u x y d = by (begin x) refl
     by : (b : Begin) → begin x ≡ b → (x ≡ y) ⊎ SameItems name R x y
     by (From n) e =
         let j : Joins name R y (itemsFrom x n) = rw e at (d .values) in
-        let differ : (p : ℕ) → n + 0 ≤ p → (byte x p ≡ byte y p) ⊎ InTags name (itemsFrom x n) p = λ p l. rw e at (d .places p) in
+        let differ : (p : ℕ) → n + 0 ≤ p → (byte x p ≡ byte y p) ⊎ InTags (InTag name) (itemsFrom x n) p = λ p l. rw e at (d .places p) in
         let same = begin-same x y n (d .long)
         (λ i l. ⊎-elim (λ q. q) (λ z. let q = tags-from name (drop n x) 0 n i (rw e at z) in absurd (omega (arith, q, l))) (d .places i)) e in
         inr (record { from = n; first = e; second = same; items = align name u x y (drop n x) (drop n y) (long-drop x y n (d .long)) 0 n refl refl differ j })

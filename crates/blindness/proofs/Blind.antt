@@ -27,7 +27,7 @@ use Rattle.prolog.specs.declared.Begin.the-variants.{From, Misdeclared}
 use Rattle.tables.specs.Cells.{noAmounts}
 use Rattle.states.specs.Moves.{begun}
 use Rattle.states.specs.declared.Entry.the-variants.{Amount}
-use Rattle.numbers.specs.Alike.{Alike}
+use Rattle.digits.specs.Outside.{AlikeFrom}
 use Rattle.digits.proofs.Chars.{digits-unseen}
 use Rattle.notes.specs.declared.Shape.{Shape}
 use Rattle.reader.specs.Items.{itemsFrom}
@@ -191,8 +191,8 @@ module _ (x y : List ℕ) (ns np na : ℕ) (shape : Shape) (nb : ℕ) where
   Same = SameTold (readOf x ns np na shape nb) (readOf y ns np na shape nb) × (sourceTable x ns np na shape nb ≡ sourceTable y ns np na shape nb)
 
 module _ (ns np na : ℕ) (shape : Shape) (nb : ℕ) where
-  qty-same : (x y : List ℕ) → Replaced (text "Qty") Alike x y → Same x y ns np na shape nb
-  qty-same x y d = replaced-same (text "Qty") Alike Amount digits-unseen qty-kinds x y (amounts-tabled x y Alike) d ns np na shape nb
+  qty-same : (x y : List ℕ) → Replaced (text "Qty") (AlikeFrom false) x y → Same x y ns np na shape nb
+  qty-same x y d = replaced-same (text "Qty") (AlikeFrom false) Amount digits-unseen qty-kinds x y (amounts-tabled x y (AlikeFrom false)) d ns np na shape nb
 
   all-same : (x y : List ℕ) → DifferInQty x y → Same x y ns np na shape nb
   all-same x y d =
@@ -215,7 +215,7 @@ module _ (x y : List ℕ) (ns np na : ℕ) (shape : Shape) (nb : ℕ) where
 
   cell-same : (k : ℕ) → quoted (source ns np na shape nb x k) x ≡ quoted (source ns np na shape nb y k) y → amountCell ns np na shape nb x k ≡ amountCell ns np na shape nb y k
   unfolding amountAt
-  cell-same k e = cell-said x ns np na shape nb k ∙ ap (λ (l : List ℕ). thousandthsOf (amountOf (says (dropped l)))) e ∙ sym (cell-said y ns np na shape nb k)
+  cell-same k e = cell-said x ns np na shape nb k ∙ ap (λ (l : List ℕ). thousandthsOf (amountOf (dropped (says l)))) e ∙ sym (cell-said y ns np na shape nb k)
 
   cells : Same x y ns np na shape nb → (k : ℕ) → (amountCell ns np na shape nb x k ≡ amountCell ns np na shape nb y k) ⊎ OwnDigitsDiffer ns np na shape nb x y k
   cells h k =

@@ -1,7 +1,7 @@
 -- "Then number, place, note and all tables are the same.": a document whose TimeSeriesIdentifications are replaced by a one-to-one rule is read as it was.
 -- Assumes nothing.
 use Prim.Native.Nat.{ℕ, _+_, _-_}
-use mathlib.Core.Path.{_≡_, refl, sym, _∙_}
+use mathlib.Core.Path.{_≡_, refl, sym, ap, _∙_}
 use mathlib.Core.List.{List, [], _∷_}
 use mathlib.Core.Bool.{Bool, true, false, cond}
 use mathlib.Core.Logic.{_⊎_, inl, inr, ⊎-elim}
@@ -14,6 +14,8 @@ use Rattle.slices.specs.Part.{partOf}
 use Rattle.slices.specs.Same.{same}
 use Rattle.slices.proofs.Sames.{same-self, same-equal}
 use Rattle.slices.specs.Text.{text}
+use Rattle.characters.specs.Says.{says}
+use Rattle.characters.proofs.Saying.{says-none}
 use Rattle.slices.specs.declared.Span.{Span}
 use Rattle.elements.specs.Names.{names, numberIn, elementNo}
 use Rattle.items.specs.Item.{itemRefusal}
@@ -35,13 +37,14 @@ use Rattle.reader.specs.Reading.{Out, out, readSheet}
 use Rattle.notes.specs.declared.Shape.{Shape}
 use Rattle.reader.specs.Answer.{readOf}
 use Rattle.digits.specs.Unseen.{Unseen}
-use Rattle.digits.specs.Items.{InSpan, InV, JoinsV}
+use Rattle.digits.specs.Items.{InSpan, JoinsV}
 use Rattle.digits.specs.Identifications.{PutFor}
-use Rattle.digits.proofs.Identifications.{put-unseen, put-judged}
-use Rattle.blindness.specs.Readable.{tagNamed, InTags, InTagsAfter}
+use Rattle.digits.proofs.Identifications.{put-unseen, put-judged, says-one}
+use Rattle.blindness.specs.Readable.{tagNamed, InTag, InTags, InTagsAfter}
 use Rattle.blindness.specs.Replaced.{Joins, JoinsAfter, Replaced}
 use Rattle.blindness.specs.Sources.{valueAt}
 use Rattle.blindness.specs.Renamed.{valuesNamed, valuesNamedAfter, identificationsIn, OneSpan, Renamed}
+use Rattle.blindness.proofs.Aligned.{in-v}
 use Rattle.blindness.proofs.Steps.{brought-role, same-value, BlindKinds, allFit, fits, named-row, row-name}
 use Rattle.blindness.proofs.Shown.{Tabled, value-part, Shown, shown-none, shown-next, same-used, same-after}
 use Rattle.blindness.proofs.Runs.{Parts, parts-after, SameOut}
@@ -76,27 +79,18 @@ module _ (name : List ℕ) where
       ⊎-elim (λ n. rw n (inr z)) (λ n. rw n z) (bool-cases (tagNamed name (x .item) (x .rest)))
 
   -- a place of such a value
-  in-v : (i : Item) (s : List ℕ) → tagNamed name i s ≡ true → (k : ℕ) → InSpan k (spanOf i) → InV i k
-  unfolding tagNamed spanOf InV
-  in-v (Start t) s n k h = h
-  in-v (Empty t) s n k h = h
-  in-v (End m e) s n k h = never n
-  in-v (Text w e) s n k h = never n
-  in-v (Comment e) s n k h = never n
-  in-v (Unreadable p) s n k h = never n
-
-  in-tags : (xs : List Placed) (v : Span) → OneSpan v (valuesNamed name xs) → (p : ℕ) → InSpan p v → InTags name xs p
+  in-tags : (xs : List Placed) (v : Span) → OneSpan v (valuesNamed name xs) → (p : ℕ) → InSpan p v → InTags (InTag name) xs p
   unfolding valuesNamed InTags valueAt
   in-tags [] v m p h = absurd m
   in-tags (x ∷ xs) v m p h =
       ⊎-elim
       (λ z.
       let g : InSpan p (valueAt x) = rw (z .1) at h in
-      inl (p - x .at, omega (arith, g .0), (z .0, in-v (x .item) (x .rest) (z .0) (p - x .at) (omega (arith, g .0), omega (arith, g .0, g .1)))))
+      inl (p - x .at, omega (arith, g .0), (z .0, in-v (x .item) (p - x .at) (omega (arith, g .0), omega (arith, g .0, g .1)))))
       (λ z. inr (z .0, in-tags xs v (z .1) p h))
       (one-of x xs v m)
 
-  in-after : (doc : List ℕ) (b : Begin) (v : Span) → OneSpan v (valuesNamedAfter name doc b) → (p : ℕ) → InSpan p v → InTagsAfter name doc b p
+  in-after : (doc : List ℕ) (b : Begin) (v : Span) → OneSpan v (valuesNamedAfter name doc b) → (p : ℕ) → InSpan p v → InTagsAfter (InTag name) doc b p
   unfolding valuesNamedAfter InTagsAfter
   in-after doc (From n) v m p h = in-tags (itemsFrom doc n) v m p h
   in-after doc (Misdeclared q) v m p h = absurd m
@@ -188,12 +182,13 @@ module _ (x y : List ℕ) (d : Renamed x y) where
     first : a ≡ quoted place x
     second : b ≡ quoted place y
 
-  put-one : {a b a′ b′ : List ℕ} → Put a b → Put a′ b′ → same a a′ ≡ same b b′
+  -- what two of them say is the same in x exactly when it is in y: their bytes are
+  put-one : {a b a′ b′ : List ℕ} → Put a b → Put a′ b′ → same (says a) (says a′) ≡ same (says b) (says b′)
   put-one {a} {b} {a′} {b′} p q =
       let r = d .one-to-one (p .place) (q .place) (p .one) (q .one) in
-      same-both a a′ b b′
-      (λ e. p .second ∙ r .0 (sym (p .first) ∙ e ∙ q .first) ∙ sym (q .second))
-      (λ e. p .first ∙ r .1 (sym (p .second) ∙ e ∙ q .second) ∙ sym (q .first))
+      same-both (says a) (says a′) (says b) (says b′)
+      (λ e. ap says (p .second ∙ r .0 (sym (p .first) ∙ says-one (p .value .before) (q .value .before) e ∙ q .first) ∙ sym (q .second)))
+      (λ e. ap says (p .first ∙ r .1 (sym (p .second) ∙ says-one (p .value .after) (q .value .after) e ∙ q .second) ∙ sym (q .first)))
 
   put-replaced : Replaced named Put x y
   unfolding identificationsIn
@@ -208,9 +203,9 @@ module _ (x y : List ℕ) (d : Renamed x y) where
   abbrev Row : List ℕ → List ℕ → Type 0
   Row a b = Put a b ⊎ ((a ≡ []) × (b ≡ []))
 
-  row-one : {a b : List ℕ} → Put a b → (c e : List ℕ) → Row c e → same c a ≡ same e b
+  row-one : {a b : List ℕ} → Put a b → (c e : List ℕ) → Row c e → same (says c) (says a) ≡ same (says e) (says b)
   row-one p c e (inl q) = put-one q p
-  row-one {a} {b} p c e (inr z) = rw (z .0, z .1) (same-nothing a b (p .value .bytes))
+  row-one {a} {b} p c e (inr z) = rw (z .0, z .1, says-none) (same-nothing (says a) (says b) (p .value .characters))
 
   ids-tabled : Tabled Put Identification x y
   ids-tabled =

@@ -10,8 +10,8 @@ use Rattle.lists.specs.Zeros.{zeros}
 use Rattle.lists.proofs.Cases.{eqb-cases, ltb-cases, zero-not-one}
 use Rattle.slices.specs.Part.{partOf}
 use Rattle.slices.specs.Same.{same}
-use Rattle.slices.specs.Run.{run}
-use Rattle.trims.specs.Trim.{space, dropped}
+use Rattle.characters.specs.Says.{says}
+use Rattle.trims.specs.Trim.{leadOf, trimmedOf}
 use Rattle.slices.specs.declared.Span.{Span}
 use Rattle.states.specs.declared.State.{State}
 use Rattle.states.specs.declared.Entry.{Entry}
@@ -109,9 +109,9 @@ module _ (x y : List ℕ) (P : List ℕ → List ℕ → Type 0) (empty : P [] [
   shown-after at v s st BringsIdentification t h p = shown-row t (st .series - 1) (at + v .start) (v .len) h (p refl)
   shown-after at v s st BringsObject t h p = shown-view t (st .series - 1) Object (at + v .start) (v .len) (omega arith) (omega arith) h
   shown-after at v s st BringsBusinessType t h p =
-      shown-view t (st .series - 1) BusinessType (at + v .start + run space (quoted v s)) (length (dropped (quoted v s))) (omega arith) (omega arith) h
+      shown-view t (st .series - 1) BusinessType (at + v .start + leadOf (quoted v s)) (length (trimmedOf (quoted v s))) (omega arith) (omega arith) h
   shown-after at v s st BringsDirection t h p =
-      shown-view t (st .series - 1) Direction (at + v .start + run space (quoted v s)) (length (dropped (quoted v s))) (omega arith) (omega arith) h
+      shown-view t (st .series - 1) Direction (at + v .start + leadOf (quoted v s)) (length (trimmedOf (quoted v s))) (omega arith) (omega arith) h
   shown-after at v s st BringsArea t h p = shown-view t (st .series - 1) Area (at + v .start) (v .len) (omega arith) (omega arith) h
   shown-after at v s st Series t h p = shown-field t (st .series - 1) FirstRow (st .first) (omega arith) (omega arith) h
   shown-after at v s st Interval t h p = shown-field t (st .series - 1) Count (st .intervals - st .first) (omega arith) (omega arith) h
@@ -123,17 +123,17 @@ module _ (x y : List ℕ) (P : List ℕ → List ℕ → Type 0) (empty : P [] [
       → (e ≡ BringsIdentification → P (quoted v s) (quoted v s′)) → Shown (seriesAfter at v s st e t)
   shown-next at v s s′ st e t ex ey h p = shown-after at v s st e t h (λ id. rw (← value-part x at s v ex, ← value-part y at s′ v ey) (p id))
 
-  used-same : (t : List ℕ) → Shown t → (n : ℕ) (id id′ : List ℕ) → ((a b : List ℕ) → P a b → same a id ≡ same b id′) → used x t n id ≡ used y t n id′
+  used-same : (t : List ℕ) → Shown t → (n : ℕ) (id id′ : List ℕ) → ((a b : List ℕ) → P a b → same (says a) id ≡ same (says b) id′) → used x t n id ≡ used y t n id′
   unfolding used
   used-same t h zero id id′ p = refl
   used-same t h (suc n) id id′ p = rw (p (view x t n Identification) (view y t n Identification) (h n), used-same t h n id id′ p)
 
   pub same-used : (v : Span) (s s′ t : List ℕ) → Shown t → (n : ℕ) (e : Entry)
-      → (e ≡ BringsIdentification → (a b : List ℕ) → P a b → same a (quoted v s) ≡ same b (quoted v s′)) → usedBefore x t v s n e ≡ usedBefore y t v s′ n e
+      → (e ≡ BringsIdentification → (a b : List ℕ) → P a b → same (says a) (says (quoted v s)) ≡ same (says b) (says (quoted v s′))) → usedBefore x t v s n e ≡ usedBefore y t v s′ n e
   unfolding usedBefore usedWith broughtBy usedIn
   same-used v s s′ t h n Nothing p = refl
   same-used v s s′ t h n Series p = refl
-  same-used v s s′ t h n BringsIdentification p = used-same t h (n - 1) (quoted v s) (quoted v s′) (p refl)
+  same-used v s s′ t h n BringsIdentification p = used-same t h (n - 1) (says (quoted v s)) (says (quoted v s′)) (p refl)
   same-used v s s′ t h n BringsObject p = refl
   same-used v s s′ t h n BringsBusinessType p = refl
   same-used v s s′ t h n BringsDirection p = refl

@@ -25,7 +25,7 @@ use Rattle.columns.specs.Columns.{formOf, collapsed, roleOf}
 use Rattle.guideline.specs.Rows.{beschaffungsanforderung, kostenblatt, networkConstraintDocument, rowsOf}
 use Rattle.guideline.proofs.Each.{of-table}
 use Rattle.rules.specs.declared.Held.{Held}
-use Rattle.states.specs.Attributes.{valueOf, schemeRefusal, valueFixed, dtdFixed, judgeTag}
+use Rattle.states.specs.Attributes.{saidIn, schemeRefusal, valueFixed, dtdFixed, judgeTag}
 use Rattle.states.specs.Moves.{heldOf, valuesJudged, judgedAt, startJudged, entryOf, startedBy, startedAt, started, endRefusal, afterEndAt, afterEnd, moved, rootKind, kindTold, step}
 use Rattle.states.specs.declared.State.{State}
 use Rattle.states.specs.declared.Room.{Room}
@@ -37,9 +37,9 @@ use Rattle.reader.specs.Rows.{quoted}
 use Rattle.characters.specs.Says.{says}
 use Rattle.trims.specs.Trim.{dropped}
 use Rattle.rules.specs.Rules.{judge}
-use Rattle.numbers.specs.Alike.{Alike}
 use Rattle.digits.specs.Items.{valueIn}
-use Rattle.trims.proofs.Low.{by-test}
+use Rattle.digits.specs.Outside.{AlikeFrom}
+use Rattle.characters.proofs.Low.{by-test}
 use Rattle.digits.proofs.Values.{alike-read}
 use Rattle.blindness.proofs.Names.{name-one}
 use Rattle.blindness.proofs.Pairs.{TagSays, Says}
@@ -93,7 +93,7 @@ same-value other (inr z) = z .1
 module _ (name : List ℕ) (R : List ℕ → List ℕ → Type 0) (brought : Entry) where
   -- a row that bears the name judges two values alike that R joins, and is that of what the tag brings
   pub record BlindRow (w : ℕ) : Type 0 where
-    pub judged : (h : Held) {a b : List ℕ} → R a b → judge (formOf w) h (says (cond (collapsed w) (dropped a) a)) ≡ judge (formOf w) h (says (cond (collapsed w) (dropped b) b))
+    pub judged : (h : Held) {a b : List ℕ} → R a b → judge (formOf w) h (cond (collapsed w) (dropped (says a)) (says a)) ≡ judge (formOf w) h (cond (collapsed w) (dropped (says b)) (says b))
     pub brings : (p : ℕ) → entryOf (roleOf w) p ≡ brought
 
   -- and no other row is
@@ -119,12 +119,12 @@ module _ (name : List ℕ) (R : List ℕ → List ℕ → Type 0) (brought : Ent
   -- a tag in s and in s′, and the rows of a kind
   module _ (rows : List ℕ) (blind : BlindRows rows) (t : Tag) (s s′ : List ℕ) (p : TagSays name R t s s′) where
     judge-tag : (w : ℕ) (h : Held) → ((partOf s 1 (t .name) ≡ name) → BlindRow w) → judgeTag w t h s ≡ judgeTag w t h s′
-    unfolding judgeTag dtdFixed valueFixed schemeRefusal valueOf
+    unfolding judgeTag dtdFixed valueFixed schemeRefusal saidIn
     judge-tag w h row =
-        let q : judge (formOf w) h (says (valueOf w (t .v) s)) ≡ judge (formOf w) h (says (valueOf w (t .v) s′)) =
+        let q : judge (formOf w) h (saidIn w (t .v) s) ≡ judge (formOf w) h (saidIn w (t .v) s′) =
         ⊎-elim
         (λ z. row (z .0) .judged h (z .1))
-        (λ z. ap (λ (l : List ℕ). judge (formOf w) h (says (cond (collapsed w) (dropped l) l))) (z .1))
+        (λ z. ap (λ (l : List ℕ). judge (formOf w) h (cond (collapsed w) (dropped (says l)) (says l))) (z .1))
         (p .v) in
         rw (p .parts .version, p .parts .release, p .parts .message, p .parts .coding, q)
 
@@ -293,7 +293,7 @@ unfolding elementNo numberIn names same
 qty-known e = omega (arith, e)
 
 -- no row of a Qty tells its digits apart
-pub qty-kinds : BlindKinds (text "Qty") Alike Amount
+pub qty-kinds : BlindKinds (text "Qty") (AlikeFrom false) Amount
 unfolding entryOf
 qty-kinds =
     record {

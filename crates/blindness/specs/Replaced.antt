@@ -12,7 +12,7 @@ use Rattle.prolog.specs.declared.Begin.{Begin}
 use Rattle.prolog.specs.declared.Begin.the-variants.{From, Misdeclared}
 use Rattle.reader.specs.Items.{Placed, itemsFrom}
 use Rattle.digits.specs.Items.{JoinsV}
-use Rattle.blindness.specs.Readable.{tagNamed, InTagsAfter}
+use Rattle.blindness.specs.Readable.{tagNamed, InTag, InTagsAfter}
 
 module _ (name : List ℕ) (R : List ℕ → List ℕ → Type 0) where
   -- R joins the value of each tag of this name, up to the first unreadable item of these, to what stands at its place in y
@@ -28,5 +28,5 @@ module _ (name : List ℕ) (R : List ℕ → List ℕ → Type 0) where
   pub record Replaced (x y : List ℕ) : Type 0 where
     pub long : length x ≡ length y
     -- only in such values do they differ
-    pub places : (p : ℕ) → (byte x p ≡ byte y p) ⊎ InTagsAfter name x (begin x) p
+    pub places : (p : ℕ) → (byte x p ≡ byte y p) ⊎ InTagsAfter (InTag name) x (begin x) p
     pub values : JoinsAfter x y (begin x)

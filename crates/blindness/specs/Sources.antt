@@ -38,4 +38,4 @@ sourcesOf doc ns np na shape nb = cond (eqb (readOf doc ns np na shape nb .answe
 
 -- the amount that the value at a source says; where there is none, 0
 unfoldable pub amountAt : List ℕ → Span → ℤ
-amountAt doc v = thousandthsOf (amountOf (says (dropped (quoted v doc))))
+amountAt doc v = thousandthsOf (amountOf (dropped (says (quoted v doc))))

@@ -67,3 +67,7 @@ charAt s =
 abbrev pub charUse : Char → ℕ
 charUse (Is c n) = n
 charUse NoChar = 1
+
+-- no slice is longer than so many bytes
+abbrev pub sliceMost : ℕ
+sliceMost = 9223372036854775807

@@ -1,10 +1,16 @@
-// The XML 1.0 character at the front of a part, in UTF-8, and the characters that a value says.
+// The XML 1.0 character at the front of a part, in UTF-8 or by a reference, and the characters that a value says.
+mod references;
+
+pub use references::reference_at;
 use slices::byte_at;
+use slices::rest;
 ghost use mathlib.Core.Path.{_≡_};
-ghost use Prim.Native.Nat.{_≤_};
+ghost use Prim.Native.Nat.{_-_, _≤_};
 ghost use lib.ListN.{length};
-ghost use Rattle.characters.specs.Utf8.{seqLen, low, high, second, laterByte, control, nonchar, single, double, triple, fourfold, charAt, charUse};
-ghost use Rattle.characters.specs.Says.{saidAt, saidUse, says, allChars};
+ghost use Rattle.slices.specs.Bytes.{byte};
+ghost use Rattle.slices.specs.Same.{same};
+ghost use Rattle.characters.specs.Utf8.{seqLen, low, high, second, laterByte, control, nonchar, single, double, triple, fourfold, charAt, charUse, sliceMost};
+ghost use Rattle.characters.specs.Says.{met, charOf, itself, ownEnd, endsOtherwise, ownLen, saidAt, saidUse, says, allChars};
 
 pub enum Char {
     // its number in Unicode, and how many bytes it takes
@@ -196,22 +202,38 @@ pub enum Said {
     Over,
 }
 
+// Whether a byte is seen at once to say itself, whatever follows it: all from behind `&` to 7F do, nearly every byte of a value.
+fn is_itself(b: u8) -> bool
+    ensures { λ r. ⌜ r ≡ itself b ⌝ }
+{
+    if 0x27 <= b { b < 0x80 } else { false }
+}
+
+// The character that stands at the front of s, or that a reference there names.
+fn unit_at(s: &[u8]) -> Char
+    ensures char { λ r. ⌜ r ≡ charOf (met (now (s .entry))) ⌝ }
+    ensures size { λ r. ⌜ (1 ≤ charUse r) × (charUse r ≤ sliceMost) ⌝ }
+{
+    if byte_at(s, 0) == 0x26 {
+        return reference_at(s);
+    }
+    char_at(s)
+}
+
 // What a value says first. This is the one way in which the rules of values look at a value.
-// Ruled out: a byte of a longer character as a character; an end before the last byte.
+// Ruled out: a byte of a longer character, or of a reference, as a character; an end before the last byte.
 pub fn said_at(v: &[u8]) -> Said
     ensures said { λ r. ⌜ r ≡ saidAt (now (v .entry)) ⌝ }
-    ensures size { λ r. ⌜ (1 ≤ saidUse r) × (saidUse r ≤ 4) ⌝ }
+    ensures size { λ r. ⌜ (1 ≤ saidUse r) × (saidUse r ≤ sliceMost) ⌝ }
 {
     if v.len() == 0 {
         return Said::Over;
     }
     let b = v[0];
-    if 0x20 <= b {
-        if b < 0x80 {
-            return Said::Says(b as u32, 1);
-        }
+    if is_itself(b) {
+        return Said::Says(b as u32, 1);
     }
-    match char_at(v) {
+    match unit_at(v) {
         Char::Is(c, n) => Said::Says(c, n),
         Char::NoChar => Said::Says(0, 1),
     }
@@ -234,4 +256,88 @@ pub fn count_chars(v: &[u8]) -> usize
         }
     }
     n
+}
+
+fn last_byte(v: &[u8]) -> u8
+    ensures { λ r. ⌜ r ≡ byte (now (v .entry)) (length (now (v .entry)) - 1) ⌝ }
+{
+    if v.len() == 0 {
+        return 0;
+    }
+    v[v.len() - 1]
+}
+
+// The last byte of a value where it is seen to say itself and ends no reference, else 0.
+// Ruled out: a byte of a longer character, or the `;` of a reference.
+pub fn own_end(v: &[u8]) -> u8
+    ensures { λ r. ⌜ r ≡ ownEnd (now (v .entry)) ⌝ }
+{
+    let b = last_byte(v);
+    if b == 0x3B {
+        return 0;
+    }
+    if is_itself(b) {
+        return b;
+    }
+    0
+}
+
+// Whether the last bytes alone tell that two values say something else, x and y being their `own_end`.
+// Ruled out: true where one of them is 0, or where they are the same.
+pub fn ends_otherwise(x: u8, y: u8) -> bool
+    ensures { λ r. ⌜ r ≡ endsOtherwise x y ⌝ }
+{
+    if x == y {
+        return false;
+    }
+    if x == 0 {
+        return false;
+    }
+    y != 0
+}
+
+// How many bytes at the front of both are the same and are seen to say themselves.
+fn own_len(a: &[u8], b: &[u8]) -> usize
+    ensures len { λ r. ⌜ r ≡ ownLen (now (a .entry)) (now (b .entry)) ⌝ }
+    ensures size { λ r. ⌜ (r ≤ length (now (a .entry))) × (r ≤ length (now (b .entry))) ⌝ }
+{
+    let mut i = 0;
+    while i < a.len() {
+        if b.len() <= i {
+            return i;
+        }
+        if a[i] != b[i] {
+            return i;
+        }
+        if is_itself(a[i]) {
+            i += 1;
+        } else {
+            return i;
+        }
+    }
+    i
+}
+
+// Whether two values say the same. What they have alike at the front is mostly seen byte by byte.
+// Ruled out: true where the one only begins as the other does; false for a character and its reference; a reference taken for its bytes.
+pub fn says_same(a: &[u8], b: &[u8]) -> bool
+    ensures { λ r. ⌜ r ≡ same (says (now (a .entry))) (says (now (b .entry))) ⌝ }
+{
+    let alike = own_len(a, b);
+    let mut i = alike;
+    let mut k = alike;
+    while i < a.len() {
+        let Said::Says(c, n) = said_at(rest(a, i)) else {
+            return false;
+        };
+        let Said::Says(d, m) = said_at(rest(b, k)) else {
+            return false;
+        };
+        if c != d {
+            return false;
+        }
+        i += n;
+        k += m;
+    }
+    b.len() <= k
 }

@@ -8,10 +8,10 @@ use Rattle.slices.specs.Same.{same, begins, seek, here, firstAt}
 use Rattle.slices.specs.Walk.{walk}
 use Rattle.slices.specs.Text.{text}
 use Rattle.characters.specs.Utf8.{seqLen, control, single, charAt}
-use Rattle.characters.specs.Says.{charNext, charsOver, allChars}
+use Rattle.characters.specs.Says.{charNext, charsOver, allChars, met}
 use Rattle.attributes.specs.Names.{nameStart, nameByte, white}
 use Rattle.slices.specs.Part.{partOf}
-use Rattle.attributes.specs.Attribute.{quote, fit, valueNext, valueOver, value, openingFrom, opening, attributeEnd, attributeQuote, attributeName, attribute, pieceAfter, piece}
+use Rattle.attributes.specs.Attribute.{quote, fit, standingNext, valueNext, valueOver, value, openingFrom, opening, attributeEnd, attributeQuote, attributeName, attribute, pieceAfter, piece}
 use Rattle.tags.specs.Known.{absent, dtdName, noDtd, withDtd, noneKnown, upToTwo, withAttribute}
 use Rattle.tags.specs.Tail.{onto, endsAfter, ends, keptOf, named, twice}
 use Rattle.items.specs.Comment.{commentTo, comment}
@@ -34,7 +34,7 @@ pretty =
     text " v='9900000000001' ></SenderIdentification > <Period/> </Kostenblatt>"
 
 pub plain-pretty : SpellAlike plain pretty
-unfolding byte run same begins seek here firstAt walk seqLen control single charAt charNext charsOver allChars nameStart nameByte white quote fit valueNext valueOver value
+unfolding byte run same begins seek here firstAt walk seqLen control single charAt charNext charsOver allChars met nameStart nameByte white quote fit standingNext valueNext valueOver value
     openingFrom opening attributeEnd attributeQuote attributeName attribute pieceAfter piece partOf absent dtdName noDtd withDtd noneKnown upToTwo withAttribute onto endsAfter
     ends keptOf named twice commentTo comment textTo textItem endClose endName endTag commentItem commentTag tagOf tagItem startTag item
     declaredBy declared encodedBy encoded declarationBy declaration markLen behindMark beginAfter begin names numberIn elementNo there itemsAfter itemsFrom

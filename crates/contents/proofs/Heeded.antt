@@ -119,7 +119,7 @@ module _ (kind : ℕ) (rows : List ℕ) (p : ℕ) (L : Layout rows p) (on : kind
   -- ---- the first values of a series
 
   abbrev said : TagSaid → List ℕ
-  said s = says (dropped (bytes (s .v)))
+  said s = dropped (says (bytes (s .v)))
 
   business-code : (s : TagSaid) → codeNo (formOf (at (r + 2))) (sayings (at (r + 2)) s) ≡ typeNo (said s)
   unfolding codeNo sayings

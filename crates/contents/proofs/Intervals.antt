@@ -107,7 +107,7 @@ module _ (kind : ℕ) (rows : List ℕ) (p : ℕ) (L : Layout rows p) (W : Value
   abbrev two : Placed → Placed → Trees Placed
   two a b = element (p + 4) a none (element (p + 5) b none none)
 
-  amount-said : (x : Placed) → there (spanOf (x .item)) ≡ true → thousandthsOf (amountOf (says (dropped (quoted (spanOf (x .item)) (x .rest))))) ≡ amountIn (saidOf x)
+  amount-said : (x : Placed) → there (spanOf (x .item)) ≡ true → thousandthsOf (amountOf (dropped (says (quoted (spanOf (x .item)) (x .rest))))) ≡ amountIn (saidOf x)
   unfolding amountIn
   amount-said x g = rw (said-bytes x g)
 
@@ -127,7 +127,7 @@ module _ (kind : ℕ) (rows : List ℕ) (p : ℕ) (L : Layout rows p) (W : Value
         amounts-many = refl;
         positions = ap (λ (n : ℕ). set (t .positions) n (positionOf (saidOf a))) e;
         amounts =
-            ap (λ (n : ℕ). set (t .amounts) n (thousandthsOf (amountOf (says (dropped (quoted (spanOf (b .item)) (b .rest))))))) e
+            ap (λ (n : ℕ). set (t .amounts) n (thousandthsOf (amountOf (dropped (says (quoted (spanOf (b .item)) (b .rest))))))) e
             ∙ ap (set (t .amounts) (y .intervals)) (amount-said b g);
       })
 

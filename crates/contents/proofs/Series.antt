@@ -12,8 +12,7 @@ use lib.Seq.{getD-set-same, getD-set-other}
 use borrow.Author.Tests.{eq-eqb, ne-eqb}
 use Rattle.items.specs.Parts.{spanOf}
 use Rattle.lists.proofs.Cases.{zero-not-one}
-use Rattle.slices.specs.Run.{run}
-use Rattle.trims.specs.Trim.{space, dropped}
+use Rattle.trims.specs.Trim.{leadOf, trimmedOf}
 use Rattle.columns.specs.Columns.{roleOf}
 use Rattle.states.specs.Attributes.{there}
 use Rattle.states.specs.Moves.{entryOf}
@@ -184,11 +183,11 @@ module _ (kind : ℕ) (doc : List ℕ) where
   step-effect w q i x y t (is-object e) n v s a l =
       rw (e, last-row a) (view-effect refl refl refl Object refl (x .at + spanOf (x .item) .start) (spanOf (x .item) .len) (saidOf x) (whole-view doc x s (v (omega (arith, e))) t i Object (omega (arith, l))))
   step-effect w q i x y t (is-business e) n v s a l =
-      rw (e, last-row a) (view-effect refl refl refl BusinessType refl (x .at + spanOf (x .item) .start + run space (quoted (spanOf (x .item)) (x .rest)))
-      (length (dropped (quoted (spanOf (x .item)) (x .rest)))) (saidOf x) (trimmed-view doc x s (v (omega (arith, e))) t i BusinessType (omega (arith, l))))
+      rw (e, last-row a) (view-effect refl refl refl BusinessType refl (x .at + spanOf (x .item) .start + leadOf (quoted (spanOf (x .item)) (x .rest)))
+      (length (trimmedOf (quoted (spanOf (x .item)) (x .rest)))) (saidOf x) (trimmed-view doc x s (v (omega (arith, e))) t i BusinessType (omega (arith, l))))
   step-effect w q i x y t (is-direction e) n v s a l =
-      rw (e, last-row a) (view-effect refl refl refl Direction refl (x .at + spanOf (x .item) .start + run space (quoted (spanOf (x .item)) (x .rest)))
-      (length (dropped (quoted (spanOf (x .item)) (x .rest)))) (saidOf x) (trimmed-view doc x s (v (omega (arith, e))) t i Direction (omega (arith, l))))
+      rw (e, last-row a) (view-effect refl refl refl Direction refl (x .at + spanOf (x .item) .start + leadOf (quoted (spanOf (x .item)) (x .rest)))
+      (length (trimmedOf (quoted (spanOf (x .item)) (x .rest)))) (saidOf x) (trimmed-view doc x s (v (omega (arith, e))) t i Direction (omega (arith, l))))
   step-effect w q i x y t (is-area e) n v s a l =
       rw (e, last-row a) (view-effect refl refl refl Area refl (x .at + spanOf (x .item) .start) (spanOf (x .item) .len) (saidOf x) (whole-view doc x s (v (omega (arith, e))) t i Area (omega (arith, l))))
   step-effect w q i x y t (is-id e) n v s a l =

@@ -30,7 +30,7 @@ use Rattle.guideline.specs.declared.Demands.{Demands}
 use Rattle.rules.specs.Rules.{refused, codeNo, periodFits, judgePeriodBy, judgePeriod, positionFits, judgePositionBy, judgePosition, judge}
 use Rattle.rules.specs.declared.Held.{Held}
 use Rattle.rules.specs.declared.Judged.{Judged}
-use Rattle.states.specs.Attributes.{attributesFit, there, agree, asksV, asksScheme, demandsAt, meets, dtdFits, noOthers, valueOf, schemeRefusal, least, alsoScheme, valueFixed, dtdFixed, judgeTag}
+use Rattle.states.specs.Attributes.{attributesFit, there, agree, asksV, asksScheme, demandsAt, meets, dtdFits, noOthers, saidIn, schemeRefusal, least, alsoScheme, valueFixed, dtdFixed, judgeTag}
 use Rattle.states.specs.Moves.{heldOf, cutShort, tooMany, noRoom, halfOriginals, againstOthers, besideOthers, startJudged, atRow, oneSeries, oneInterval, oneOriginal, lastPos, covering, kept, entered, entryOf, closedAt, lackRefusal, endRefusal}
 use Rattle.states.specs.Constraints.{noticed, against, lacking}
 use Rattle.states.specs.declared.State.{State}
@@ -97,8 +97,8 @@ scheme-same w t s h =
     (eqb-cases (schemeOf w) 0)
 
 value-same : (w : ℕ) (t : Tag) (s : List ℕ) → agree (asksV w) (there (t .v)) ≡ true → eqb (formOf w) 0 ≡ false
-    → says (valueOf w (t .v) s) ≡ sayings w (saidOfTag t s)
-unfolding valueOf sayings saidOfTag asksV
+    → saidIn w (t .v) s ≡ sayings w (saidOfTag t s)
+unfolding saidIn sayings saidOfTag asksV
 value-same w t s h e = rw (there-bytes (t .v) s (asked-there (asksV w) (there (t .v)) h (rw e)))
 
 fixed-same : (kind attribute : ℕ) (x : Span) (s : List ℕ) → valueFixed kind attribute x s ≡ fixedFits kind attribute (valueGiven x s)
@@ -289,7 +289,7 @@ module _ (kind k₀ r : ℕ) (o : Bool) (y : Tally) (w : ℕ) (u : TagSaid) wher
   pos-fits e = rw (eq-eqb (formOf w) 9 e)
 
   pos-judged : formOf w ≡ 9 → collapsed w ≡ true
-      → valueJudged ≡ judgePositionBy kind (quartersIn y) (y .last) (numberOf (says (dropped (bytes (u .v)))) 5)
+      → valueJudged ≡ judgePositionBy kind (quartersIn y) (y .last) (numberOf (dropped (says (bytes (u .v)))) 5)
   unfolding judge judgePosition heldOf stateOf sayings
   pos-judged e c = rw (e, c)
 
@@ -300,7 +300,7 @@ module _ (kind k₀ r : ℕ) (o : Bool) (y : Tally) (w : ℕ) (u : TagSaid) wher
   pos-turn : formOf w ≡ 9 → collapsed w ≡ true → eqb (valueJudged .number) 0 ≡ positionFits kind (quartersIn y) (y .last) (positionOf u)
   unfolding positionOf
   pos-turn e c =
-      rw (pos-judged e c) (position-judged kind (quartersIn y) (y .last) (numberOf (says (dropped (bytes (u .v)))) 5))
+      rw (pos-judged e c) (position-judged kind (quartersIn y) (y .last) (numberOf (dropped (says (bytes (u .v)))) 5))
 
   -- a row with a `v` that is no root's
   value-alone : (v : Bool) → (roleOf w ≡ 1 → ⊥) → (formOf w ≡ 0 → ⊥) → valuesFit kind w u v ≡ (schemeFits w u && v)
@@ -549,7 +549,7 @@ module _ (kind : ℕ) (rows : List ℕ) (p : ℕ) (L : Layout rows p) (room : Ro
           let g = pos-row q inside e in
           ap (λ (j : Judged). j .first) taken-values ∙ value-kept kind k₀ r o y row said (g .1) (λ z. omega (arith, z, e)) .0 ∙
           ap (λ (j : Judged). j .first) (pos-judged kind k₀ r o y row said e (g .0)) ∙
-          position-first kind (quartersIn y) (y .last) (numberOf (says (dropped (bytes (said .v)))) 5) (t .turn e)
+          position-first kind (quartersIn y) (y .last) (numberOf (dropped (says (bytes (said .v)))) 5) (t .turn e)
 
       taken-period : formOf row ≡ 6
           → (verdict .first ≡ periodBy (interval (says (bytes (said .v)))) .start) × (verdict .second ≡ periodBy (interval (says (bytes (said .v)))) .end)

@@ -11,6 +11,7 @@ use lib.ListN.{length, getD, length-replicate}
 use borrow.Author.Tests.{eq-eqb, ne-eqb, eqb-false}
 use Rattle.items.specs.Parts.{spanOf}
 use Rattle.lists.proofs.Cases.{eqb-cases, past-cond}
+use Rattle.characters.specs.Says.{says}
 use Rattle.slices.specs.Same.{same}
 use Rattle.slices.specs.declared.Span.{Span}
 use Rattle.columns.specs.Columns.{roleOf}
@@ -38,8 +39,8 @@ use Rattle.contents.proofs.Series.{step-effect, no-series, inside}
 use Rattle.contents.proofs.Rows.{tallyIn, tablesIn, tallyOut, tablesOut, opened-series, opened-before, opened-size, rowed, untouched, once-in, more-series, those-plain, those-after}
 use Rattle.contents.proofs.Shown.{root-those, root-role, root-tally, root-cells}
 
-abbrev valueBytes : TagSaid → List ℕ
-valueBytes s = bytes (s .v)
+abbrev meaning : TagSaid → List ℕ
+meaning s = says (bytes (s .v))
 
 -- ---- no two are the same
 
@@ -113,7 +114,7 @@ module _ (doc : List ℕ) where
   abbrev Knows : List ℕ → ℕ → List (List ℕ) → Type 0
   Knows t n past = (id : List ℕ) → used doc t n id ≡ isAmong id past
 
-  knows-on : (t u : List ℕ) (n : ℕ) (past : List (List ℕ)) (x : List ℕ) → ((j : ℕ) → j < cellsOf n → getD u j 0 ≡ getD t j 0) → view doc u n Identification ≡ x
+  knows-on : (t u : List ℕ) (n : ℕ) (past : List (List ℕ)) (x : List ℕ) → ((j : ℕ) → j < cellsOf n → getD u j 0 ≡ getD t j 0) → says (view doc u n Identification) ≡ x
       → Knows t n past → Knows u (suc n) (x ∷ past)
   unfolding used isAmong
   knows-on t u n past x k e h id = rw (e, used-kept t u n id k ∙ h id, same-both x id)
@@ -130,7 +131,7 @@ module _ (doc : List ℕ) where
 
   step-used : (w i : ℕ) (x : Placed) (y : Tally) (t : List ℕ) → Role (roleOf w) → (roleOf w ≡ 2 → ⊥) → (6 ≤ roleOf w → there (spanOf (x .item)) ≡ true) → y .series ≡ suc i
       → (usedBefore doc t (spanOf (x .item)) (x .rest) (opened w (saidOf x) y .series) (entryOf (roleOf w) (positionOf (saidOf x))) ≡ false)
-      ↔ All (NotUsed t i) (map valueBytes (own (hasRole 8 w) (saidOf x)))
+      ↔ All (NotUsed t i) (map meaning (own (hasRole 8 w) (saidOf x)))
   unfolding usedBefore usedWith broughtBy usedIn entryOf All
   step-used w i x y t (is-series e) n v a = absurd (n e)
   step-used w i x y t (is-interval e) n v a = rw e ((λ h. tt), (λ h. refl))
@@ -147,9 +148,9 @@ module _ (doc : List ℕ) where
 
 ids-parts : (rows : List ℕ) (q : ℕ) (x : Placed) (inner after : Trees Placed)
     → identifications rows (saying (element q x inner after))
-    ≡ map valueBytes (own (hasRole 8 (getD rows q 0)) (saidOf x)) ++ (identifications rows (saying inner) ++ identifications rows (saying after))
+    ≡ map meaning (own (hasRole 8 (getD rows q 0)) (saidOf x)) ++ (identifications rows (saying inner) ++ identifications rows (saying after))
 unfolding identifications saying
-ids-parts rows q x inner after = mapped-parts rows valueBytes (hasRole 8) q (saidOf x) (saying inner) (saying after)
+ids-parts rows q x inner after = mapped-parts rows meaning (hasRole 8) q (saidOf x) (saying inner) (saying after)
 
 module _ (kind : ℕ) (rows : List ℕ) (p : ℕ) (L : Layout rows p) (W : Valued rows) (doc : List ℕ) where
   -- ---- in a series
@@ -178,7 +179,7 @@ module _ (kind : ℕ) (rows : List ℕ) (p : ℕ) (L : Layout rows p) (W : Value
       let keep₂ : (z : List ℕ) → used doc (t₂ .series) i z ≡ used doc (t₁ .series) i z
       = λ z. used-kept doc (t₁ .series) (t₂ .series) i z (λ j u. two .others j (inl u)) in
       joined (NotUsed doc (t .series) i) (NotUsed doc (t₁ .series) i) (NotUsed doc (t₂ .series) i)
-      (map valueBytes (own (hasRole 8 w) (saidOf x))) (identifications rows (saying inner)) (identifications rows (saying after))
+      (map meaning (own (hasRole 8 w) (saidOf x))) (identifications rows (saying inner)) (identifications rows (saying after))
       (identifications rows (saying (element q x inner after))) (ids-parts rows q x inner after)
       (step-used doc w i x y (t .series) (role-cases (roleOf w)) no v e)
       (inside-unused inner q i y₁ t₁ (omega (arith, a, b)) (s .0) (c .0 .stand) (c .1) (d .2) (g .1) e₁ (omega (arith, z₁, m)))
@@ -189,7 +190,7 @@ module _ (kind : ℕ) (rows : List ℕ) (p : ℕ) (L : Layout rows p) (W : Value
   within-unused : (q : ℕ) (x : Placed) (inner : Trees Placed) (y : Tally) (t : Tables) (past : List (List ℕ)) (id : TagSaid) → q ≡ seriesAt L → q < length rows
       → Fits rows q (rowsTaken inner) → EachConforms rows inner → Stands doc inner → HasValues rows inner → cellsOf (y .series + 1) ≤ length (t .series)
       → those (hasRole 8) rows (saying inner) ≡ id ∷ [] → Knows doc (t .series) (y .series) past
-      → Unused doc kind rows inner (opened (getD rows q 0) (saidOf x) y) (tablesWith kind rows q x (opened (getD rows q 0) (saidOf x) y) t) ↔ (isAmong (valueBytes id) past ≡ false)
+      → Unused doc kind rows inner (opened (getD rows q 0) (saidOf x) y) (tablesWith kind rows q x (opened (getD rows q 0) (saidOf x) y) t) ↔ (isAmong (meaning id) past ≡ false)
   unfolding identifications All
   within-unused q x inner y t past id e l f c d g room o k =
       let y₁ = tallyIn kind rows p L W doc q x y in
@@ -198,18 +199,18 @@ module _ (kind : ℕ) (rows : List ℕ) (p : ℕ) (L : Layout rows p) (W : Value
       let a = opened-series kind rows p L W doc q x inner y t e .0 in
       let z = opened-size kind rows p L W doc q x inner y t e in
       let h = inside-unused inner q n y₁ t₁ (omega (arith, e)) l (f .stand) c d g (omega (arith, a)) (omega (arith, z, room)) in
-      let ids : identifications rows (saying inner) ≡ valueBytes id ∷ [] = ap (map valueBytes) o in
-      let b = used-kept doc (t .series) (t₁ .series) n (valueBytes id) (opened-before kind rows p L W doc q x inner y t e) ∙ k (valueBytes id) in (
-        (λ u. let v : All (NotUsed doc (t₁ .series) n) (valueBytes id ∷ []) = subst (All (NotUsed doc (t₁ .series) n)) ids (h .0 u) in sym b ∙ v .0),
-        (λ u. let v : All (NotUsed doc (t₁ .series) n) (valueBytes id ∷ []) = (b ∙ u, tt) in h .1 (subst (All (NotUsed doc (t₁ .series) n)) (sym ids) v)),
+      let ids : identifications rows (saying inner) ≡ meaning id ∷ [] = ap (map meaning) o in
+      let b = used-kept doc (t .series) (t₁ .series) n (meaning id) (opened-before kind rows p L W doc q x inner y t e) ∙ k (meaning id) in (
+        (λ u. let v : All (NotUsed doc (t₁ .series) n) (meaning id ∷ []) = subst (All (NotUsed doc (t₁ .series) n)) ids (h .0 u) in sym b ∙ v .0),
+        (λ u. let v : All (NotUsed doc (t₁ .series) n) (meaning id ∷ []) = (b ∙ u, tt) in h .1 (subst (All (NotUsed doc (t₁ .series) n)) (sym ids) v)),
       )
 
   -- ---- beside the series
 
   -- the identification of a series that says one
-  id-shown : (s : Trees TagSaid) {v : List ℕ} (id : TagSaid) → those (hasRole 8) rows s ≡ id ∷ [] → v ≡ lastOf [] (saidFor rows s Identification) → v ≡ valueBytes id
+  id-shown : (s : Trees TagSaid) {v : List ℕ} (id : TagSaid) → those (hasRole 8) rows s ≡ id ∷ [] → v ≡ lastOf [] (saidFor rows s Identification) → says v ≡ meaning id
   unfolding saidFor
-  id-shown s id o e = e ∙ ap (λ (l : List TagSaid). lastOf [] (map valueBytes l)) o
+  id-shown s id o e = ap says (e ∙ ap (λ (l : List TagSaid). lastOf [] (map (λ (x : TagSaid). bytes (x .v)) l)) o)
 
   -- no identification is brought by a row that has another role
   step-none : (q : ℕ) (x : Placed) (y : Tally) (t : List ℕ) → eqb (roleOf (getD rows q 0)) 8 ≡ false
@@ -224,7 +225,7 @@ module _ (kind : ℕ) (rows : List ℕ) (p : ℕ) (L : Layout rows p) (W : Value
       → Unused doc kind rows (element q x inner after) y t ↔ NoneBefore past (identifications rows (saying (element q x inner after)))
   unfolding Unused walked filled saying identifications
   plain-unused q x inner after y t past e n h =
-      let l = ap (map valueBytes) (those-plain rows 8 q x inner after e n) in
+      let l = ap (map meaning) (those-plain rows 8 q x inner after e n) in
       let none-used = step-none q x y (t .series) n in (
         (λ u. subst (NoneBefore past) l (h .0 (rw e at (u .2)))),
         (λ u. (none-used, rw e tt, rw e (h .1 (subst (NoneBefore past) (sym l) u)))),
@@ -232,17 +233,17 @@ module _ (kind : ℕ) (rows : List ℕ) (p : ℕ) (L : Layout rows p) (W : Value
 
   series-unused : (q : ℕ) (x : Placed) (inner after : Trees Placed) (y : Tally) (t : Tables) (past : List (List ℕ)) (id : TagSaid) → eqb (roleOf (getD rows q 0)) 8 ≡ false
       → those (hasRole 8) rows (saying inner) ≡ id ∷ []
-      → Unused doc kind rows inner (opened (getD rows q 0) (saidOf x) y) (tablesWith kind rows q x (opened (getD rows q 0) (saidOf x) y) t) ↔ (isAmong (valueBytes id) past ≡ false)
+      → Unused doc kind rows inner (opened (getD rows q 0) (saidOf x) y) (tablesWith kind rows q x (opened (getD rows q 0) (saidOf x) y) t) ↔ (isAmong (meaning id) past ≡ false)
       → Unused doc kind rows after (walked rows (saying inner) (opened (getD rows q 0) (saidOf x) y))
       (filled kind rows inner (opened (getD rows q 0) (saidOf x) y) (tablesWith kind rows q x (opened (getD rows q 0) (saidOf x) y) t))
-      ↔ NoneBefore (valueBytes id ∷ past) (identifications rows (saying after))
+      ↔ NoneBefore (meaning id ∷ past) (identifications rows (saying after))
       → Unused doc kind rows (element q x inner after) y t ↔ NoneBefore past (identifications rows (saying (element q x inner after)))
   unfolding Unused saying identifications
   series-unused q x inner after y t past id n e h k =
-      let l = ap (map valueBytes) (those-after rows 8 q x inner after n e) in
+      let l = ap (map meaning) (those-after rows 8 q x inner after n e) in
       let none-used = step-none q x y (t .series) n in (
         (λ u. subst (NoneBefore past) l (h .0 (u .1), k .0 (u .2))),
-        (λ u. let v : NoneBefore past (valueBytes id ∷ identifications rows (saying after)) = subst (NoneBefore past) (sym l) u in (none-used, h .1 (v .0), k .1 (v .1))),
+        (λ u. let v : NoneBefore past (meaning id ∷ identifications rows (saying after)) = subst (NoneBefore past) (sym l) u in (none-used, h .1 (v .0), k .1 (v .1))),
       )
 
   beside-unused : (kids : Trees Placed) (y : Tally) (t : Tables) (past : List (List ℕ)) → Stand rows 1 (rowsTaken kids) → EachConforms rows kids → Stands doc kids → HasValues rows kids
@@ -267,11 +268,11 @@ module _ (kind : ℕ) (rows : List ℕ) (p : ℕ) (L : Layout rows p) (W : Value
       let v = r .size in
       let role : roleOf (getD rows q 0) ≡ 2 = ap (λ (i : ℕ). roleOf (getD rows i 0)) (e .0) ∙ L .series in
       let eight : eqb (roleOf (getD rows q 0)) 8 ≡ false = rw role in
-      let known = knows-on doc (t .series) (t₂ .series) n past (valueBytes (o .id)) (r .before) (id-shown (saying inner) (o .id) (o .id-once) (r .row .views Identification refl)) k in
+      let known = knows-on doc (t .series) (t₂ .series) n past (meaning (o .id)) (r .before) (id-shown (saying inner) (o .id) (o .id-once) (r .row .views Identification refl)) k in
       let u₁ : y₂ .series ≡ suc n = omega (arith, u) in
       series-unused q x inner after y t past (o .id) eight (o .id-once)
       (within-unused q x inner y t past (o .id) (e .0) (s .0) f (c .1) (d .2) (g .1) (omega (arith, more, room)) (o .id-once) k)
-      (beside-unused after y₂ t₂ (valueBytes (o .id) ∷ past) (s .2) (c .2) (d .3) (g .2) (omega (arith, more, room, u, v))
+      (beside-unused after y₂ t₂ (meaning (o .id) ∷ past) (s .2) (c .2) (d .3) (g .2) (omega (arith, more, room, u, v))
       (λ j l. r .beyond j (omega (arith, l, u)) ∙ blank j (omega (arith, l, u)))
       (λ z. ap (λ (m : ℕ). used doc (t₂ .series) m z) u₁ ∙ known z)))
       (λ e.
@@ -299,7 +300,7 @@ module _ (kind : ℕ) (rows : List ℕ) (p : ℕ) (L : Layout rows p) (W : Value
       let z = root-cells kind rows p L W doc ns np na x in
       let m = ap length (root-those kind rows p L W doc ns np na 2 x inner refl) in
       let len : length (t .series) ≡ ns = ap length z ∙ length-replicate ns 0 in
-      let l = ap (map valueBytes) (root-those kind rows p L W doc ns np na 8 x inner refl) in
+      let l = ap (map meaning) (root-those kind rows p L W doc ns np na 8 x inner refl) in
       let none-used = step-none kind rows p L W doc 1 x nothing (blank ns np na .series) (root-role kind rows p L W doc ns np na 8 refl) in
       let h = beside-unused kind rows p L W doc inner y t [] (c .each .0 .stand) (c .each .1) (d .2) (g .1) (omega (arith, m, room, len, a₀))
       (λ j b. ap (λ (k : List ℕ). getD k j 0) z ∙ zero-all 0 ns j)

@@ -8,10 +8,9 @@ use native.Mathlib.Omega.{arith}
 use lib.ListN.{length, take, drop}
 use lib.Seq.{take-take, drop-drop}
 use Rattle.items.specs.Parts.{spanOf}
-use Rattle.slices.specs.Run.{run}
 use Rattle.slices.specs.Part.{partOf}
-use Rattle.trims.specs.Trim.{space, dropped}
-use Rattle.trims.proofs.Trails.{part-place}
+use Rattle.trims.specs.Trim.{leadOf, trimmedOf}
+use Rattle.trims.proofs.Trimming.{trimmed-length, part-place}
 use Rattle.slices.specs.declared.Span.{Span}
 use Rattle.states.specs.Attributes.{there}
 use Rattle.reader.specs.Items.{Placed}
@@ -19,7 +18,7 @@ use Rattle.series.specs.Row.{cellAt, withView, view}
 use Rattle.series.specs.declared.Field.{Field}
 use Rattle.series.proofs.Rows.{view-shown}
 use Rattle.reader.specs.Rows.{quoted}
-use Rattle.reader.proofs.Spans.{dropped-in, quoted-le}
+use Rattle.reader.proofs.Spans.{quoted-le}
 use Rattle.contents.specs.Said.{bytes}
 use Rattle.contents.proofs.Fill.{saidOf}
 use Rattle.contents.proofs.Values.{as-quoted, said-bytes}
@@ -36,21 +35,14 @@ front-part n (suc r) zero l h = absurd (omega (arith, h))
 front-part n (suc r) (suc len) [] h = refl
 front-part n (suc r) (suc len) (b ∷ l) h = front-part n r len l (omega (arith, h))
 
-run-le : (p : ℕ → Bool) (l : List ℕ) → run p l ≤ length l
-unfolding run
-run-le p [] = omega arith
-run-le p (b ∷ l) =
-    let h = run-le p l in
-    elim (p b) as (λ (t : Bool). cond t (suc (run p l)) 0 ≤ suc (length l)) [ true ↦ omega (arith, h) | false ↦ omega arith ]
-
 -- the value without the spaces, where it stands in the item
-pub trimmed-part : (v : Span) (s : List ℕ) → partOf s (v .start + run space (quoted v s)) (length (dropped (quoted v s))) ≡ dropped (quoted v s)
+pub trimmed-part : (v : Span) (s : List ℕ) → partOf s (v .start + leadOf (quoted v s)) (length (trimmedOf (quoted v s))) ≡ trimmedOf (quoted v s)
 unfolding partOf quoted
 trimmed-part v s =
     let q = quoted v s in
-    let h : run space q + length (dropped q) ≤ v .len = let a = dropped-in q (run-le space q) in let b = quoted-le v s in omega (arith, a, b) in
-    ap (take (length (dropped q))) (sym (drop-drop (run space q) (v .start) s))
-    ∙ sym (front-part (length (dropped q)) (run space q) (v .len) (drop (v .start) s) h)
+    let h : leadOf q + length (trimmedOf q) ≤ v .len = omega (arith, trimmed-length q, quoted-le v s) in
+    ap (take (length (trimmedOf q))) (sym (drop-drop (leadOf q) (v .start) s))
+    ∙ sym (front-part (length (trimmedOf q)) (leadOf q) (v .len) (drop (v .start) s) h)
     ∙ part-place q
 
 -- ---- what two cells tell
@@ -63,14 +55,14 @@ module _ (doc : List ℕ) where
         view-shown doc t i f (x .at + v .start) (v .len) h ∙ part-in doc (x .rest) (x .at) (v .start) (v .len) stands ∙ as-quoted v (x .rest) ∙ sym (said-bytes x given)
 
     pub trimmed-view : view doc
-        (withView t i f (x .at + spanOf (x .item) .start + run space (quoted (spanOf (x .item)) (x .rest))) (length (dropped (quoted (spanOf (x .item)) (x .rest))))) i f
-        ≡ dropped (bytes (saidOf x .v))
+        (withView t i f (x .at + spanOf (x .item) .start + leadOf (quoted (spanOf (x .item)) (x .rest))) (length (trimmedOf (quoted (spanOf (x .item)) (x .rest))))) i f
+        ≡ trimmedOf (bytes (saidOf x .v))
     trimmed-view =
         let v = spanOf (x .item) in
         let q = quoted v (x .rest) in
-        let e : x .at + v .start + run space q ≡ x .at + (v .start + run space q) = omega arith in
-        view-shown doc t i f (x .at + v .start + run space q) (length (dropped q)) h
-        ∙ ap (λ (n : ℕ). partOf doc n (length (dropped q))) e
-        ∙ part-in doc (x .rest) (x .at) (v .start + run space q) (length (dropped q)) stands
+        let e : x .at + v .start + leadOf q ≡ x .at + (v .start + leadOf q) = omega arith in
+        view-shown doc t i f (x .at + v .start + leadOf q) (length (trimmedOf q)) h
+        ∙ ap (λ (n : ℕ). partOf doc n (length (trimmedOf q))) e
+        ∙ part-in doc (x .rest) (x .at) (v .start + leadOf q) (length (trimmedOf q)) stands
         ∙ trimmed-part v (x .rest)
-        ∙ ap dropped (sym (said-bytes x given))
+        ∙ ap trimmedOf (sym (said-bytes x given))

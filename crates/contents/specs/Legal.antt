@@ -52,7 +52,7 @@ inEach test rows (element r tag inner after) =
 
 -- "Where the guideline says collapse, leading and trailing spaces are dropped; where it says preserve, or says nothing, none are."
 unfoldable pub sayings : ℕ → TagSaid → List ℕ
-sayings w s = says (cond (collapsed w) (dropped (bytes (s .v))) (bytes (s .v)))
+sayings w s = cond (collapsed w) (dropped (says (bytes (s .v)))) (says (bytes (s .v)))
 
 -- from one minute to another
 pub record Period : Type 0 where
@@ -81,7 +81,7 @@ positionBy (Is p) = p
 positionBy NotNumber = 0
 
 unfoldable pub positionOf : TagSaid → ℕ
-positionOf s = positionBy (numberOf (says (dropped (bytes (s .v)))) 5)
+positionOf s = positionBy (numberOf (dropped (says (bytes (s .v)))) 5)
 
 -- ---- the rules of one element
 
@@ -98,7 +98,7 @@ attributesAgree kind w s =
 
 -- codingScheme, which is collapsed in every row that has it, by its code list
 unfoldable pub schemeFits : ℕ → TagSaid → Bool
-schemeFits w s = cond (eqb (schemeOf w) noScheme) true (listed (codesOf (schemeOf w - byList)) (says (dropped (bytes (s .scheme)))))
+schemeFits w s = cond (eqb (schemeOf w) noScheme) true (listed (codesOf (schemeOf w - byList)) (dropped (says (bytes (s .scheme)))))
 
 -- `v` by its form or code list, and beside the period: "TimeInterval equals TimePeriodCovered". Pos is held against the one before it, below
 unfoldable pub valueFits : ℕ → Period → ℕ → TagSaid → Bool
@@ -152,7 +152,7 @@ All P (x ∷ xs) = P x × All P xs
 -- which code an element of a series is, of which there is one; it is collapsed
 unfoldable pub codeIn : (List ℕ → ℕ) → List TagSaid → ℕ
 codeIn number [] = 0
-codeIn number (s ∷ ss) = number (says (dropped (bytes (s .v))))
+codeIn number (s ∷ ss) = number (dropped (says (bytes (s .v))))
 
 unfoldable pub businessIn : List ℕ → Trees TagSaid → ℕ
 businessIn rows s = codeIn typeNo (those (hasRole businessRole) rows s)
@@ -190,7 +190,7 @@ seriesAgree rows withdrawn ss =
 
 -- ---- the whole
 
--- one of them is the same, "compared byte for byte"
+-- one of them is the same
 unfoldable pub isAmong : List ℕ → List (List ℕ) → Bool
 isAmong id [] = false
 isAmong id (x ∷ xs) = cond (same id x) true (isAmong id xs)
@@ -200,8 +200,9 @@ unfoldable pub Apart : List (List ℕ) → Type 0
 Apart [] = Unit {0}
 Apart (x ∷ xs) = (isAmong x xs ≡ false) × Apart xs
 
+-- by what they say. K4: "two identifications are equal when their meanings are"
 unfoldable pub identifications : List ℕ → Trees TagSaid → List (List ℕ)
-identifications rows c = map (λ (s : TagSaid). bytes (s .v)) (those (hasRole seriesIdRole) rows c)
+identifications rows c = map (λ (s : TagSaid). says (bytes (s .v))) (those (hasRole seriesIdRole) rows c)
 
 -- A content that meets every rule of its kind.
 pub record Legal (kind : ℕ) (c : Trees TagSaid) : Type 0 where

@@ -6,7 +6,7 @@ use mathlib.Core.Bool.{true, false}
 use lib.IntN.{ℤ, pos}
 use lib.ListN.{length, getD, take}
 use Rattle.characters.specs.Says.{says}
-use Rattle.trims.specs.Trim.{dropped}
+use Rattle.trims.specs.Trim.{dropped, trimmedOf}
 use Rattle.numbers.specs.Amount.{amountOf}
 use Rattle.columns.specs.Columns.{valueRole, seriesRole, intervalRole, objectRole, businessRole, seriesIdRole, posRole, qtyRole, directionRole, areaRole}
 use Rattle.series.specs.Row.{isView, fieldAt, NoView, view}
@@ -22,7 +22,7 @@ use Rattle.contents.specs.Legal.{hasRole, those, inEach, periodOf, quart
 
 -- the amount that a Qty says, which is collapsed, in thousandths
 unfoldable pub amountIn : TagSaid → ℤ
-amountIn s = thousandthsOf (amountOf (says (dropped (bytes (s .v)))))
+amountIn s = thousandthsOf (amountOf (dropped (says (bytes (s .v)))))
 
 unfoldable pub sum : List ℕ → ℕ
 sum [] = 0
@@ -47,8 +47,8 @@ roleShown Count = valueRole
 abbrev pub partShown : Field → List ℕ → List ℕ
 partShown Identification b = b
 partShown Object b = b
-partShown BusinessType b = dropped b
-partShown Direction b = dropped b
+partShown BusinessType b = trimmedOf b
+partShown Direction b = trimmedOf b
 partShown Area b = b
 partShown FirstRow b = b
 partShown Count b = b

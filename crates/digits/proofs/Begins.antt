@@ -18,11 +18,11 @@ use Rattle.slices.specs.Part.{partOf}
 use Rattle.attributes.specs.Attribute.{attribute, pieceAfter, piece}
 use Rattle.attributes.specs.declared.Piece.{Piece}
 use Rattle.attributes.specs.declared.Piece.the-variants.{Attribute, Close, CloseEmpty, Torn}
-use Rattle.attributes.proofs.Short.{byte-drop}
+use Rattle.slices.proofs.Bytes.{byte-drop}
 use Rattle.prolog.specs.Prolog.{utf, declaredBy, declared, encodedBy, encoded, declarationBy, declaration, markLen, behindMark, beginAfter, begin}
 use Rattle.prolog.specs.declared.Begin.{Begin}
 use Rattle.prolog.specs.declared.Begin.the-variants.{From, Misdeclared}
-use Rattle.digits.proofs.Near.{Front, front-drop, long-drop, part-near, begins-near}
+use Rattle.slices.proofs.Near.{Front, front-drop, long-drop, part-near, begins-near}
 use Rattle.digits.proofs.Spans.{PieceLaid, piece-laid}
 use Rattle.digits.proofs.Pieces.{white-near, piece-whole}
 

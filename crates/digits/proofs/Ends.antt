@@ -12,13 +12,13 @@ use Rattle.slices.specs.Part.{partOf}
 use Rattle.attributes.specs.Attribute.{value, piece}
 use Rattle.attributes.specs.declared.Piece.{Piece}
 use Rattle.attributes.specs.declared.Piece.the-variants.{Attribute, Close, CloseEmpty, Torn}
-use Rattle.attributes.proofs.Short.{byte-drop}
+use Rattle.slices.proofs.Bytes.{byte-drop}
 use Rattle.tags.specs.Tail.{Attr, closed, onto, endsAfter}
 use Rattle.tags.proofs.Ends.{attr}
 use Rattle.slices.specs.declared.Span.{Span}
 use Rattle.digits.specs.Unseen.{Unseen, Or}
 use Rattle.digits.specs.Items.{InSpan}
-use Rattle.digits.proofs.Near.{Front, long-drop, part-near}
+use Rattle.slices.proofs.Near.{Front, long-drop, part-near}
 use Rattle.digits.proofs.Spans.{PieceLaid, piece-laid, Within, within-wider, endsBy, ends-by, onto-closed, ends-ordered}
 use Rattle.digits.proofs.Pieces.{value-same, piece-near, close-near, empty-near}
 

@@ -17,7 +17,7 @@ use Rattle.slices.proofs.Firsts.{first-by}
 use Rattle.characters.specs.Says.{allChars}
 use Rattle.attributes.specs.Names.{nameStart, nameByte, white}
 use Rattle.slices.specs.Part.{partOf}
-use Rattle.attributes.proofs.Short.{byte-drop}
+use Rattle.slices.proofs.Bytes.{byte-drop}
 use Rattle.tags.specs.Known.{absent, dtdName, noneKnown, withAttribute}
 use Rattle.tags.specs.Tail.{Attr, Ends, closed, torn, ends, keptOf, twice}
 use Rattle.slices.specs.declared.Span.{Span}
@@ -29,7 +29,7 @@ use Rattle.items.specs.declared.Item.{Item}
 use Rattle.items.specs.declared.Item.the-variants.{End, Text, Comment, Unreadable}
 use Rattle.digits.specs.Unseen.{Unseen, Or}
 use Rattle.digits.specs.Items.{InSpan, InV, JoinsV, SameButV, valueIn}
-use Rattle.digits.proofs.Near.{Front, front-drop, long-drop, take-near, first-near}
+use Rattle.slices.proofs.Near.{Front, front-drop, long-drop, take-near, first-near}
 use Rattle.digits.proofs.Spans.{ends-ordered}
 use Rattle.digits.proofs.Pieces.{white-near, name-near}
 use Rattle.digits.proofs.Ends.{OneOf, one-behind, Left, same-ends}

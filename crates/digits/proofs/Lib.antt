@@ -9,4 +9,5 @@ pub mod Places
 pub mod Tests
 pub mod Chars
 pub mod Values
+pub mod Spelling
 pub mod Identifications

@@ -15,7 +15,7 @@ use Rattle.slices.specs.Text.{text}
 use Rattle.characters.specs.Says.{allChars}
 use Rattle.attributes.specs.Names.{nameStart, nameByte, white}
 use Rattle.slices.specs.Part.{partOf}
-use Rattle.attributes.proofs.Short.{byte-drop}
+use Rattle.slices.proofs.Bytes.{byte-drop}
 use Rattle.tags.specs.Known.{absent, dtdName, noDtd, withDtd, noneKnown, withAttribute}
 use Rattle.tags.specs.Tail.{Attr, Ends, closed, torn, ends, keptOf, twice}
 use Rattle.slices.specs.declared.Span.{Span}
@@ -27,8 +27,8 @@ use Rattle.items.specs.Item.{tagOf, tagItem, startTag, endTag, endName, endClos
 use Rattle.items.specs.declared.Tag.{Tag}
 use Rattle.items.specs.declared.Item.the-variants.{End}
 use Rattle.digits.specs.Items.{InSpan, Stands, IsTag, Beside, ValuesLaid, TagLaid, Laid, valueIn, PartsSame}
-use Rattle.trims.proofs.Low.{by-test}
-use Rattle.digits.proofs.Near.{part-near}
+use Rattle.characters.proofs.Low.{by-test}
+use Rattle.slices.proofs.Near.{part-near}
 use Rattle.digits.proofs.Spans.{Within, ends-ordered}
 
 -- what is kept of the attributes up to the place `to` of a tag whose name has n bytes

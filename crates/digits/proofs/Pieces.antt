@@ -8,17 +8,18 @@ use native.Mathlib.Omega.{arith}
 use lib.Dec.{eqb}
 use lib.ListN.{length, take, drop, length-append}
 use lib.Seq.{length-take-le, split-at}
-use borrow.Author.Tests.{eqb-true}
-use Rattle.lists.proofs.Cases.{bool-cases, eqb-cases}
+use Rattle.lists.proofs.Cases.{bool-cases}
 use Rattle.slices.specs.Bytes.{byte}
 use Rattle.slices.specs.Run.{run}
 use Rattle.attributes.specs.Names.{nameByte, white}
 use Rattle.attributes.specs.Attribute.{quote, value, openingFrom, opening, attributeQuote, attributeName, attribute, pieceAfter, piece}
 use Rattle.attributes.specs.declared.Piece.the-variants.{Close, CloseEmpty}
 use Rattle.attributes.specs.declared.Value.the-variants.{Long}
-use Rattle.attributes.proofs.Short.{byte-there}
+use Rattle.attributes.proofs.Values.{quote-range}
+use Rattle.slices.proofs.Bytes.{byte-there}
 use Rattle.digits.specs.Unseen.{Unseen}
-use Rattle.digits.proofs.Near.{Front, front-drop, long-drop, run-near, value-closes, value-near}
+use Rattle.slices.proofs.Near.{Front, front-drop, long-drop, run-near}
+use Rattle.digits.proofs.Near.{value-closes, value-near}
 use Rattle.digits.proofs.Spans.{AttributeLaid, PieceLaid}
 
 none-white : white 0 ≡ false
@@ -52,12 +53,7 @@ opening-near x y a h f =
 -- ---- a value, and one that R joins to it
 
 quote-small : (q : ℕ) → quote q ≡ true → (q < 0x80) × (0 < q)
-unfolding quote
-quote-small q e =
-    ⊎-elim
-    (λ (t : (q ≡ 0x22) × (eqb q 0x22 ≡ true)). (omega (arith, t .0), omega (arith, t .0)))
-    (λ (t : (q ≡ 0x22 → ⊥) × (eqb q 0x22 ≡ false)). let z = eqb-true q 0x27 (rw (t .1) at e) in (omega arith, omega arith))
-    (eqb-cases q 0x22)
+quote-small q e = let r = quote-range q e in (omega (arith, r .1), omega (arith, r .0))
 
 prefix-front : (p : List ℕ) (c : ℕ) (r r′ : List ℕ) → Front (p ++ c ∷ r) (p ++ c ∷ r′) (length p + 1)
 unfolding byte

@@ -19,7 +19,7 @@ use Rattle.attributes.specs.declared.Value.{Value}
 use Rattle.attributes.specs.declared.Value.the-variants.{Long, Broken}
 use Rattle.tags.specs.Tail.{Attr, Ends, closed, torn, onto, endsAfter}
 use Rattle.tags.proofs.Ends.{attr}
-use Rattle.trims.proofs.Low.{by-test}
+use Rattle.characters.proofs.Low.{by-test}
 
 -- an attribute of a piece l: w bytes of white space, a name of n bytes, and a value of m bytes behind the opening quote, at o
 pub record AttributeLaid (l : List ℕ) (w n o m : ℕ) : Type 0 where

@@ -1,4 +1,4 @@
--- Values that differ in digits alone: what they say, and that one is an amount exactly when the other is. Assumes nothing.
+-- Values that differ only in digits outside references: what they say differs in digits alone, and one is an amount exactly when the other is. Assumes nothing.
 use Prim.Native.Nat.{ℕ, zero, suc, pred}
 use mathlib.Core.Path.{_≡_, refl, sym, _∙_}
 use mathlib.Core.List.{List, [], _∷_}
@@ -6,8 +6,7 @@ use mathlib.Core.Bool.{Bool, true, false, cond}
 use mathlib.Core.Logic.{inl, inr}
 use lib.IntN.{ℤ}
 use Rattle.characters.proofs.Saying.{said-some}
-use Rattle.characters.specs.Utf8.{charAt}
-use Rattle.characters.specs.Says.{saidBy, saysAfter, says}
+use Rattle.characters.specs.Says.{Met, met, charOf, saidBy, saysAfter, says}
 use Rattle.characters.specs.declared.Char.{Char}
 use Rattle.characters.specs.declared.Char.the-variants.{Is, NoChar}
 use Rattle.characters.specs.declared.Said.{Said}
@@ -19,8 +18,9 @@ use Rattle.numbers.proofs.Blind.{blind}
 use Rattle.rules.specs.Rules.{amountBy, amount, formRefusal, codeNo, judge}
 use Rattle.rules.specs.declared.Held.{Held}
 use Rattle.numbers.specs.Alike.{Like, Alike, none, next}
+use Rattle.digits.specs.Outside.{AlikeFrom, none as over, same, digits}
 use Rattle.digits.proofs.Tests.{like-test, blind-space}
-use Rattle.digits.proofs.Chars.{LikeChar, same, digits, alike-char}
+use Rattle.digits.proofs.Chars.{LikeMet, equal, numerals, alike-met}
 
 -- the same choice of alike lists
 choice : (t : Bool) {a b a′ b′ : List ℕ} → Alike a a′ → Alike b b′ → Alike (cond t a b) (cond t a′ b′)
@@ -51,25 +51,34 @@ saidThen : Said → List ℕ → List ℕ
 saidThen (Says c n) t = c ∷ saysAfter (pred n) t
 saidThen Over t = []
 
-said-then : (c : ℕ) (t : List ℕ) (x : Char) → charAt (c ∷ t) ≡ x → saysAfter zero (c ∷ t) ≡ saidThen (saidBy x) t
+said-then : (c : ℕ) (t : List ℕ) (x : Char) → charOf (met (c ∷ t)) ≡ x → saysAfter zero (c ∷ t) ≡ saidThen (saidBy x) t
 unfolding saysAfter saidBy saidThen
 said-then c t (Is d n) q = rw (saysAfter, said-some c t, q)
 said-then c t NoChar q = rw (saysAfter, said-some c t, q)
 
-like-then : {a b : Char} (x y : List ℕ) → LikeChar a b → ((k : ℕ) → Alike (saysAfter k x) (saysAfter k y)) → Alike (saidThen (saidBy a) x) (saidThen (saidBy b) y)
-unfolding saidBy saidThen
-like-then x y (same (Is c n)) f = next (inl refl) (f (pred n))
-like-then x y (same NoChar) f = next (inl refl) (f 0)
-like-then x y (digits p q) f = next (inr (p, q)) (f 0)
+module _ (x y : List ℕ) (f : (k : ℕ) → Alike (saysAfter k x) (saysAfter k y)) where
+  same-then : (z : Char) → Alike (saidThen (saidBy z) x) (saidThen (saidBy z) y)
+  unfolding saidBy saidThen
+  same-then (Is c n) = next (inl refl) (f (pred n))
+  same-then NoChar = next (inl refl) (f 0)
 
-alike-after : {x y : List ℕ} → Alike x y → (k : ℕ) → Alike (saysAfter k x) (saysAfter k y)
+  like-then : {a b : Met} → LikeMet a b → Alike (saidThen (saidBy (charOf a)) x) (saidThen (saidBy (charOf b)) y)
+  unfolding charOf saidBy saidThen
+  like-then (equal a) = same-then (charOf a)
+  like-then (numerals p q) = next (inr (p, q)) (f 0)
+
+  alike-first : {o : Bool} {c d : ℕ} → AlikeFrom o (c ∷ x) (d ∷ y) → Alike (saysAfter zero (c ∷ x)) (saysAfter zero (d ∷ y))
+  alike-first {c = c} {d = d} r = rw (said-then c x (charOf (met (c ∷ x))) refl, said-then d y (charOf (met (d ∷ y))) refl) (like-then (alike-met r))
+
+alike-after : {o : Bool} {x y : List ℕ} → AlikeFrom o x y → (k : ℕ) → Alike (saysAfter k x) (saysAfter k y)
 unfolding saysAfter
-alike-after none k = none
-alike-after (next e r) (suc k) = alike-after r k
-alike-after (next {c} {d} {x} {y} e r) zero =
-    rw (said-then c x (charAt (c ∷ x)) refl, said-then d y (charAt (d ∷ y)) refl) (like-then x y (alike-char (next e r)) (alike-after r))
+alike-after over k = none
+alike-after (same b r) (suc k) = alike-after r k
+alike-after (digits e f r) (suc k) = alike-after r k
+alike-after (same {x = x} {y = y} b r) zero = alike-first x y (alike-after r) (same b r)
+alike-after (digits {x = x} {y = y} e f r) zero = alike-first x y (alike-after r) (digits e f r)
 
-pub alike-says : {x y : List ℕ} → Alike x y → Alike (says x) (says y)
+pub alike-says : {o : Bool} {x y : List ℕ} → AlikeFrom o x y → Alike (says x) (says y)
 unfolding says
 alike-says r = alike-after r 0
 
@@ -90,6 +99,6 @@ pub alike-judged : {l m : List ℕ} (h : Held) → Alike l m → judge 10 h l �
 unfolding judge formRefusal codeNo amount
 alike-judged {l} {m} h r = rw (alike-amount r)
 
--- of a value as the guideline's row for an amount reads it: spaces dropped, and then what it says
-pub alike-read : {x y : List ℕ} (h : Held) → Alike x y → judge 10 h (says (dropped x)) ≡ judge 10 h (says (dropped y))
-alike-read h r = alike-judged h (alike-says (alike-dropped r))
+-- of a value as the guideline's row for an amount reads it: what it says, spaces dropped
+pub alike-read : {o : Bool} {x y : List ℕ} (h : Held) → AlikeFrom o x y → judge 10 h (dropped (says x)) ≡ judge 10 h (dropped (says y))
+alike-read h r = alike-judged h (alike-dropped (alike-says r))

@@ -9,9 +9,8 @@ use lib.ListN.{length, set, replicate, length-set, getD-replicate, List·getD-eq
 use lib.Seq.{getD-set-other}
 use Rattle.items.specs.Parts.{spanOf}
 use Rattle.lists.proofs.Cases.{ltb-cases}
-use Rattle.slices.specs.Run.{run}
 use Rattle.slices.specs.declared.Span.{Span}
-use Rattle.trims.specs.Trim.{space, dropped}
+use Rattle.trims.specs.Trim.{leadOf, trimmedOf}
 use Rattle.states.specs.declared.State.{State}
 use Rattle.states.specs.declared.Room.{Room}
 use Rattle.states.specs.declared.Entry.{Entry}
@@ -116,9 +115,9 @@ module _ (at : ℕ) (v : Span) (s : List ℕ) (y : State) where
   row-past Identification t h p = view-past (y .series) Identification (at + v .start) (v .len) t h (omega arith) p
   row-past Object t h p = view-past (y .series) Object (at + v .start) (v .len) t h (omega arith) p
   row-past BusinessType t h p =
-      view-past (y .series) BusinessType (at + v .start + run space (quoted v s)) (length (dropped (quoted v s))) t h (omega arith) p
+      view-past (y .series) BusinessType (at + v .start + leadOf (quoted v s)) (length (trimmedOf (quoted v s))) t h (omega arith) p
   row-past Direction t h p =
-      view-past (y .series) Direction (at + v .start + run space (quoted v s)) (length (dropped (quoted v s))) t h (omega arith) p
+      view-past (y .series) Direction (at + v .start + leadOf (quoted v s)) (length (trimmedOf (quoted v s))) t h (omega arith) p
   row-past Area t h p = view-past (y .series) Area (at + v .start) (v .len) t h (omega arith) p
   row-past FirstRow t h p = field-past (y .series) FirstRow (y .first) t h (omega arith) p
   row-past Count t h p = field-past (y .series) Count (y .intervals - y .first) t h (omega arith) p

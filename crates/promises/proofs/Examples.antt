@@ -9,10 +9,10 @@ use Rattle.slices.specs.Run.{run}
 use Rattle.slices.specs.Same.{same, begins}
 use Rattle.slices.specs.Walk.{walk}
 use Rattle.characters.specs.Utf8.{seqLen, control, single, charAt}
-use Rattle.characters.specs.Says.{saidBy, saidAt, saysAfter, says}
+use Rattle.characters.specs.Says.{met, charOf, saidBy, saidAt, saysAfter, says}
 use Rattle.attributes.specs.Names.{nameStart, nameByte, white}
 use Rattle.slices.specs.Part.{partOf}
-use Rattle.attributes.specs.Attribute.{quote, fit, valueNext, valueOver, value, openingFrom, opening, attributeEnd, attributeQuote, attributeName, attribute, pieceAfter, piece}
+use Rattle.attributes.specs.Attribute.{quote, fit, standingNext, valueNext, valueOver, value, openingFrom, opening, attributeEnd, attributeQuote, attributeName, attribute, pieceAfter, piece}
 use Rattle.tags.specs.Known.{absent, dtdName, noDtd, withDtd, noneKnown, upToTwo as anotherKnown, withAttribute as notedKnown}
 use Rattle.tags.specs.Tail.{onto, endsAfter, ends, keptOf, named, twice}
 use Rattle.items.specs.Parts.{spanOf}
@@ -20,7 +20,7 @@ use Rattle.items.specs.Item.{endClose, endName, endTag, tagOf, tagItem, startTa
 use Rattle.prolog.specs.Prolog.{markLen, beginAfter, begin}
 use Rattle.pictures.specs.Picture.{capital, capitalOrDigit, firstThree, digit, takes, held, fitsOf}
 use Rattle.pictures.specs.Number.{shownNumber, numberAt}
-use Rattle.trims.specs.Trim.{space, dropLead, keptBefore as keepEnd, dropTrail, dropped}
+use Rattle.trims.specs.Trim.{space, dropLead, keptBefore as keepEnd, dropTrail, dropped, leadAfter, leadOf, keptFrom, keptAfter, keptBytes, cutTrail, trimmedOf}
 use Rattle.numbers.specs.Digits.{digits, numberFrom, nothingLeft as nothingAfter, onlyDigits}
 use Rattle.numbers.specs.Amount.{minus, unsigned, fractionForm, unsignedForm, writtenAmount, filled, thousandths, signed, amountOf}
 use Rattle.numbers.specs.Number.{numberForm, atMostNine, numberWithin, numberOf as countOf}
@@ -38,7 +38,7 @@ use Rattle.structure.specs.Depth.{heightIn, depthOf}
 use Rattle.columns.specs.Columns.{collapsed, formOf, schemeOf, roleOf}
 use Rattle.guideline.specs.Kinds.{noDemands, messageAlone, versionAndRelease, noKind, kindOne, kindTwo, kindThree, kindAt, fixedOne, fixedTwo, fixedThree, fixedFor, withinMost, takesAnother, kindOf, hasEnough}
 use Rattle.guideline.specs.Rows.{beschaffungsanforderung, kostenblatt, networkConstraintDocument, rowsOf}
-use Rattle.states.specs.Attributes.{valueOf, schemeRefusal, least, alsoScheme, there, agree, asksV, asksScheme, demandsAt, meets, dtdFits, noOthers, attributesFit, valueFixed, dtdFixed, judgeTag}
+use Rattle.states.specs.Attributes.{saidIn, schemeRefusal, least, alsoScheme, there, agree, asksV, asksScheme, demandsAt, meets, dtdFits, noOthers, attributesFit, valueFixed, dtdFixed, judgeTag}
 use Rattle.states.specs.Constraints.{noneSeen, withdrawing, changing, unchanging, directedTo, typed, directed, noticed, against, lacking}
 use Rattle.states.specs.Moves.{oneMore, oneSeries, oneInterval, oneOriginal, lastPos, covering, closedAt, lackRefusal, endRefusal, afterEndAt as tagEnded, afterEnd, begun, heldOf, cutShort, tooMany, noRoom, halfOriginals, againstOthers, besideOthers, valuesJudged, judgedAt, startJudged, atRow, kept, entered, entryOf, startedBy, startedAt, started, countRefusal, moved, rootKind, kindTold, step}
 use Rattle.notes.specs.Note.{groupsIn, flat, left}
@@ -72,17 +72,17 @@ secondId = record { start = 955; len = 2 }
 computed : (allPass examples ≡ true) × (readOf sheet 25 4 4 Old 16 ≡ sheetOutcome)
     × (readOf twiceSheet 25 4 4 Old 16 .answer ≡ twiceAnswer) × (identificationsIn sheet ≡ firstId ∷ secondId ∷ [])
     × (readOf constraintSheet 25 4 4 Old 16 ≡ constraintOutcome) × (readOf withdrawnSheet 0 0 0 Old 16 ≡ withdrawnOutcome)
-unfolding byte run same begins walk seqLen control single charAt saidBy saidAt saysAfter says nameStart nameByte white quote fit valueNext valueOver
+unfolding byte run same begins walk seqLen control single charAt met charOf saidBy saidAt saysAfter says nameStart nameByte white quote fit standingNext valueNext valueOver
     value openingFrom opening attributeEnd attributeQuote attributeName attribute pieceAfter piece partOf absent dtdName noDtd withDtd noneKnown anotherKnown
     notedKnown onto endsAfter ends keptOf named twice endClose endName endTag tagOf tagItem startTag item markLen beginAfter begin capital
-    capitalOrDigit firstThree digit takes fitsOf shownNumber numberAt space dropLead keepEnd dropTrail dropped digits numberFrom nothingAfter
+    capitalOrDigit firstThree digit takes fitsOf shownNumber numberAt space dropLead keepEnd dropTrail dropped leadAfter leadOf keptFrom keptAfter keptBytes cutTrail trimmedOf digits numberFrom nothingAfter
     onlyDigits minus unsigned fractionForm unsignedForm writtenAmount filled thousandths signed amountOf numberForm atMostNine numberWithin countOf
     lists codesOf listed held identification gridElement marketPartner resourceObject quarterHour leap monthDays realDate daysBefore leapDay
     dayNumber dayOf minuteOn minuteAt isMinute dateTime between interval costPeriod quarterHours changes marchSunday
     octoberSunday yearOf inSummer startOfDay deliveryDay dayPeriod versionBy isVersion amountBy
     amount judgeIntervalBy judgeInterval positionFits judgePositionBy judgePosition judge unless formRefusal typeNo directionNo codeNo periodFits judgePeriodBy
     judgePeriod names numberIn elementNo nameOf parentOf required repeated nextIn endsIn startOf endAt endOf endsAtOnce closesDocument overOf
-    collapsed formOf schemeOf roleOf noDemands messageAlone versionAndRelease noKind kindOne kindTwo kindThree kindAt fixedOne fixedTwo fixedThree fixedFor withinMost takesAnother kindOf hasEnough beschaffungsanforderung kostenblatt networkConstraintDocument rowsOf valueOf schemeRefusal least
+    collapsed formOf schemeOf roleOf noDemands messageAlone versionAndRelease noKind kindOne kindTwo kindThree kindAt fixedOne fixedTwo fixedThree fixedFor withinMost takesAnother kindOf hasEnough beschaffungsanforderung kostenblatt networkConstraintDocument rowsOf saidIn schemeRefusal least
     alsoScheme there agree asksV asksScheme demandsAt meets dtdFits noOthers attributesFit valueFixed dtdFixed judgeTag noneSeen withdrawing changing unchanging directedTo typed directed noticed against lacking oneMore oneSeries oneInterval oneOriginal lastPos covering closedAt
     lackRefusal endRefusal tagEnded afterEnd begun heldOf cutShort tooMany noRoom halfOriginals againstOthers besideOthers valuesJudged judgedAt startJudged atRow kept entered entryOf
     startedBy startedAt started countRefusal moved rootKind kindTold step groupsIn flat left itemsAfter itemsFrom quoted

@@ -25,7 +25,7 @@ use Rattle.rules.specs.declared.Held.{Held}
 use Rattle.rules.specs.declared.Judged.{Judged}
 use Rattle.items.specs.declared.Tag.{Tag}
 use Rattle.slices.specs.declared.Span.{Span}
-use Rattle.states.specs.Attributes.{attributesFit, valueOf, schemeRefusal, least, alsoScheme, dtdFixed, judgeTag}
+use Rattle.states.specs.Attributes.{attributesFit, saidIn, schemeRefusal, least, alsoScheme, dtdFixed, judgeTag}
 use Rattle.states.specs.Moves.{heldOf, cutShort, tooMany, noRoom, halfOriginals, againstOthers, besideOthers, valuesJudged, judgedAt, startJudged, countRefusal, lackRefusal, endRefusal}
 use Rattle.states.specs.Constraints.{lacking}
 use Rattle.states.specs.declared.State.{State}
@@ -94,7 +94,7 @@ scheme-given : (w : ℕ) (x : Span) (s : List ℕ) → Given (schemeRefusal w x 
 unfolding schemeRefusal
 scheme-given w x s =
     by-cond Given (eqb (schemeOf w) 0) refl
-    (by-cond Given (listed (codesOf (schemeOf w - 1)) (says (dropped (partOf s (x .start) (x .len))))) refl refl)
+    (by-cond Given (listed (codesOf (schemeOf w - 1)) (dropped (says (partOf s (x .start) (x .len))))) refl refl)
 
 least-given : (a b : ℕ) → Given a → Given b → Given (least a b)
 unfolding least
@@ -106,8 +106,8 @@ tag-given w t h s =
     by-cond GivenBy (eqb (roleOf w) 1)
     (by-cond GivenBy (dtdFixed (h .kind) (t .dtd) s) refl refl)
     (by-cond GivenBy (eqb (formOf w) 0) refl
-    (least-given (judge (formOf w) h (says (valueOf w (t .v) s)) .number) (schemeRefusal w (t .coding) s)
-    (judge-given (formOf w) h (says (valueOf w (t .v) s))) (scheme-given w (t .coding) s)))
+    (least-given (judge (formOf w) h (saidIn w (t .v) s) .number) (schemeRefusal w (t .coding) s)
+    (judge-given (formOf w) h (saidIn w (t .v) s)) (scheme-given w (t .coding) s)))
 
 beside-given : (x : State) (kind role : ℕ) (j : Judged) → GivenBy j → GivenBy (besideOthers x kind role j)
 unfolding besideOthers

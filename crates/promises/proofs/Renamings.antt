@@ -16,7 +16,7 @@ use Rattle.slices.specs.Walk.{walk}
 use Rattle.slices.specs.Text.{text}
 use Rattle.slices.specs.declared.Span.{Span}
 use Rattle.characters.specs.Utf8.{seqLen, control, single, charAt}
-use Rattle.characters.specs.Says.{charNext, charsOver, allChars, saidBy, saidAt, saysAfter, says}
+use Rattle.characters.specs.Says.{charNext, charsOver, allChars, saidBy, saidAt, saysAfter, says, met, charOf}
 use Rattle.attributes.specs.Attribute.{quote}
 use Rattle.reader.specs.Rows.{quoted}
 use Rattle.notes.specs.declared.Shape.the-variants.{Old}
@@ -108,15 +108,15 @@ module _ (x y : List ℕ) (ids : identificationsIn x ≡ firstId ∷ secondId �
 -- ---- the sheet
 
 put-first : PutFor (text "S1") (text "XX")
-unfolding allChars walk charNext charsOver charAt seqLen single control byte says saysAfter saidAt saidBy run idByte quote
+unfolding allChars walk charNext charsOver charAt seqLen single control byte says saysAfter met charOf saidAt saidBy run idByte quote
 put-first = record { before = record { legal = refl; bytes = refl }; after = record { legal = refl; bytes = refl }; bytes = refl; characters = refl }
 
 put-second : PutFor (text "S2") (text "XY")
-unfolding allChars walk charNext charsOver charAt seqLen single control byte says saysAfter saidAt saidBy run idByte quote
+unfolding allChars walk charNext charsOver charAt seqLen single control byte says saysAfter met charOf saidAt saidBy run idByte quote
 put-second = record { before = record { legal = refl; bytes = refl }; after = record { legal = refl; bytes = refl }; bytes = refl; characters = refl }
 
 put-same : PutFor (text "S2") (text "XX")
-unfolding allChars walk charNext charsOver charAt seqLen single control byte says saysAfter saidAt saidBy run idByte quote
+unfolding allChars walk charNext charsOver charAt seqLen single control byte says saysAfter met charOf saidAt saidBy run idByte quote
 put-same = record { before = record { legal = refl; bytes = refl }; after = record { legal = refl; bytes = refl }; bytes = refl; characters = refl }
 
 other-last : (b c d : ℕ) → _≡_ {A = List ℕ} (b ∷ c ∷ []) (b ∷ d ∷ []) → c ≡ d

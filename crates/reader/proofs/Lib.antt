@@ -1,4 +1,3 @@
-pub mod Lasts
 pub mod Ran
 pub mod Sheets
 pub mod Spans

@@ -5,6 +5,7 @@ use mathlib.Core.List.{List}
 use mathlib.Core.Bool.{true, false}
 use native.Mathlib.Omega.{arith}
 use Rattle.slices.specs.Same.{same}
+use Rattle.characters.specs.Says.{says}
 use Rattle.series.specs.Row.{view}
 use Rattle.series.specs.declared.Field.the-variants.{Identification}
 use Rattle.reader.specs.Rows.{used}
@@ -15,12 +16,12 @@ module _ (doc t id : List ℕ) where
   used-none zero h = refl
   used-none (suc i) h = absurd (omega arith)
 
-  pub used-hit : (i : ℕ) → 0 < i → same (view doc t (i - 1) Identification) id ≡ true → used doc t i id ≡ true
+  pub used-hit : (i : ℕ) → 0 < i → same (says (view doc t (i - 1) Identification)) id ≡ true → used doc t i id ≡ true
   unfolding used
   used-hit zero h e = absurd (omega arith)
   used-hit (suc i) h e = let k : suc i - 1 ≡ i = omega arith in let f = rw k at e in rw f refl
 
-  pub used-miss : (i : ℕ) → 0 < i → same (view doc t (i - 1) Identification) id ≡ false → used doc t (i - 1) id ≡ used doc t i id
+  pub used-miss : (i : ℕ) → 0 < i → same (says (view doc t (i - 1) Identification)) id ≡ false → used doc t (i - 1) id ≡ used doc t i id
   unfolding used
   used-miss zero h e = absurd (omega arith)
   used-miss (suc i) h e = let k : suc i - 1 ≡ i = omega arith in let f = rw k at e in rw (k, f) refl

@@ -5,12 +5,11 @@ use mathlib.Core.List.{List}
 use mathlib.Core.Bool.{Bool, true, false, cond}
 use lib.IntN.{ℤ, pos}
 use lib.ListN.{length, set}
-use Rattle.slices.specs.Run.{run}
 use Rattle.slices.specs.Same.{same}
 use Rattle.characters.specs.Says.{says}
 use Rattle.slices.specs.Part.{partOf}
 use Rattle.slices.specs.declared.Span.{Span}
-use Rattle.trims.specs.Trim.{space, dropped}
+use Rattle.trims.specs.Trim.{dropped, leadOf, trimmedOf}
 use Rattle.numbers.specs.Amount.{amountOf}
 use Rattle.numbers.specs.declared.Amount.the-variants.{Thousandths, NotAmount}
 use Rattle.numbers.specs.declared.Amount.{Amount as Read}
@@ -41,7 +40,7 @@ countFor st Count = st .intervals - st .first
 -- the series table after an item at the place `at` that brings a view of row i; its `v` is in v
 abbrev pub viewAfter : ℕ → Span → List ℕ → ℕ → Field → List ℕ → List ℕ
 viewAfter at v s i f t =
-    cond (dropsSpaces f) (withView t i f (at + v .start + run space (quoted v s)) (length (dropped (quoted v s)))) (withView t i f (at + v .start) (v .len))
+    cond (dropsSpaces f) (withView t i f (at + v .start + leadOf (quoted v s)) (length (trimmedOf (quoted v s)))) (withView t i f (at + v .start) (v .len))
 
 -- and after one that brings a field of the last row; st is the state after it
 unfoldable pub fieldAfter : ℕ → Span → List ℕ → State → Field → List ℕ → List ℕ
@@ -81,7 +80,7 @@ unfoldable pub amountsWith : Span → List ℕ → State → Brought → List �
 amountsWith v s st NoCell t = t
 amountsWith v s st (InRow f) t = t
 amountsWith v s st (AtPosition p) t = t
-amountsWith v s st AtAmount t = set t (st .intervals - 1) (thousandthsOf (amountOf (says (dropped (quoted v s)))))
+amountsWith v s st AtAmount t = set t (st .intervals - 1) (thousandthsOf (amountOf (dropped (says (quoted v s)))))
 
 unfoldable pub seriesAfter : ℕ → Span → List ℕ → State → Entry → List ℕ → List ℕ
 seriesAfter at v s st e t = seriesWith at v s st (broughtBy e) t
@@ -92,14 +91,14 @@ positionsAfter st e t = positionsWith st (broughtBy e) t
 unfoldable pub amountsAfter : Span → List ℕ → State → Entry → List ℤ → List ℤ
 amountsAfter v s st e t = amountsWith v s st (broughtBy e) t
 
--- one of the first n rows of the series table shows this TimeSeriesIdentification: "compared byte for byte"
+-- one of the first n rows of the series table shows a TimeSeriesIdentification that says the same. K4: "two identifications are equal when their meanings are"
 unfoldable pub used : List ℕ → List ℕ → ℕ → List ℕ → Bool
 used doc t zero id = false
-used doc t (suc n) id = let before = used doc t n id in cond (same (view doc t n Identification) id) true before
+used doc t (suc n) id = let before = used doc t n id in cond (same (says (view doc t n Identification)) id) true before
 
 -- "9: TimeSeriesIdentification used before in this document": by a series before the last
 unfoldable pub usedIn : List ℕ → List ℕ → Span → List ℕ → ℕ → Field → Bool
-usedIn doc t v s series Identification = used doc t (series - 1) (quoted v s)
+usedIn doc t v s series Identification = used doc t (series - 1) (says (quoted v s))
 usedIn doc t v s series Object = false
 usedIn doc t v s series BusinessType = false
 usedIn doc t v s series Direction = false

@@ -1,4 +1,7 @@
 // What an item brings into the lent tables.
+use characters::ends_otherwise;
+use characters::own_end;
+use characters::says_same;
 use items::Item;
 use items::span_of;
 use numbers::Amount;
@@ -10,7 +13,6 @@ use series::set_field;
 use series::set_view;
 use series::view_of;
 use slices::Span;
-use slices::is_same;
 use slices::part;
 use states::Entry;
 use states::State;
@@ -19,14 +21,13 @@ use tables::set_amount;
 use tables::set_number;
 use trims::leading_spaces;
 use trims::trimmed;
+use trims::without_spaces;
 ghost use mathlib.Core.Path.{_≡_};
 ghost use Prim.Native.Nat.{_+_, _-_, _≤_};
 ghost use lib.ListN.{length};
-ghost use Rattle.slices.specs.Bytes.{byte};
-ghost use Rattle.slices.specs.Run.{run};
 ghost use Rattle.slices.specs.Same.{same};
-ghost use Rattle.characters.specs.Says.{says};
-ghost use Rattle.trims.specs.Trim.{space, dropped};
+ghost use Rattle.characters.specs.Says.{ownEnd, says};
+ghost use Rattle.trims.specs.Trim.{leadOf, trimmedOf};
 ghost use Rattle.items.specs.Parts.{spanOf};
 ghost use Rattle.items.specs.Item.{itemValue};
 ghost use Rattle.numbers.specs.Amount.{amountOf};
@@ -80,10 +81,10 @@ fn last_of(n: u32) -> u32
 // A view with "spaces dropped"; its value is b, which starts at the place `at`.
 fn set_trimmed(t: &mut [u32], row: u32, f: Field, at: usize, b: &[u8])
     requires { ⌜ at + length (now b) ≤ 4294967295 ⌝ }
-    ensures { λ _. ⌜ now (t .exit) ≡ withView (now (t .entry)) row f (at + run space (now (b .entry))) (length (dropped (now (b .entry)))) ⌝ }
+    ensures { λ _. ⌜ now (t .exit) ≡ withView (now (t .entry)) row f (at + leadOf (now (b .entry))) (length (trimmedOf (now (b .entry)))) ⌝ }
 {
     let from = at + leading_spaces(b);
-    let len = trimmed(b).len();
+    let len = without_spaces(b).len();
     set_view(t, row, f, from as u32, len as u32);
 }
 
@@ -162,31 +163,27 @@ pub(crate) fn enter(
     }
 }
 
-fn last_byte(s: &[u8]) -> u8
-    ensures { λ r. ⌜ r ≡ byte (now (s .entry)) (length (now (s .entry)) - 1) ⌝ }
-{
-    if s.len() == 0 {
-        return 0;
-    }
-    s[s.len() - 1]
-}
-
-// Whether row i shows this identification. Those of one document mostly differ at the end, so that is looked at first.
-fn is_shown(doc: &[u8], t: &[u32], i: u32, id: &[u8]) -> bool
-    ensures { λ r. ⌜ r ≡ same (view (now (doc .entry)) (now (t .entry)) i Identification) (now (id .entry)) ⌝ }
+// Whether row i shows an identification that says the same, `last` being its `own_end`. Those of one document mostly differ at the end, so that is looked at first.
+fn is_shown(doc: &[u8], t: &[u32], i: u32, id: &[u8], last: u8) -> bool
+    requires { ⌜ last ≡ ownEnd (now id) ⌝ }
+    ensures { λ r. ⌜ r ≡ same (says (view (now (doc .entry)) (now (t .entry)) i Identification)) (says (now (id .entry))) ⌝ }
 {
     let shown = view_of(doc, t, i, Field::Identification);
-    last_byte(shown) == last_byte(id) && is_same(shown, id)
+    if ends_otherwise(own_end(shown), last) {
+        return false;
+    }
+    says_same(shown, id)
 }
 
 // Whether one of the first n rows shows this identification.
 fn is_used(doc: &[u8], t: &[u32], n: u32, id: &[u8]) -> bool
-    ensures { λ r. ⌜ r ≡ used (now (doc .entry)) (now (t .entry)) n (now (id .entry)) ⌝ }
+    ensures { λ r. ⌜ r ≡ used (now (doc .entry)) (now (t .entry)) n (says (now (id .entry))) ⌝ }
 {
+    let last = own_end(id);
     let mut i = n;
     while 0 < i {
         i -= 1;
-        if is_shown(doc, t, i, id) {
+        if is_shown(doc, t, i, id, last) {
             return true;
         }
     }

@@ -12,8 +12,8 @@ use lib.ListN.{length, getD, set, length-set}
 use lib.Seq.{getD-set-same, getD-set-other}
 use borrow.Author.Tests.{lt-leb}
 use Rattle.lists.proofs.Cases.{eqb-cases, zero-not-one}
-use Rattle.slices.specs.Run.{run}
-use Rattle.trims.specs.Trim.{space, dropped}
+use Rattle.trims.specs.Trim.{leadOf, trimmedOf}
+use Rattle.characters.specs.Says.{says}
 use Rattle.slices.specs.declared.Span.{Span}
 use Rattle.items.specs.Parts.{spanOf}
 use Rattle.items.specs.Item.{item, itemEnd}
@@ -103,7 +103,7 @@ module _ (room other : Room) (rooms : room .series ≡ other .series) where
 
     field-same : (doc : List ℕ) (v : Span) (s : List ℕ) (n : ℕ) (f : Field) → n ≤ room .series → usedIn doc t v s n f ≡ usedIn doc u v s n f
     unfolding usedIn
-    field-same doc v s n Identification h = used-same doc (n - 1) (quoted v s) (omega (arith, h))
+    field-same doc v s n Identification h = used-same doc (n - 1) (says (quoted v s)) (omega (arith, h))
     field-same doc v s n Object h = refl
     field-same doc v s n BusinessType h = refl
     field-same doc v s n Direction h = refl
@@ -135,8 +135,8 @@ module _ (room other : Room) (rooms : room .series ≡ other .series) where
         by (dropsSpaces f)
       where
         by : (b : Bool)
-            → Agree (cond b (withView t i f (at + v .start + run space (quoted v s)) (length (dropped (quoted v s)))) (withView t i f (at + v .start) (v .len)))
-            (cond b (withView u i f (at + v .start + run space (quoted v s)) (length (dropped (quoted v s)))) (withView u i f (at + v .start) (v .len)))
+            → Agree (cond b (withView t i f (at + v .start + leadOf (quoted v s)) (length (trimmedOf (quoted v s)))) (withView t i f (at + v .start) (v .len)))
+            (cond b (withView u i f (at + v .start + leadOf (quoted v s)) (length (trimmedOf (quoted v s)))) (withView u i f (at + v .start) (v .len)))
         by true = view-agree i f _ _
         by false = view-agree i f _ _
 

@@ -31,7 +31,7 @@ use Rattle.reader.specs.Items.{Placed, itemsFrom}
 use Rattle.reader.specs.Rows.{quoted}
 use Rattle.reader.specs.Reading.{tab, Tables, refusedAt, readItems, itemsRead}
 use Rattle.reader.specs.Judging.{judgedAfter, judgedInto, judged}
-use Rattle.numbers.specs.Alike.{Alike}
+use Rattle.digits.specs.Outside.{AlikeFrom}
 use Rattle.digits.proofs.Chars.{digits-unseen}
 use Rattle.blindness.specs.Readable.{DifferInQty}
 use Rattle.blindness.specs.Replaced.{Replaced}
@@ -69,7 +69,7 @@ value-same : (k : ℕ) (drops : Bool) (at : ℕ) (x : Span) (s s′ t : List ℕ
 unfolding withValue valueStart valueLength
 value-same k drops at x s s′ t e = rw e refl
 
-module _ (tag : Tag) (s s′ : List ℕ) (p : TagSays qty Alike tag s s′) where
+module _ (tag : Tag) (s s′ : List ℕ) (p : TagSays qty (AlikeFrom false) tag s s′) where
   row-same : (rows : List ℕ) → tagRow rows tag s ≡ tagRow rows tag s′
   unfolding tagRow
   row-same rows = rw (p .parts .name) refl
@@ -122,7 +122,7 @@ module _ (tag : Tag) (s s′ : List ℕ) (p : TagSays qty Alike tag s s′) wher
 -- ---- an item, and the items
 
 module _ (kind : ℕ) where
-  item-counts : (i : Item) (s s′ : List ℕ) → Says qty Alike i s s′ → (n : ℕ) → itemCounts (rowsOf kind) i s n ≡ itemCounts (rowsOf kind) i s′ n
+  item-counts : (i : Item) (s s′ : List ℕ) → Says qty (AlikeFrom false) i s s′ → (n : ℕ) → itemCounts (rowsOf kind) i s n ≡ itemCounts (rowsOf kind) i s′ n
   unfolding Says itemCounts
   item-counts (Start t) s s′ p n = tag-counts t s s′ p kind n
   item-counts (Empty t) s s′ p n = tag-counts t s s′ p kind n
@@ -131,7 +131,7 @@ module _ (kind : ℕ) where
   item-counts (Comment e) s s′ p n = refl
   item-counts (Unreadable q) s s′ p n = refl
 
-  item-shows : (at : ℕ) (i : Item) (s s′ : List ℕ) → Says qty Alike i s s′ → (n : ℕ) (t : List ℕ)
+  item-shows : (at : ℕ) (i : Item) (s s′ : List ℕ) → Says qty (AlikeFrom false) i s s′ → (n : ℕ) (t : List ℕ)
       → itemShows (rowsOf kind) at i s n t ≡ itemShows (rowsOf kind) at i s′ n t
   unfolding Says itemShows
   item-shows at (Start tag) s s′ p n t = tag-shows tag s s′ p kind at n t
@@ -141,7 +141,7 @@ module _ (kind : ℕ) where
   item-shows at (Comment e) s s′ p n t = refl
   item-shows at (Unreadable q) s s′ p n t = refl
 
-  items-same : (x y : List ℕ) {xs ys : List Placed} → Aligned qty Alike x y xs ys → AllAllowed xs → (n : ℕ) (t : List ℕ)
+  items-same : (x y : List ℕ) {xs ys : List Placed} → Aligned qty (AlikeFrom false) x y xs ys → AllAllowed xs → (n : ℕ) (t : List ℕ)
       → itemsShown (rowsOf kind) xs n t ≡ itemsShown (rowsOf kind) ys n t
   unfolding itemsShown AllAllowed allowed
   items-same x y over a n t = refl
@@ -150,18 +150,18 @@ module _ (kind : ℕ) where
 
 -- ---- the whole
 
-module _ (x y : List ℕ) (d : Replaced qty Alike x y) (n : ℕ) where
+module _ (x y : List ℕ) (d : Replaced qty (AlikeFrom false) x y) (n : ℕ) where
   abbrev room : Room
   room = viewRoom n
 
   abbrev blankTables : Tables
   blankTables = tab (zeros n) (zeros 1) (noAmounts 1)
 
-  module _ (h : SameItems qty Alike x y) where
+  module _ (h : SameItems qty (AlikeFrom false) x y) where
     found-same : readItems x room (itemsFrom x (h .from)) begun blankTables .found ≡ readItems y room (itemsFrom y (h .from)) begun blankTables .found
     found-same =
-        run-same qty Alike Amount qty-kinds x y (amounts-tabled x y Alike) room (d .long) (h .items) begun (zeros n) (zeros 1) (noAmounts 1) (noAmounts 1)
-        (unsourced 1) (amounts-tabled x y Alike .none n) .0 .found
+        run-same qty (AlikeFrom false) Amount qty-kinds x y (amounts-tabled x y (AlikeFrom false)) room (d .long) (h .items) begun (zeros n) (zeros 1) (noAmounts 1) (noAmounts 1)
+        (unsourced 1) (amounts-tabled x y (AlikeFrom false) .none n) .0 .found
 
     judged-same : judged room x n ≡ judged room y n
     unfolding judged judgedInto judgedAfter itemsRead

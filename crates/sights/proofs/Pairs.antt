@@ -10,10 +10,9 @@ use lib.Dec.{eqb}
 use lib.ListN.{length, drop, getD, set, length-set}
 use lib.Seq.{getD-set-same, getD-set-other}
 use Rattle.lists.proofs.Cases.{bool-cases, never}
-use Rattle.slices.specs.Run.{run}
 use Rattle.slices.specs.Part.{partOf}
 use Rattle.slices.specs.declared.Span.{Span}
-use Rattle.trims.specs.Trim.{space, dropped}
+use Rattle.trims.specs.Trim.{leadOf, trimmedOf}
 use Rattle.columns.specs.Columns.{collapsed, roleOf, rootRole, posRole, qtyRole}
 use Rattle.items.specs.declared.Tag.{Tag}
 use Rattle.tags.specs.declared.Dtd.{Dtd}
@@ -81,9 +80,9 @@ module _ (doc : List ℕ) where
         ⊎-elim
         (λ (z : drops ≡ true).
         rw (y, z)
-        (let e : at + x .start + run space (quoted x s) ≡ at + (x .start + run space (quoted x s)) = omega arith in
-        ap (λ (n : ℕ). partOf doc n (length (dropped (quoted x s)))) e
-        ∙ part-in doc s at (x .start + run space (quoted x s)) (length (dropped (quoted x s))) stands
+        (let e : at + x .start + leadOf (quoted x s) ≡ at + (x .start + leadOf (quoted x s)) = omega arith in
+        ap (λ (n : ℕ). partOf doc n (length (trimmedOf (quoted x s)))) e
+        ∙ part-in doc s at (x .start + leadOf (quoted x s)) (length (trimmedOf (quoted x s))) stands
         ∙ trimmed-part x s))
         (λ (z : drops ≡ false). rw (y, z) (part-in doc s at (x .start) (x .len) stands))
         (bool-cases drops))

@@ -10,10 +10,9 @@ use lib.ListN.{length, drop, getD, set}
 use lib.Seq.{getD-set-other}
 use borrow.Author.Tests.{eqb-true, leb-true, ltb-true, eq-eqb, le-ltb}
 use Rattle.lists.proofs.Cases.{by-cond, bool-cases, both-true, never, ltb-cases, eqb-cases}
-use Rattle.slices.specs.Run.{run}
 use Rattle.slices.specs.Same.{same}
 use Rattle.slices.specs.declared.Span.{Span}
-use Rattle.trims.specs.Trim.{space, dropped}
+use Rattle.trims.specs.Trim.{leadOf, trimmedOf}
 use Rattle.elements.specs.Names.{names, numberIn, elementNo}
 use Rattle.columns.specs.Columns.{collapsed, roleOf, formOf, schemeOf, rootRole}
 use Rattle.guideline.specs.Kinds.{isKind}
@@ -211,7 +210,7 @@ module _ (kind : ℕ) (known : isKind kind ≡ true) where
     after-stays g ig d =
         rw ig
         (by-cond Stays (dropsSpaces g)
-        (view-stays (st .series - 1) g (at + v .start + run space (quoted v s)) (length (dropped (quoted v s))) ig d)
+        (view-stays (st .series - 1) g (at + v .start + leadOf (quoted v s)) (length (trimmedOf (quoted v s))) ig d)
         (view-stays (st .series - 1) g (at + v .start) (v .len) ig d))
 
     reader-stays : (r n : ℕ) → ((r ≡ roleShown f) × (st .series - 1 ≡ i) → ⊥) → Stays (seriesAfter at v s st (entryOf r n) t)
@@ -238,15 +237,15 @@ module _ (kind : ℕ) (known : isKind kind ≡ true) where
     -- the view itself
     unfoldable Set : List ℕ → Type 0
     Set u =
-        (getD u (cellAt i f) 0 ≡ cond (dropsSpaces f) (at + v .start + run space (quoted v s)) (at + v .start))
-        × (getD u (cellAt i f + 1) 0 ≡ cond (dropsSpaces f) (length (dropped (quoted v s))) (v .len))
+        (getD u (cellAt i f) 0 ≡ cond (dropsSpaces f) (at + v .start + leadOf (quoted v s)) (at + v .start))
+        × (getD u (cellAt i f + 1) 0 ≡ cond (dropsSpaces f) (length (trimmedOf (quoted v s))) (v .len))
 
     field-set : cellAt i f + 1 < length t → st .series - 1 ≡ i → Set (fieldAfter at v s st f t)
     unfolding Set fieldAfter
     field-set h e =
         rw (is, e)
         (⊎-elim
-        (λ (y : dropsSpaces f ≡ true). let w = view-set t i f (at + v .start + run space (quoted v s)) (length (dropped (quoted v s))) in rw y (w .start (omega (arith, h)), w .len h))
+        (λ (y : dropsSpaces f ≡ true). let w = view-set t i f (at + v .start + leadOf (quoted v s)) (length (trimmedOf (quoted v s))) in rw y (w .start (omega (arith, h)), w .len h))
         (λ (y : dropsSpaces f ≡ false). let w = view-set t i f (at + v .start) (v .len) in rw y (w .start (omega (arith, h)), w .len h))
         (bool-cases (dropsSpaces f)))
 

@@ -5,7 +5,7 @@ use mathlib.Core.List.{List, [], _∷_, _++_}
 use mathlib.Core.Bool.{Bool, true, false, cond}
 use lib.Dec.{eqb, ltb}
 use lib.ListN.{length, getD}
-use Rattle.trims.specs.Trim.{dropped}
+use Rattle.trims.specs.Trim.{trimmedOf}
 use Rattle.columns.specs.Columns.{collapsed, roleOf, rootRole}
 use Rattle.guideline.specs.Rows.{rowsOf}
 use Rattle.states.specs.Attributes.{asksV, asksScheme}
@@ -49,7 +49,7 @@ lastOf rows q m d (p ∷ ps) = lastOf rows q m (cond (standsIn rows q m p) (p .s
 -- "spaces dropped where the row is collapsed"
 unfoldable pub withoutSpaces : Bool → AttributeValue → AttributeValue
 withoutSpaces drops Absent = Absent
-withoutSpaces drops (Given b) = Given (cond drops (dropped b) b)
+withoutSpaces drops (Given b) = Given (cond drops (trimmedOf b) b)
 
 abbrev pub onlyIf : Bool → AttributeValue → List AttributeValue
 onlyIf true a = a ∷ []

@@ -1,5 +1,7 @@
+pub mod Bytes
 pub mod Runs
 pub mod Walks
 pub mod Sames
 pub mod Firsts
+pub mod Near
 pub mod Unique

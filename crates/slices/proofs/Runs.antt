@@ -1,5 +1,5 @@
 -- A loop over a run of bytes: its invariant, `Ran`, and how it starts, goes on and ends. Assumes nothing.
-use Prim.Native.Nat.{ℕ, suc, _+_, _≤_, _<_}
+use Prim.Native.Nat.{ℕ, zero, suc, _+_, _≤_, _<_}
 use mathlib.Core.Path.{_≡_, refl, ap, _∙_}
 use mathlib.Core.List.{List, [], _∷_}
 use mathlib.Core.Bool.{Bool, true, false, cond}
@@ -8,6 +8,9 @@ use native.Mathlib.Numerals.{add-one}
 use lib.ListN.{length, getD, drop, drop-of-length-le}
 use borrow.Author.Tests.{not-true, not-false}
 use lib.Seq.{drop-cons}
+use mathlib.Core.Logic.{⊎-elim}
+use Rattle.lists.proofs.Cases.{bool-cases}
+use Rattle.slices.specs.Bytes.{byte}
 use Rattle.slices.specs.Run.{run}
 
 -- i bytes are passed, and with the run from there they are the run
@@ -26,6 +29,14 @@ run-by p b t e = run-cons p b t ∙ ap (λ (x : Bool). cond x (suc (run p t)) 0)
 run-nil : (p : ℕ → Bool) → run p [] ≡ 0
 unfolding run
 run-nil p = refl
+
+-- each byte of a run passes
+pub run-each : (p : ℕ → Bool) (s : List ℕ) (i : ℕ) → i < run p s → p (byte s i) ≡ true
+unfolding run byte
+run-each p [] i h = absurd (omega arith)
+run-each p (b ∷ t) zero h = ⊎-elim (λ y. y) (λ y. absurd (let z = rw y at h in omega (arith, z))) (bool-cases (p b))
+run-each p (b ∷ t) (suc i) h =
+    ⊎-elim (λ y. run-each p t i (let z = rw y at h in omega (arith, z))) (λ y. absurd (let z = rw y at h in omega (arith, z))) (bool-cases (p b))
 
 -- The flag t is what the test of a byte answered: so written, `search` finds it in what the code knows.
 module _ (p : ℕ → Bool) (s : List ℕ) where

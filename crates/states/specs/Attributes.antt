@@ -58,13 +58,13 @@ attributesFit kind w t =
     (noOthers w (t .others) (t .passable)) false) false) false
 
 -- "Where the guideline says collapse, leading and trailing spaces are dropped; where it says preserve, or says nothing, none are."
-unfoldable pub valueOf : ℕ → Span → List ℕ → List ℕ
-valueOf w x s = cond (collapsed w) (dropped (partOf s (x .start) (x .len))) (partOf s (x .start) (x .len))
+unfoldable pub saidIn : ℕ → Span → List ℕ → List ℕ
+saidIn w x s = cond (collapsed w) (dropped (says (partOf s (x .start) (x .len)))) (says (partOf s (x .start) (x .len)))
 
 -- codingScheme, which is collapsed in every row that has it: 7 outside its code list
 unfoldable pub schemeRefusal : ℕ → Span → List ℕ → ℕ
 schemeRefusal w x s =
-    cond (eqb (schemeOf w) noScheme) 0 (cond (listed (codesOf (schemeOf w - byList)) (says (dropped (partOf s (x .start) (x .len))))) 0 7)
+    cond (eqb (schemeOf w) noScheme) 0 (cond (listed (codesOf (schemeOf w - byList)) (dropped (says (partOf s (x .start) (x .len))))) 0 7)
 
 -- "where it has several, the smallest number"; 0 is none
 unfoldable pub least : ℕ → ℕ → ℕ
@@ -88,4 +88,4 @@ unfoldable pub judgeTag : ℕ → Tag → Held → List ℕ → Judged
 judgeTag w t h s =
     cond (eqb (roleOf w) rootRole) (cond (dtdFixed (h .kind) (t .dtd) s) (refused 0) (refused 6))
     (cond (eqb (formOf w) noForm) (refused 0)
-    (alsoScheme (schemeRefusal w (t .coding) s) (judge (formOf w) h (says (valueOf w (t .v) s)))))
+    (alsoScheme (schemeRefusal w (t .coding) s) (judge (formOf w) h (saidIn w (t .v) s))))

@@ -59,7 +59,8 @@ ghost use mathlib.Core.Bool.{false, cond};
 ghost use lib.ListN.{getD};
 ghost use Rattle.items.specs.Parts.{nameIn};
 ghost use Rattle.columns.specs.Columns.{roleOf, rootRole};
-ghost use Rattle.states.specs.Attributes.{there, agree, asksV, asksScheme, demandsAt, meets, dtdFits, noOthers, attributesFit, valueOf, schemeRefusal, least, valueFixed, dtdFixed, judgeTag};
+ghost use Rattle.characters.specs.Says.{says};
+ghost use Rattle.states.specs.Attributes.{there, agree, asksV, asksScheme, demandsAt, meets, dtdFits, noOthers, attributesFit, saidIn, schemeRefusal, least, valueFixed, dtdFixed, judgeTag};
 ghost use Rattle.states.specs.Act.{actOf};
 ghost use Rattle.states.specs.Constraints.{noneSeen, withdrawing, changing, unchanging, directedTo, typed, directed, noticed, against, lacking};
 ghost use Rattle.states.specs.Moves.{oneMore, cutShort, begun, heldOf, tooMany, noRoom, halfOriginals, againstOthers, besideOthers, valuesJudged, startJudged, entered, entryOf, started, closedAt, countRefusal, lackRefusal, endRefusal, afterEnd, moved, kindTold, stepBy};
@@ -230,7 +231,7 @@ fn has_attributes(kind: u32, w: usize, t: Tag) -> bool
 
 // The value of an attribute, without the spaces at its ends where the row drops them.
 fn value_of(w: usize, x: Span, s: &[u8]) -> &[u8]
-    ensures { λ r. ⌜ now r ≡ valueOf w x (now (s .entry)) ⌝ }
+    ensures { λ r. ⌜ says (now r) ≡ saidIn w x (now (s .entry)) ⌝ }
 {
     let start = x.start;
     let len = x.len;

@@ -17,7 +17,8 @@ use Rattle.slices.specs.Bytes.{byte}
 use Rattle.slices.specs.Part.{partOf}
 use Rattle.attributes.specs.Attribute.{piece}
 use Rattle.attributes.specs.Short.{vLen}
-use Rattle.attributes.proofs.Short.{byte-drop, v-inside, v-piece, v-name, close-piece, empty-piece}
+use Rattle.slices.proofs.Bytes.{byte-drop}
+use Rattle.attributes.proofs.Short.{v-inside, v-piece, v-name, close-piece, empty-piece}
 use Rattle.attributes.specs.declared.Piece.{Piece}
 use Rattle.attributes.specs.declared.Piece.the-variants.{Attribute, Close, CloseEmpty, Torn}
 use Rattle.tags.specs.Known.{dtdName, withAttribute, noneKnown, absent}

@@ -1,5 +1,2 @@
-pub mod Trails
-pub mod Low
-pub mod Spaces
-pub mod Dropping
+pub mod Trimming
 pub mod Unique

@@ -1,1 +1,2 @@
 pub mod Trim
+pub mod Short

@@ -1,33 +1,17 @@
--- The values of a tag end where the tag does, and are no longer without their spaces. Assumes nothing.
-use Prim.Native.Nat.{ℕ, suc, _+_, _≤_}
+-- The values of a tag end where the tag does. Assumes nothing.
+use Prim.Native.Nat.{ℕ, _+_, _≤_}
 use mathlib.Core.Path.{_≡_}
-use mathlib.Core.List.{List, [], _∷_}
-use mathlib.Core.Bool.{Bool, true, false, cond}
+use mathlib.Core.List.{List}
 use mathlib.Core.Logic.{⊎-elim}
 use native.Mathlib.Omega.{arith}
-use lib.ListN.{length}
-use Rattle.slices.specs.Run.{run}
 use Rattle.slices.specs.declared.Span.{Span}
-use Rattle.trims.specs.Trim.{space, dropped}
 use Rattle.items.specs.Item.{item, itemEnd}
 use Rattle.items.specs.declared.Item.{Item}
 use Rattle.items.specs.declared.Tag.{Tag}
 use Rattle.items.specs.declared.Item.the-variants.{Start, Empty, End, Text, Comment, Unreadable}
-use Rattle.reader.proofs.Spans.{dropped-in}
 use Rattle.digits.specs.Items.{Stands, TagLaid, Laid}
 use Rattle.digits.proofs.Parts.{item-laid}
 use Rattle.views.specs.Shown.{SpanInside, TagInside, ItemInside}
-
-run-le : (p : ℕ → Bool) (l : List ℕ) → run p l ≤ length l
-unfolding run
-run-le p [] = omega arith
-run-le p (b ∷ l) =
-    let h = run-le p l in
-    elim (p b) as (λ (t : Bool). cond t (suc (run p l)) 0 ≤ suc (length l)) [ true ↦ omega (arith, h) | false ↦ omega arith ]
-
--- a value without its spaces is no longer
-pub dropped-le : (l : List ℕ) → length (dropped l) ≤ length l
-dropped-le l = let h = dropped-in l (run-le space l) in omega (arith, h)
 
 span-inside : (at n len : ℕ) (x : Span) → at + len ≤ 4294967295 → Stands n len x → SpanInside at x
 span-inside at n len x h s = ⊎-elim (λ e. omega (arith, e .0, e .1, h)) (λ e. omega (arith, e .1, h)) s

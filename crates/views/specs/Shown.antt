@@ -5,9 +5,8 @@ use mathlib.Core.Bool.{Bool, true, false, cond}
 use lib.Dec.{eqb}
 use lib.ListN.{length, getD, set}
 use Rattle.slices.specs.Part.{partOf}
-use Rattle.slices.specs.Run.{run}
 use Rattle.slices.specs.declared.Span.{Span}
-use Rattle.trims.specs.Trim.{space, dropped}
+use Rattle.trims.specs.Trim.{leadOf, trimmedOf}
 use Rattle.elements.specs.Names.{elementNo}
 use Rattle.tags.specs.declared.Dtd.{Dtd}
 use Rattle.items.specs.declared.Tag.{Tag}
@@ -23,10 +22,10 @@ use Rattle.views.specs.Layout.{oneIf, valuesOf, firstPair, pairIn, rowNa
 
 -- where it starts in the document, and its length; its item is at the place `at`, and s begins with it
 unfoldable pub valueStart : Bool → ℕ → Span → List ℕ → ℕ
-valueStart drops at x s = cond (there x) (cond drops (at + x .start + run space (quoted x s)) (at + x .start)) 0
+valueStart drops at x s = cond (there x) (cond drops (at + x .start + leadOf (quoted x s)) (at + x .start)) 0
 
 unfoldable pub valueLength : Bool → Span → List ℕ → ℕ
-valueLength drops x s = cond (there x) (cond drops (length (dropped (quoted x s))) (x .len)) 0
+valueLength drops x s = cond (there x) (cond drops (length (trimmedOf (quoted x s))) (x .len)) 0
 
 unfoldable pub withPair : List ℕ → ℕ → ℕ → ℕ → List ℕ
 withPair t k start len = set (set t (cellOf k) start) (cellOf k + 1) len

@@ -2,8 +2,9 @@
 //! usage: plants [QUARTER]     the quarter hour, of which 1 is the first of TimePeriodCovered; else each one in which a price changes
 //!
 //! A price is ranked beside those of the same BusinessType, Direction, MeasurementUnit and area of a Kostenblatt alone; `-` stands for a Direction or an
-//! area that a series does not have. The unit (euros per piece, per megawatt hour or per hour) and the times are shown by `Views`.
-use lumintayag::{Kind, OwnedSheet, SeriesViews, Sheet, Views};
+//! area that a series does not have. The unit (euros per piece, per megawatt hour or per hour) and the times are shown by `Views`. A value may hold
+//! references, so that it is compared and printed by what it says.
+use lumintayag::{unescaped, Kind, OwnedSheet, SeriesViews, Sheet, Views};
 use std::error::Error;
 use std::process::ExitCode;
 
@@ -31,7 +32,7 @@ fn document() -> String {
         + &plant("Neckar, down", "A01", DOWN, SOUTH, "C0000000017", "Z02", &[(1, "-40"), (41, "12.5")])
         + &plant("Neckar, start", "Z01", UP, SOUTH, "C0000000017", "Z01", &[(1, "1250")])
         + &plant("Neckar, hour", "Z02", "", SOUTH, "C0000000017", "Z03", &[(1, "310")])
-        + &plant("Isar, up", "A01", UP, SOUTH, "C0000000025", "Z02", &[(1, "72")])
+        + &plant("Isar &amp; Amper, up", "A0&#49;", UP, SOUTH, "C0000000025", "Z02", &[(1, "72")])
         + &plant("Isar, down", "A01", DOWN, SOUTH, "C0000000025", "Z02", &[(1, "3.25")])
         + &plant("Isar, start", "Z01", UP, SOUTH, "C0000000025", "Z01", &[(1, "980"), (41, "1400.5")])
         + &plant("Oste, up", "A01", UP, NORTH, "C0000000033", "Z02", &[(1, "55.125"), (41, "-3.75"), (57, "120.001")])
@@ -45,9 +46,13 @@ fn document() -> String {
     )
 }
 
+fn said(value: &str) -> String {
+    unescaped(value).collect()
+}
+
 /// What two series have in common whose prices are ranked beside each other.
-fn like<'a>(values: &SeriesViews<'a>) -> [Option<&'a str>; 4] {
-    [values.business_type(), values.direction(), values.unit(), values.area()]
+fn like(values: &SeriesViews<'_>) -> [Option<String>; 4] {
+    [values.business_type(), values.direction(), values.unit(), values.area()].map(|value| value.map(said))
 }
 
 /// A line for each series, from the time at which the quarter hour begins on.
@@ -55,10 +60,10 @@ fn print_quarter(sheet: Sheet<'_>, views: Views<'_>, quarter: u32) {
     let Some(time) = views.period().quarter(quarter) else { return };
     let priced = sheet.iter().zip(views.iter()).filter_map(|(series, values)| Some((like(&values), series.amount_at(quarter)?, series)));
     let mut offers: Vec<_> = priced.collect();
-    offers.sort_by_key(|(like, price, series)| (*like, *price, series.object()));
+    offers.sort_by_key(|(like, price, series)| (like.clone(), *price, said(series.object())));
     for (like, price, series) in offers {
-        let like = like.map(|value| value.unwrap_or("-")).join(" ");
-        println!("{time} {like} {} {price:.3} ({})", series.object(), series.identification());
+        let like = like.map(|value| value.unwrap_or("-".into())).join(" ");
+        println!("{time} {like} {} {price:.3} ({})", said(series.object()), said(series.identification()));
     }
 }
 

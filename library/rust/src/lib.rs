@@ -52,6 +52,12 @@
 //! name with [`SeriesViews::get`]). [`Views::period`] tells the two ends of TimePeriodCovered, and when each quarter hour begins, in UTC. [`views()`] does
 //! the same with a document that was not read.
 //!
+//! # References
+//!
+//! Attribute values may hold references: `&amp;`, `&lt;`, `&gt;`, `&quot;`, `&apos;`, and numeric ones as `&#65;` or `&#x41;`. Values are judged by what they
+//! say: `A0&#49;` is the code A01, and two identifications that say the same are one used twice. A `&str` from a document is what stands there, with its
+//! references; [`unescaped`] tells what it says.
+//!
 //! # Totals
 //!
 //! [`Sheet::totals`] adds up each series of a sheet, and all of them: every amount times the quarter hours that it stands. A [`Total`] is exact, and
@@ -95,6 +101,7 @@ mod room;
 mod sheet;
 mod time;
 mod totals;
+mod unescaped;
 mod values;
 mod views;
 mod wipe;
@@ -110,6 +117,7 @@ pub use room::Room;
 pub use sheet::{ByQuarter, Intervals, Series, SeriesIter, Sheet, Tables};
 pub use time::{Period, Utc};
 pub use totals::{totals, Total, Totals};
+pub use unescaped::unescaped;
 pub use values::{HeaderValue, SeriesValue};
 pub use views::{views, SeriesViews, Views, ViewsRefused};
 pub use wipe::wipe;

@@ -280,7 +280,11 @@ impl fmt::Debug for Rows<'_> {
 /// # let document = include_bytes!(concat!(env!("CARGO_MANIFEST_DIR"), "/../../crates/samples_run/data/two-directions-and-areas.xml")).to_vec();
 /// # let kept = lumintayag::OwnedSheet::read(document)?;
 /// # let sheet = kept.sheet();
-/// let like = |series: &lumintayag::Series| (series.direction(), series.area()) == (Some("A02"), Some("10YDE-EON------1"));
+/// use lumintayag::unescaped;
+///
+/// // A value may hold references, so that it is compared by what it says.
+/// let says = |value: Option<&str>, code: &str| value.is_some_and(|value| unescaped(value).eq(code.chars()));
+/// let like = |series: &lumintayag::Series| says(series.direction(), "A02") && says(series.area(), "10YDE-EON------1");
 /// let of_that_area: Vec<&str> = sheet.iter().filter(like).map(|series| series.identification()).collect();
 /// assert_eq!(of_that_area, ["S-1", "S-5"]);
 /// # }
@@ -301,7 +305,7 @@ pub struct Series<'a> {
 }
 
 impl<'a> Series<'a> {
-    /// TimeSeriesIdentification, as it stands in the document.
+    /// TimeSeriesIdentification, as it stands in the document: with its references, as all values here ([`unescaped`](crate::unescaped)).
     pub fn identification(&self) -> &'a str {
         self.identification.text
     }
@@ -311,12 +315,12 @@ impl<'a> Series<'a> {
         self.object.text
     }
 
-    /// BusinessType, without the spaces at its ends.
+    /// BusinessType, without the spaces at its ends and the references to spaces.
     pub fn business_type(&self) -> &'a str {
         self.business_type.text
     }
 
-    /// Direction, without the spaces at its ends: `A01` is up, `A02` is down. `None` where it is absent: it may be in a Kostenblatt, and a
+    /// Direction, without the spaces at its ends and the references to spaces: `A01` is up, `A02` is down. `None` where it is absent: it may be in a Kostenblatt, and a
     /// Beschaffungsanforderung has none. In a NetworkConstraintDocument it is always there.
     pub fn direction(&self) -> Option<&'a str> {
         self.direction.map(|view| view.text)

@@ -103,7 +103,8 @@ pub fn views<'a>(doc: &'a [u8], table: &'a mut [u32]) -> Result<Views<'a>, Views
 /// What the pairs of a table show of an accepted document: the values of its header, and those of its series.
 ///
 /// Each value is `None` where the document does not have it or its kind does not know it. What a value shows is as it stands in the document, without the
-/// spaces at its ends where the guideline says collapse, and always of a codingScheme; it may be empty. `Debug` tells the kind and the counts, and nothing
+/// spaces at its ends where the guideline says collapse, and always of a codingScheme, be they there as such or by reference; it may be empty. All other
+/// references are shown as they stand, and [`unescaped`](crate::unescaped) tells what a value says. `Debug` tells the kind and the counts, and nothing
 /// of the document.
 #[derive(Clone, Copy, PartialEq, Eq)]
 pub struct Views<'a> {
@@ -231,10 +232,12 @@ impl fmt::Debug for Views<'_> {
 /// # #[cfg(feature = "alloc")] {
 /// # let document = include_bytes!(concat!(env!("CARGO_MANIFEST_DIR"), "/../../crates/samples_run/data/two-directions-and-areas.xml")).to_vec();
 /// # let kept = lumintayag::OwnedSheet::read(document)?;
-/// use lumintayag::SeriesViews;
+/// use lumintayag::{unescaped, SeriesViews};
 ///
 /// let shown = kept.views()?;
-/// let like = |series: &SeriesViews| (series.business_type(), series.direction(), series.unit()) == (Some("A01"), Some("A02"), Some("Z02"));
+/// // A value may hold references, so that it is compared by what it says.
+/// let says = |value: Option<&str>, code: &str| value.is_some_and(|value| unescaped(value).eq(code.chars()));
+/// let like = |series: &SeriesViews| says(series.business_type(), "A01") && says(series.direction(), "A02") && says(series.unit(), "Z02");
 /// let of_that_sort: Vec<_> = shown.views().iter().filter(like).filter_map(|series| series.identification()).collect();
 /// assert_eq!(of_that_sort, ["S-1", "S-4", "S-5"]);
 /// # }

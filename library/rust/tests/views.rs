@@ -2,7 +2,9 @@
 mod common;
 
 use common::*;
-use lumintayag::{views, HeaderValue, Kind, Refusal, Room, SeriesValue, SeriesViews, Views, ViewsRefused, DOCUMENT_MOST, HEADER_PAIRS, SERIES_PAIRS};
+use lumintayag::{
+    unescaped, views, HeaderValue, Kind, Refusal, Room, SeriesValue, SeriesViews, Views, ViewsRefused, DOCUMENT_MOST, HEADER_PAIRS, SERIES_PAIRS,
+};
 
 /// A table for views, full of old numbers.
 fn table(series: usize) -> Vec<u32> {
@@ -110,18 +112,23 @@ fn a_quarter_hour_has_its_time() {
     }
 }
 
+/// What a value says, without its references.
+fn said(value: Option<&str>) -> Option<String> {
+    value.map(|value| unescaped(value).collect())
+}
+
 /// A view in a table of this room says of the document what the reader says of it.
 fn agrees(doc: &[u8]) -> bool {
     let (mut desk, mut table) = (Desk::of(Room::of_length(doc.len())), table(Room::of_length(doc.len()).series));
     let answer = desk.read(doc).map(|accepted| accepted.sheet);
     match (answer, views(doc, &mut table)) {
         (Ok(sheet), Ok(shown)) => {
-            let covered = shown.header(HeaderValue::TimePeriodCovered);
+            let covered = said(shown.header(HeaderValue::TimePeriodCovered));
             let row = |i: usize| sheet.get(i).map(|s| (Some(s.identification()), Some(s.object()), Some(s.business_type()), s.direction(), s.area()));
             let pairs = |i: usize| shown.get(i).map(|s| (s.identification(), s.object(), s.business_type(), s.direction(), s.area()));
             (shown.kind(), shown.len(), shown.period().quarters()) == (sheet.kind(), sheet.len(), sheet.quarters())
-                && covered == Some(&format!("{}/{}", shown.period().from(), shown.period().to()))
-                && shown.iter().all(|series| series.unit().is_some() && series.get(SeriesValue::TimeInterval) == covered)
+                && covered == Some(format!("{}/{}", shown.period().from(), shown.period().to()))
+                && shown.iter().all(|series| series.unit().is_some() && said(series.get(SeriesValue::TimeInterval)) == covered)
                 && (0..=sheet.len()).all(|i| row(i) == pairs(i))
                 && sheet.views(&mut vec![77; sheet.views_numbers()]).is_ok_and(|again| header(&again) == header(&shown))
         }

@@ -1,3 +1,4 @@
+use mathlib.Core.Path.{sym, _∙_}
 use native.Mathlib.Omega.{arith}
 use Rattle.attributes.specs.Attribute.{attributeEnd, attributeQuote, attributeName, attribute}
 use borrow.Author.Needs.{needs}
@@ -44,7 +45,7 @@ rest-requires-2 : tie.Need-rest-requires-2
 rest-requires-2 c κs = search needs
 
 value-at-requires : tie.Need-value-at-requires
-value-at-requires c κs = search needs
+value-at-requires c κs = sym (c .before .before .is-quote .ensures) ∙ c .before .if2 .taken
 
 enum-known-m : tie.Need-enum-known-m
 enum-known-m c = search needs

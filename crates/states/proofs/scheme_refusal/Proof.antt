@@ -1,5 +1,6 @@
 use borrow.Author.Tests.{eq-eqb, ne-eqb}
 use Rattle.states.specs.Attributes.{schemeRefusal}
+use Rattle.trims.proofs.Trimming.{trimmed-says}
 use borrow.Author.Needs.{needs}
 use Rattle.states.proofs.scheme_refusal.Statement.{statement}
 use Rattle.states.proofs.scheme_refusal.Tie as tie
@@ -31,11 +32,11 @@ is-listed-requires c κs = search needs
 
 returns-2 : tie.Need-returns-2
 unfolding schemeRefusal
-returns-2 c = simp (c .if2 .taken, ← c .before .is-listed .ensures, ← c .before .before .trimmed .ensures, ← c .before .before .before .part .ensures, ne-eqb _ _ (c .before .before .before .before .if1 .left), ← c .before .before .before .before .before .scheme-of .ensures)
+returns-2 c = simp (c .if2 .taken, ← c .before .is-listed .ensures, ← trimmed-says, ← c .before .before .trimmed .ensures, ← c .before .before .before .part .ensures, ne-eqb _ _ (c .before .before .before .before .if1 .left), ← c .before .before .before .before .before .scheme-of .ensures)
 
 returns-3 : tie.Need-returns-3
 unfolding schemeRefusal
-returns-3 c = simp (c .if2 .left, ← c .before .is-listed .ensures, ← c .before .before .trimmed .ensures, ← c .before .before .before .part .ensures, ne-eqb _ _ (c .before .before .before .before .if1 .left), ← c .before .before .before .before .before .scheme-of .ensures)
+returns-3 c = simp (c .if2 .left, ← c .before .is-listed .ensures, ← trimmed-says, ← c .before .before .trimmed .ensures, ← c .before .before .before .part .ensures, ne-eqb _ _ (c .before .before .before .before .if1 .left), ← c .before .before .before .before .before .scheme-of .ensures)
 
 pub scheme-refusal-spec : {M : Type 1} → statement M
 scheme-refusal-spec =

@@ -1,4 +1,5 @@
-use Rattle.states.specs.Attributes.{valueOf}
+use Rattle.states.specs.Attributes.{saidIn}
+use Rattle.trims.proofs.Trimming.{trimmed-says}
 use borrow.Author.Needs.{needs}
 use Rattle.states.proofs.value_of.Statement.{statement}
 use Rattle.states.proofs.value_of.Tie as tie
@@ -18,11 +19,11 @@ trimmed-requires : tie.Need-trimmed-requires
 trimmed-requires c κs = search needs
 
 returns : tie.Need-returns
-unfolding valueOf
-returns c = simp (← c .trimmed .ensures, c .before .if1 .taken, ← c .before .before .is-collapsed .ensures, ← c .before .before .before .part .ensures)
+unfolding saidIn
+returns c = simp (c .trimmed .ensures, trimmed-says, c .before .if1 .taken, ← c .before .before .is-collapsed .ensures, ← c .before .before .before .part .ensures)
 
 returns-2 : tie.Need-returns-2
-unfolding valueOf
+unfolding saidIn
 returns-2 c = simp (c .if1 .left, ← c .before .is-collapsed .ensures, ← c .before .before .part .ensures)
 
 pub value-of-spec : {M : Type 1} → statement M

@@ -4,7 +4,7 @@ use mathlib.Core.Path.{sym, ap, _∙_}
 use mathlib.Core.Bool.{false}
 use native.Mathlib.Omega.{arith}
 use lib.ListN.{length}
-use Rattle.attributes.proofs.Short.{byte-there}
+use Rattle.slices.proofs.Bytes.{byte-there}
 use Rattle.tags.specs.Known.{noneKnown, absent}
 use Rattle.tags.specs.declared.Known.{Known}
 use Rattle.tags.specs.declared.Tail.the-variants.{Shut}

@@ -1,5 +1,5 @@
 use mathlib.Core.Path.{_∙_}
-use Rattle.trims.proofs.Trails.{trail-take}
+use Rattle.trims.specs.Trim.{cutTrail}
 use borrow.Author.Needs.{needs}
 use Rattle.trims.proofs.without_trail.Statement.{statement}
 use Rattle.trims.proofs.without_trail.Tie as tie
@@ -15,7 +15,8 @@ front-requires : tie.Need-front-requires
 front-requires c κs = search needs
 
 returns : tie.Need-returns
-returns c = c .front .ensures .0 ∙ rw (c .before .kept-len .ensures) (trail-take _)
+unfolding cutTrail
+returns c = c .front .ensures .0 ∙ rw (c .before .kept-len .ensures)
 
 pub without-trail-spec : {M : Type 1} → statement M
 without-trail-spec = tie.close (tie.spec kept-len-requires front-requires returns)

@@ -1,3 +1,4 @@
+use Rattle.trims.proofs.Trimming.{trimmed-says}
 use native.Mathlib.Omega.{arith}
 use mir.Facts.{toZ-ofZ}
 use mir.Syntax.{w64}
@@ -84,7 +85,7 @@ same-length-3 c = search needs
 
 returns-4 : tie.Need-returns-4
 unfolding tablesAfter seriesAfter seriesWith positionsAfter positionsWith amountsAfter amountsWith
-returns-4 c = let e = rw (toZ-ofZ {w = w64} {z = c .before .before .thousandths-of .result} (sfits-of (c .before .before .thousandths-of .ok))) at (c .before .set-amount .ensures) in simp (e, ← c .before .before .thousandths-of .ensures, ← c .before .before .before .trimmed .ensures, ← c .before .before .before .before .quoted-of .ensures, ← c .before .before .before .before .before .before .before .before .before .last-of .ensures, ← c .before .before .before .before .before .before .before .before .before .before .span-of .ensures, ← c .before .before .before .before .before .before .before .before .brought-by .ensures, c .before .before .before .before .before .before .enum-told2 .given .1)
+returns-4 c = let e = rw (toZ-ofZ {w = w64} {z = c .before .before .thousandths-of .result} (sfits-of (c .before .before .thousandths-of .ok))) at (c .before .set-amount .ensures) in simp (e, ← c .before .before .thousandths-of .ensures, ← trimmed-says, ← c .before .before .before .trimmed .ensures, ← c .before .before .before .before .quoted-of .ensures, ← c .before .before .before .before .before .before .before .before .before .last-of .ensures, ← c .before .before .before .before .before .before .before .before .before .before .span-of .ensures, ← c .before .before .before .before .before .before .before .before .brought-by .ensures, c .before .before .before .before .before .before .enum-told2 .given .1)
 
 pub enter-spec : {M : Type 1} → statement M
 enter-spec =

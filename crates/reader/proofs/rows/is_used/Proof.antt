@@ -1,3 +1,4 @@
+use Rattle.characters.specs.Says.{says}
 use mathlib.Core.Path.{_≡_, refl, sym, _∙_}
 use native.Mathlib.Omega.{arith}
 use borrow.Author.Needs.{needs}
@@ -7,13 +8,17 @@ use Rattle.reader.proofs.rows.is_used.Statement.{statement}
 use Rattle.reader.proofs.rows.is_used.Tie as tie
 use Rattle.reader.proofs.rows.is_used.Reads as reads
 use Rattle.reader.proofs.rows.is_used.Lts as lts
+use Rattle.characters.proofs.own_end.Reads as own-end-reads
 use Rattle.reader.proofs.rows.is_shown.Reads as is-shown-reads
 
 abbrev Inv-loop : tie.InvT-loop
-Inv-loop doc t n id i₀ i = used doc t i id ≡ used doc t n id
+Inv-loop doc t n id last i₀ i = used doc t i (says id) ≡ used doc t n (says id)
 
 abbrev μ-loop : tie.MeasureT-loop
-μ-loop doc t n id i₀ i = i
+μ-loop doc t n id last i₀ i = i
+
+own-end-requires : tie.Need-own-end-requires Inv-loop μ-loop
+own-end-requires c κs = search needs
 
 loop-holds : tie.Need-loop-holds Inv-loop μ-loop
 loop-holds c = refl
@@ -22,7 +27,7 @@ sub-i : tie.Need-sub-i Inv-loop μ-loop
 sub-i c = omega arith
 
 is-shown-requires : tie.Need-is-shown-requires Inv-loop μ-loop
-is-shown-requires c κs = search needs
+is-shown-requires c κs = c .before .before .own-end .ensures
 
 returns : tie.Need-returns Inv-loop μ-loop
 returns c = sym (used-hit _ _ _ _ (c .before .before .loop-test .taken) (sym (c .before .is-shown .ensures) ∙ c .if1 .taken)) ∙ c .before .before .before .loop .inv
@@ -42,6 +47,7 @@ is-used-spec =
     (tie.spec
     Inv-loop
     μ-loop
+    own-end-requires
     loop-holds
     sub-i
     is-shown-requires

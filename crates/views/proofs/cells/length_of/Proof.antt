@@ -1,10 +1,10 @@
 use mathlib.Core.Path.{ap, _∙_}
 use native.Mathlib.Omega.{arith}
 use lib.ListN.{length}
-use Rattle.trims.specs.Trim.{dropped}
+use Rattle.trims.specs.Trim.{trimmedOf}
+use Rattle.trims.proofs.Trimming.{trimmed-length}
 use Rattle.reader.specs.Rows.{quoted}
 use Rattle.reader.proofs.Spans.{quoted-le}
-use Rattle.views.proofs.Inside.{dropped-le}
 use Rattle.views.specs.Shown.{valueLength}
 use borrow.Author.Needs.{needs}
 use Rattle.views.proofs.cells.length_of.Statement.{statement}
@@ -25,7 +25,7 @@ trimmed-requires : tie.Need-trimmed-requires
 trimmed-requires c κs = search needs
 
 cast-result : tie.Need-cast-result
-cast-result c = let a = c .before .before .before .before .before .before .args in let e = c .trimmed .ensures ∙ ap dropped (c .before .quoted-of .ensures) in omega (arith, ap length e, dropped-le (quoted (a .x) (a .s .now)), quoted-le (a .x) (a .s .now))
+cast-result c = let a = c .before .before .before .before .before .before .args in let e = c .trimmed .ensures ∙ ap trimmedOf (c .before .quoted-of .ensures) in omega (arith, ap length e, trimmed-length (quoted (a .x) (a .s .now)), quoted-le (a .x) (a .s .now))
 
 returns : tie.Need-returns
 unfolding valueLength
