@@ -6,8 +6,8 @@
  * to call, open no file and call nothing but memset. They end for every input. What they answer and leave behind
  * is proved for every document and every length of every slice (crates/library, crates/reader, crates/notes,
  * crates/readable, crates/totals, crates/views); no input is excepted. Threads may call them at the same time, each
- * with slices of its own. lumintayag_read_v3 takes 68 KB of stack and lumintayag_views 70 KB, whatever the document; a
- * thread that has 128 KiB has enough.
+ * with slices of its own. A call takes 70 KB of stack at most, whatever the document; a thread that has 128 KiB has
+ * enough.
  *
  * Slices. A lent slice is two arguments: a pointer, and a length in elements (not in bytes). What no proof can see
  * is left to the caller:

@@ -82,11 +82,11 @@ fn run() -> Result<(), Box<dyn Error>> {
         Some(quarter) => vec![quarter],
         None => (1..=sheet.quarters()).filter(|&quarter| changes_at(sheet, quarter)).collect(),
     };
-    if quarters.iter().any(|&quarter| shown.views().period().quarter(quarter).is_none()) {
+    if quarters.iter().any(|&quarter| shown.period().quarter(quarter).is_none()) {
         return Err(format!("usage: plants [QUARTER], from 1 to {}", sheet.quarters()).into());
     }
     for quarter in quarters {
-        print_quarter(sheet, shown.views(), quarter);
+        print_quarter(sheet, shown, quarter);
     }
     Ok(())
 }

@@ -128,6 +128,9 @@ impl Told {
 
 /// Reads a document into lent tables. Its note has the old [`Shape`].
 ///
+/// What it answers borrows document and tables. To make tables larger and read again, and to return the sheet with its memory, is what `OwnedSheet`
+/// (feature `alloc`) is for.
+///
 /// # Errors
 ///
 /// [`Refused`] says why and where. With [`Refusal::TableFull`] the document may be read again with more room.

@@ -72,13 +72,14 @@
 //! # What gets into a log
 //!
 //! `Debug` of every type here tells kinds, counts and places, and no byte of a document, no amount, no total and no time; nor does the text of an error.
-//! `Display` of [`Amount`], [`Total`] and [`Utc`], and what the methods of [`Series`] and of [`Views`] answer, is what the caller asked for. [`OwnedSheet`],
-//! [`OwnedViews`] and [`Totals`] are wiped when they are dropped, and [`wipe`] is for memory of the caller's own. `docs/PRIVACY.md` says what is left to the caller: swap, core dumps, copies.
+//! `Display` of [`Amount`], [`Total`] and [`Utc`], and what the methods of [`Series`] and of [`Views`] answer, is what the caller asked for. [`OwnedSheet`]
+//! and [`Totals`] are wiped when they are dropped, and [`wipe`] is for memory of the caller's own. `docs/PRIVACY.md` says what is left to the caller: swap, core dumps, copies.
 //!
 //! # Features and requirements
 //!
-//! The crate is `no_std`. The default feature `alloc` adds [`OwnedSheet`] and [`OwnedViews`]; without it the crate allocates nothing. It does not panic. A call takes
-//! 70 KB of stack at most. The environment variable `LUMINTAYAG_DIR` names the folder of the archive at build time, as a full path.
+//! The crate is `no_std`, and does not panic. The default feature `alloc` adds [`OwnedSheet`]; without it the crate allocates nothing. The feature `std`,
+//! off by default, adds the conversion of a [`Utc`] into a `std::time::SystemTime`. A call takes 70 KB of stack at most. The environment variable
+//! `LUMINTAYAG_DIR` names the folder of the archive at build time, as a full path.
 //!
 //! # Later versions
 //!
@@ -89,12 +90,16 @@
 
 #[cfg(feature = "alloc")]
 extern crate alloc;
+#[cfg(feature = "std")]
+extern crate std;
 
 mod amount;
 mod answer;
 mod foreign;
 mod note;
 mod numbers;
+#[cfg(feature = "alloc")]
+mod once;
 #[cfg(feature = "alloc")]
 mod owned;
 mod room;
@@ -112,12 +117,12 @@ pub use foreign::{DOCUMENT_MOST, HEADER_PAIRS, INTERVALS_ROOM, SERIES_PAIRS, SER
 pub use note::{read_note, NotOneNote, Note, Shape};
 pub use numbers::{Kind, Refusal};
 #[cfg(feature = "alloc")]
-pub use owned::{OwnedSheet, OwnedViews};
+pub use owned::OwnedSheet;
 pub use room::Room;
 pub use sheet::{ByQuarter, Intervals, Series, SeriesIter, Sheet, Tables};
 pub use time::{Period, Utc};
-pub use totals::{totals, Total, Totals};
+pub use totals::{totals, Total, Totals, TotalsIter};
 pub use unescaped::unescaped;
 pub use values::{HeaderValue, SeriesValue};
-pub use views::{views, SeriesViews, Views, ViewsRefused};
+pub use views::{views, SeriesViews, SeriesViewsIter, Views, ViewsRefused};
 pub use wipe::wipe;

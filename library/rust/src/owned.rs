@@ -1,5 +1,6 @@
 //! A document with its tables, on the heap.
 use crate::answer::Told;
+use crate::once::Once;
 use crate::sheet::Tables;
 use crate::views::Seen;
 use crate::{wipe, Accepted, Lent, Note, Refusal, Refused, Room, Series, SeriesIter, Shape, Sheet, Views, ViewsRefused};
@@ -7,7 +8,7 @@ use alloc::vec;
 use alloc::vec::Vec;
 use core::fmt;
 
-/// An accepted document that is kept with its tables. All of it is [wiped](wipe) when it is dropped.
+/// An accepted document that is kept with its tables, and with its views once they are asked for. All of it is [wiped](wipe) when it is dropped.
 ///
 /// ```
 /// use lumintayag::{OwnedSheet, DOCUMENT_MOST};
@@ -26,6 +27,7 @@ pub struct OwnedSheet {
     document: Wiped<u8>,
     cells: Cells,
     told: Told,
+    shown: Once<Shown>,
 }
 
 impl OwnedSheet {
@@ -64,7 +66,7 @@ impl OwnedSheet {
             Err(refused) if refused.refusal() == Refusal::TableFull => Cells::filled(&document.0, enough, shape),
             answer => answer,
         }?;
-        Ok(OwnedSheet { document: document.fitted(), cells, told })
+        Ok(OwnedSheet { document: document.fitted(), cells, told, shown: Once::new() })
     }
 
     /// What the document says.
@@ -72,13 +74,28 @@ impl OwnedSheet {
         self.told.sheet(&self.document.0, self.cells.tables())
     }
 
-    /// Where every attribute value of the document stands, in a table of its own. The document is read once more for it.
+    /// Where every attribute value of the document stands. The document is read once more when they are first asked for, and the table is kept.
+    ///
+    /// ```
+    /// use lumintayag::OwnedSheet;
+    ///
+    /// # let document = include_bytes!(concat!(env!("CARGO_MANIFEST_DIR"), "/../../crates/samples_run/data/two-plain.xml")).to_vec();
+    /// let kept = OwnedSheet::read(document)?;
+    /// let shown = kept.views()?;
+    /// assert_eq!((shown.sender(), shown.sender_role()), (Some("4012345000016"), Some("A27")));
+    /// println!("{} to {}", shown.period().from(), shown.period().to());
+    /// for (series, values) in kept.sheet().iter().zip(shown) {
+    ///     assert_eq!((series.identification(), values.unit()), ("S-1", Some("Z02")));
+    /// }
+    /// # Ok::<(), Box<dyn std::error::Error>>(())
+    /// ```
     ///
     /// # Errors
     ///
     /// None is known: the document was accepted, and the table has room for its series.
-    pub fn views(&self) -> Result<OwnedViews<'_>, ViewsRefused> {
-        OwnedViews::with_numbers(&self.document.0, self.sheet().views_numbers())
+    pub fn views(&self) -> Result<Views<'_>, ViewsRefused> {
+        let shown = self.shown.get_or_make(|| Shown::of(&self.document.0, self.sheet().views_numbers()))?;
+        Ok(shown.seen.views(&self.document.0, &shown.table.0))
     }
 
     /// The note for the support desk.
@@ -118,51 +135,25 @@ impl<'a> IntoIterator for &'a OwnedSheet {
     }
 }
 
-/// A table of views that is kept, of a document that is kept elsewhere. It is [wiped](wipe) when it is dropped.
-///
-/// ```
-/// use lumintayag::OwnedSheet;
-///
-/// # let document = include_bytes!(concat!(env!("CARGO_MANIFEST_DIR"), "/../../crates/samples_run/data/two-plain.xml")).to_vec();
-/// let kept = OwnedSheet::read(document)?;
-/// let shown = kept.views()?;
-/// let views = shown.views();
-/// assert_eq!((views.sender(), views.sender_role()), (Some("4012345000016"), Some("A27")));
-/// println!("{} to {}", views.period().from(), views.period().to());
-/// # Ok::<(), Box<dyn std::error::Error>>(())
-/// ```
-pub struct OwnedViews<'a> {
-    document: &'a [u8],
+/// A table of views.
+struct Shown {
     table: Wiped<u32>,
     seen: Seen,
 }
 
-impl<'a> OwnedViews<'a> {
-    /// Views a document that is lent, in a table that has room for it.
-    ///
-    /// # Errors
-    ///
-    /// [`ViewsRefused`] says why and where.
-    pub fn of(document: &'a [u8]) -> Result<Self, ViewsRefused> {
-        Self::with_numbers(document, Room::of_length(document.len()).views_numbers())
-    }
-
-    fn with_numbers(document: &'a [u8], numbers: usize) -> Result<Self, ViewsRefused> {
+impl Shown {
+    /// A table of so many numbers, with the document viewed in it.
+    fn of(doc: &[u8], numbers: usize) -> Result<Self, ViewsRefused> {
         let mut table = Wiped::zeros(numbers);
-        let seen = Seen::of(document, &mut table.0)?;
-        Ok(OwnedViews { document, table, seen })
-    }
-
-    /// What the table shows.
-    pub fn views(&self) -> Views<'_> {
-        self.seen.views(self.document, &self.table.0)
+        let seen = Seen::of(doc, &mut table.0)?;
+        Ok(Shown { table, seen })
     }
 }
 
-/// What the `Debug` of its views tells.
-impl fmt::Debug for OwnedViews<'_> {
-    fn fmt(&self, f: &mut fmt::Formatter<'_>) -> fmt::Result {
-        f.debug_struct("OwnedViews").field("document", &self.document.len()).field("views", &self.views()).finish()
+/// What it tells of the document, such as its period, goes as the table does.
+impl Drop for Shown {
+    fn drop(&mut self) {
+        wipe(core::slice::from_mut(&mut self.seen));
     }
 }
 

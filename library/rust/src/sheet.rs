@@ -160,8 +160,8 @@ impl<'a> Sheet<'a> {
     /// let shown = sheet.views(&mut table)?;
     /// for (series, values) in sheet.iter().zip(shown.iter()) {
     ///     assert_eq!((Some(series.identification()), Some("Z02")), (values.identification(), values.unit()));
-    ///     if let Some(time) = shown.period().quarter(41) {
-    ///         println!("{time}: {:?}", series.amount_at(41));
+    ///     if let (Some(time), Some(amount)) = (shown.period().quarter(41), series.amount_at(41)) {
+    ///         println!("{time}: {amount}");
     ///     }
     /// }
     /// # }

@@ -3,6 +3,8 @@ use core::fmt;
 
 const DAY: u32 = 24 * 60;
 const QUARTER: u32 = 15;
+/// Seconds from 1970-01-01T00:00Z to 2000-01-01T00:00Z.
+const UNIX: i64 = 946_684_800;
 /// Days from a leap year up to the next one. From 2000 to 2099 every fourth year is one.
 const FOUR_YEARS: u32 = 366 + 3 * 365;
 /// Minutes of the years 2000 to 2099.
@@ -20,6 +22,7 @@ const TEXT: usize = 17;
 /// assert_eq!(time.to_string(), "2031-01-31T23:00Z");
 /// assert_eq!((time.year(), time.month(), time.day(), time.hour(), time.minute()), (2031, 1, 31, 23, 0));
 /// assert_eq!((time.minutes(), format!("{time:?}")), (16_349_700, "Utc(..)".into()));
+/// assert_eq!(time.unix_seconds(), 1_927_666_800);
 /// ```
 #[derive(Clone, Copy, PartialEq, Eq, PartialOrd, Ord, Hash)]
 pub struct Utc {
@@ -39,6 +42,11 @@ impl Utc {
     /// Minutes since 2000-01-01T00:00Z.
     pub const fn minutes(self) -> u32 {
         self.minutes
+    }
+
+    /// Seconds since 1970-01-01T00:00Z, leap seconds not counted, as time libraries take them.
+    pub const fn unix_seconds(self) -> i64 {
+        UNIX + self.minutes as i64 * 60
     }
 
     /// Years since the last leap year, and days since the year began.
@@ -118,6 +126,14 @@ impl fmt::Display for Utc {
     }
 }
 
+/// With the feature `std`.
+#[cfg(feature = "std")]
+impl From<Utc> for std::time::SystemTime {
+    fn from(time: Utc) -> Self {
+        Self::UNIX_EPOCH + core::time::Duration::from_secs(time.unix_seconds().unsigned_abs())
+    }
+}
+
 /// When a sheet begins is said by the document, so that it is not told.
 impl fmt::Debug for Utc {
     fn fmt(&self, f: &mut fmt::Formatter<'_>) -> fmt::Result {
@@ -131,7 +147,7 @@ impl fmt::Debug for Utc {
 /// # #[cfg(feature = "alloc")] {
 /// # let document = include_bytes!(concat!(env!("CARGO_MANIFEST_DIR"), "/../../crates/samples_run/data/two-plain.xml")).to_vec();
 /// # let kept = lumintayag::OwnedSheet::read(document)?;
-/// let period = kept.views()?.views().period();
+/// let period = kept.views()?.period();
 /// assert_eq!((period.from().to_string(), period.quarters()), ("2024-05-06T22:00Z".into(), 96));
 /// assert_eq!(period.quarter(2).map(|time| time.to_string()), Some("2024-05-06T22:15Z".into()));
 /// assert_eq!((period.quarter(0), period.quarter(97)), (None, None));
@@ -213,6 +229,25 @@ mod tests {
             (last.to_string().as_str(), std::format!("{last:>19}|{last:.10}").as_str()),
             ("2099-12-31T23:59Z", "  2099-12-31T23:59Z|2099-12-31")
         );
+    }
+
+    const UNIX_TIMES: [(u32, i64); 3] = [(0, 946_684_800), (16_349_700, 1_927_666_800), (CENTURY - 1, 4_102_444_740)];
+
+    #[test]
+    fn unix_times() {
+        for (minutes, seconds) in UNIX_TIMES {
+            assert_eq!(Utc::from_minutes(minutes).map(Utc::unix_seconds), Some(seconds));
+        }
+    }
+
+    #[cfg(feature = "std")]
+    #[test]
+    fn system_times() {
+        use std::time::SystemTime;
+        for (minutes, seconds) in UNIX_TIMES {
+            let time = SystemTime::from(Utc::from_minutes(minutes).expect("a minute"));
+            assert_eq!(time.duration_since(SystemTime::UNIX_EPOCH).map(|since| since.as_nanos()).ok(), Some(seconds as u128 * 1_000_000_000));
+        }
     }
 
     #[test]

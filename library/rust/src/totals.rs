@@ -3,6 +3,8 @@ use crate::amount::decimal;
 use crate::foreign::{self, TOTALS_MOST, TOTAL_NUMBERS};
 use crate::{wipe, Kind, Refusal, Tables};
 use core::fmt;
+use core::iter::FusedIterator;
+use core::slice::Iter;
 
 /// A sum of amounts, each times the quarter hours that it stands. It is exact.
 ///
@@ -114,13 +116,55 @@ impl Totals {
     }
 
     /// The total of each series, in document order.
-    pub fn iter(&self) -> impl DoubleEndedIterator<Item = Total> + ExactSizeIterator + '_ {
-        self.rows().iter().map(|cells| Total::told(*cells))
+    pub fn iter(&self) -> TotalsIter<'_> {
+        TotalsIter { rest: self.rows().iter() }
     }
 
     /// The total of all series. In another order they come to the same.
     pub fn sum(&self) -> Total {
         Total::told(self.sum)
+    }
+}
+
+impl<'a> IntoIterator for &'a Totals {
+    type Item = Total;
+    type IntoIter = TotalsIter<'a>;
+
+    fn into_iter(self) -> TotalsIter<'a> {
+        self.iter()
+    }
+}
+
+/// The total of each series, in document order. See [`Totals::iter`]. `Debug` tells how many are left.
+#[derive(Clone)]
+pub struct TotalsIter<'a> {
+    rest: Iter<'a, [i64; TOTAL_NUMBERS]>,
+}
+
+impl Iterator for TotalsIter<'_> {
+    type Item = Total;
+
+    fn next(&mut self) -> Option<Total> {
+        Some(Total::told(*self.rest.next()?))
+    }
+
+    fn size_hint(&self) -> (usize, Option<usize>) {
+        self.rest.size_hint()
+    }
+}
+
+impl DoubleEndedIterator for TotalsIter<'_> {
+    fn next_back(&mut self) -> Option<Total> {
+        Some(Total::told(*self.rest.next_back()?))
+    }
+}
+
+impl ExactSizeIterator for TotalsIter<'_> {}
+impl FusedIterator for TotalsIter<'_> {}
+
+impl fmt::Debug for TotalsIter<'_> {
+    fn fmt(&self, f: &mut fmt::Formatter<'_>) -> fmt::Result {
+        f.debug_struct("TotalsIter").field("series", &self.len()).finish_non_exhaustive()
     }
 }
 

@@ -4,6 +4,8 @@ use crate::sheet::View;
 use crate::{HeaderValue, Kind, Period, Refusal, SeriesValue};
 use core::error::Error;
 use core::fmt;
+use core::iter::FusedIterator;
+use core::ops::Range;
 
 /// A document whose values are not shown, since it is refused or the table is too short. All cells of the table are 0.
 ///
@@ -54,6 +56,13 @@ pub(crate) struct Seen {
     kind: Kind,
     series: usize,
     period: Period,
+}
+
+/// What nothing was seen of, for memory that is made empty.
+impl Default for Seen {
+    fn default() -> Self {
+        Seen { kind: Kind::Other(0), series: 0, period: Period::told(0, 0) }
+    }
 }
 
 impl Seen {
@@ -140,9 +149,8 @@ impl<'a> Views<'a> {
     }
 
     /// The values of each series, in document order.
-    pub fn iter(&self) -> impl DoubleEndedIterator<Item = SeriesViews<'a>> + ExactSizeIterator + 'a {
-        let views = *self;
-        (0..self.len()).map(move |index| SeriesViews { views, index })
+    pub fn iter(&self) -> SeriesViewsIter<'a> {
+        SeriesViewsIter { views: *self, rest: 0..self.len() }
     }
 
     /// What pair `pair` shows, `after` pairs behind those of the first series.
@@ -224,6 +232,52 @@ impl fmt::Debug for Views<'_> {
     }
 }
 
+impl<'a> IntoIterator for Views<'a> {
+    type Item = SeriesViews<'a>;
+    type IntoIter = SeriesViewsIter<'a>;
+
+    fn into_iter(self) -> SeriesViewsIter<'a> {
+        self.iter()
+    }
+}
+
+impl<'a> IntoIterator for &Views<'a> {
+    type Item = SeriesViews<'a>;
+    type IntoIter = SeriesViewsIter<'a>;
+
+    fn into_iter(self) -> SeriesViewsIter<'a> {
+        self.iter()
+    }
+}
+
+/// The values of each series, in document order. See [`Views::iter`].
+#[derive(Clone, Debug)]
+pub struct SeriesViewsIter<'a> {
+    views: Views<'a>,
+    rest: Range<usize>,
+}
+
+impl<'a> Iterator for SeriesViewsIter<'a> {
+    type Item = SeriesViews<'a>;
+
+    fn next(&mut self) -> Option<SeriesViews<'a>> {
+        self.views.get(self.rest.next()?)
+    }
+
+    fn size_hint(&self) -> (usize, Option<usize>) {
+        self.rest.size_hint()
+    }
+}
+
+impl<'a> DoubleEndedIterator for SeriesViewsIter<'a> {
+    fn next_back(&mut self) -> Option<SeriesViews<'a>> {
+        self.views.get(self.rest.next_back()?)
+    }
+}
+
+impl ExactSizeIterator for SeriesViewsIter<'_> {}
+impl FusedIterator for SeriesViewsIter<'_> {}
+
 /// What the pairs of a series show. See [`Views`].
 ///
 /// The prices of two series may be held against each other only where kind, BusinessType, Direction and MeasurementUnit are the same.
@@ -238,7 +292,7 @@ impl fmt::Debug for Views<'_> {
 /// // A value may hold references, so that it is compared by what it says.
 /// let says = |value: Option<&str>, code: &str| value.is_some_and(|value| unescaped(value).eq(code.chars()));
 /// let like = |series: &SeriesViews| says(series.business_type(), "A01") && says(series.direction(), "A02") && says(series.unit(), "Z02");
-/// let of_that_sort: Vec<_> = shown.views().iter().filter(like).filter_map(|series| series.identification()).collect();
+/// let of_that_sort: Vec<_> = shown.iter().filter(like).filter_map(|series| series.identification()).collect();
 /// assert_eq!(of_that_sort, ["S-1", "S-4", "S-5"]);
 /// # }
 /// # Ok::<(), Box<dyn std::error::Error>>(())

@@ -4,50 +4,7 @@ mod common;
 
 use common::two_plants;
 use lumintayag::SERIES_ROW;
-
-extern "C" {
-    fn lumintayag_read_v3(
-        doc: *const u8,
-        doc_len: usize,
-        series: *mut u32,
-        series_len: usize,
-        positions: *mut u32,
-        positions_len: usize,
-        amounts: *mut i64,
-        amounts_len: usize,
-        shape: u32,
-        note: *mut u8,
-        note_len: usize,
-        answer: *mut u32,
-        answer_len: usize,
-    ) -> u32;
-    fn lumintayag_read_note_v2(note: *const u8, note_len: usize, six: *mut u32, six_len: usize) -> u32;
-    fn lumintayag_convert_note(
-        note: *const u8,
-        note_len: usize,
-        shape: u32,
-        out: *mut u8,
-        out_len: usize,
-        answer: *mut u32,
-        answer_len: usize,
-    ) -> u32;
-    fn lumintayag_totals(
-        kind: u32,
-        quarters: u32,
-        count: usize,
-        series: *const u32,
-        series_len: usize,
-        positions: *const u32,
-        positions_len: usize,
-        amounts: *const i64,
-        amounts_len: usize,
-        totals: *mut i64,
-        totals_len: usize,
-        sum: *mut i64,
-        sum_len: usize,
-    ) -> u32;
-    fn lumintayag_views(doc: *const u8, doc_len: usize, table: *mut u32, table_len: usize, answer: *mut u32, answer_len: usize) -> u32;
-}
+use lumintayag_sys::{lumintayag_convert_note, lumintayag_read_note_v2, lumintayag_read_v3, lumintayag_totals, lumintayag_views};
 
 /// The numbers as far as there are cells, 0 in the cells after them, and old numbers past the slice.
 fn expected<T: Copy + From<u8>>(numbers: &[T], len: usize) -> Vec<T> {

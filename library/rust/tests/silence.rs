@@ -45,6 +45,7 @@ fn all_views(doc: &str) -> Vec<(&'static str, String)> {
         ("Period", formatted(&shown.period())),
         ("SeriesValue", formatted(&SeriesValue::all(shown.kind()))),
         ("SeriesViews", formatted(&shown.get(0)) + &formatted(&shown.iter().collect::<Vec<_>>())),
+        ("SeriesViewsIter", formatted(&shown.iter())),
         ("Utc", formatted(&shown.period().from()) + &formatted(&shown.period().quarter(96))),
         ("Views", formatted(&shown) + &formatted(&answer)),
         ("ViewsRefused", formatted(&refused) + &refused.to_string()),
@@ -56,6 +57,13 @@ fn total_secrets(doc: &str, desk: &mut Desk) -> Vec<String> {
     let totals = desk.read(doc.as_bytes()).expect("accepted").sheet.totals().expect("totals");
     let told: Vec<_> = totals.iter().chain([totals.sum()]).map(|total| total.whole().to_string()).collect();
     told.iter().flat_map(|digits| digits.as_bytes().windows(4)).map(|four| String::from_utf8_lossy(four).into_owned()).collect()
+}
+
+/// Before and after its views are asked for.
+#[cfg(feature = "alloc")]
+fn owned(doc: &str) -> String {
+    let kept = lumintayag::OwnedSheet::read(doc.into()).expect("accepted");
+    formatted(&kept) + &formatted(&kept.views()) + &formatted(&kept)
 }
 
 /// One text for each public type, with its name.
@@ -89,13 +97,12 @@ fn all(doc: &str, desk: &mut Desk, refused: &mut Desk) -> Vec<(&'static str, Str
         ("Amount", formatted(&series.amount_at(1)) + &formatted(&series.intervals().collect::<Vec<_>>())),
         ("Tables", added),
         ("Totals", formatted(&totals) + &formatted(&sheet.totals())),
+        ("TotalsIter", formatted(&totals.iter())),
         ("Total", formatted(&totals.sum()) + &formatted(&totals.iter().collect::<Vec<_>>()) + &formatted(&totals.get(1))),
     ];
     all.extend(all_views(doc));
     #[cfg(feature = "alloc")]
-    all.push(("OwnedSheet", formatted(&lumintayag::OwnedSheet::read(doc.into()))));
-    #[cfg(feature = "alloc")]
-    all.push(("OwnedViews", formatted(&lumintayag::OwnedViews::of(doc.as_bytes()))));
+    all.push(("OwnedSheet", owned(doc)));
     all.sort();
     all
 }

@@ -13,6 +13,7 @@ fn are_whole(sheet: Sheet<'_>) -> bool {
     let (totals, all) = (sheet.totals().expect("totals"), by_quarter(sheet));
     (totals.len(), totals.is_empty()) == (sheet.len(), sheet.is_empty())
         && totals.iter().map(Total::in_thousandths).eq(all.iter().copied())
+        && totals.into_iter().eq(totals.iter())
         && totals.iter().rev().map(Total::in_thousandths).eq(all.iter().rev().copied())
         && (0..all.len()).all(|i| totals.get(i).map(Total::in_thousandths) == Some(all[i]))
         && totals.get(all.len()).is_none()

@@ -39,7 +39,13 @@ fn of_a_kostenblatt() {
     let second = shown.get(1).expect("a series");
     assert_eq!((second.identification(), second.object(), second.direction(), second.area()), (Some(""), Some("A00000000Z5"), None, None));
     assert_eq!((second.get(SeriesValue::InArea), second.get(SeriesValue::GridElement)), (None, None), "of another kind");
-    assert!(shown.get(2).is_none() && shown.iter().eq([first, second]) && shown.iter().rev().eq([second, first]));
+    assert!(
+        shown.get(2).is_none()
+            && shown.iter().eq([first, second])
+            && shown.into_iter().eq(&shown)
+            && shown.iter().len() == 2
+            && shown.iter().rev().eq([second, first])
+    );
 }
 
 #[test]
@@ -201,13 +207,11 @@ fn room_for_views() {
 #[cfg(feature = "alloc")]
 #[test]
 fn that_are_kept() {
-    use lumintayag::{OwnedSheet, OwnedViews};
     let (doc, mut table) = (two_plants(), table(2));
     let lent = views(doc.as_bytes(), &mut table).expect("accepted");
-    let kept = OwnedSheet::read(doc.clone().into_bytes()).expect("accepted");
+    let kept = lumintayag::OwnedSheet::read(doc.clone().into_bytes()).expect("accepted");
     let shown = kept.views().expect("views");
-    assert!(shown.views() == lent && shown.views().iter().eq(lent.iter()));
-    let alone = OwnedViews::of(doc.as_bytes()).expect("views");
-    assert!(header(&alone.views()) == header(&lent));
-    assert_eq!(OwnedViews::of(&doc.as_bytes()[..doc.len() - 1]).map(|_| ()).map_err(|refused| refused.refusal()), Err(Refusal::Unreadable));
+    assert!(shown == lent && shown.iter().eq(lent.iter()) && kept.views() == Ok(shown));
+    let moved = Box::new(kept);
+    assert!(moved.views() == Ok(lent), "also where it has moved");
 }

@@ -1,5 +1,5 @@
 //! Memory is given back empty. The allocator of this program looks for a price, as digits and as thousandths, for the total of a sheet, and for the place of
-//! a value that views show, in each block that it takes back.
+//! a value and the time that views show, in each block that it takes back.
 #![allow(unsafe_code)]
 mod common;
 
@@ -17,11 +17,13 @@ const TOTAL: i64 = 847_362_989;
 
 /// Where the unit stands in the document, as a pair of views: its start and its length.
 const UNIT: [u32; 2] = [670, 3];
+/// When the period begins, in minutes.
+const FROM: u32 = 16_352_580;
 
 fn holds_price(block: &[u8]) -> bool {
     let [start, len] = UNIT.map(u32::to_ne_bytes);
     let pair = [start[0], start[1], start[2], start[3], len[0], len[1], len[2], len[3]];
-    let secrets = [PRICE.as_bytes(), &THOUSANDTHS.to_ne_bytes(), &TOTAL.to_ne_bytes(), &pair];
+    let secrets = [PRICE.as_bytes(), &THOUSANDTHS.to_ne_bytes(), &TOTAL.to_ne_bytes(), &pair, &FROM.to_ne_bytes()];
     secrets.iter().any(|secret| block.windows(secret.len()).any(|window| window == *secret))
 }
 
@@ -106,9 +108,10 @@ fn views_are_wiped() {
     assert!(views(kept.document(), &mut lent).is_ok_and(|shown| shown.get(0).and_then(|series| series.unit()) == Some("Z02")));
     assert_eq!(lent[2 * 27..][..2], UNIT);
     assert_eq!(given_back(|| drop(lent)).1, (1, 1), "a lent table is the caller's to wipe");
-    let shown = kept.views().expect("views");
-    assert_eq!(shown.views().get(0).and_then(|series| series.unit()), Some("Z02"));
-    assert_eq!(given_back(|| drop(shown)).1, (0, 1));
+    let unit = || kept.views().ok()?.get(0)?.unit();
+    assert_eq!((given_back(unit), given_back(unit)), ((Some("Z02"), (0, 0)), (Some("Z02"), (0, 0))));
+    assert_eq!(kept.views().map(|shown| shown.period().from().minutes()), Ok(FROM));
+    assert_eq!(given_back(|| drop(kept)).1, (0, 6), "the document and its tables, the table of views and what tells where it is");
 }
 
 #[test]
