@@ -1,9 +1,11 @@
 -- The table of examples and the accepted documents, by computation: every definition on the way is unfolded. Assumes nothing.
 use Prim.Native.Nat.{ℕ, _≤_}
 use mathlib.Core.List.{List, [], _∷_}
-use mathlib.Core.Path.{_≡_, refl, ap}
+use mathlib.Core.Path.{_≡_, refl, ap, subst}
+use mathlib.Core.Logic.{inl, inr}
 use native.Mathlib.Omega.{arith}
 use lib.ListN.{length}
+use Rattle.slices.specs.Text.{text}
 use Rattle.slices.specs.Bytes.{byte}
 use Rattle.slices.specs.Run.{run}
 use Rattle.slices.specs.Same.{same, begins}
@@ -13,7 +15,7 @@ use Rattle.characters.specs.Says.{met, charOf, saidBy, saidAt, saysAfter, says}
 use Rattle.attributes.specs.Names.{nameStart, nameByte, white}
 use Rattle.slices.specs.Part.{partOf}
 use Rattle.attributes.specs.Attribute.{quote, fit, standingNext, valueNext, valueOver, value, openingFrom, opening, attributeEnd, attributeQuote, attributeName, attribute, pieceAfter, piece}
-use Rattle.tags.specs.Known.{absent, dtdName, noDtd, withDtd, noneKnown, upToTwo as anotherKnown, withAttribute as notedKnown}
+use Rattle.tags.specs.Known.{absent, passedOver, dtdName, noDtd, withDtd, noneKnown, upToTwo as anotherKnown, withAttribute as notedKnown}
 use Rattle.tags.specs.Tail.{onto, endsAfter, ends, keptOf, named, twice}
 use Rattle.items.specs.Parts.{spanOf}
 use Rattle.items.specs.Item.{endClose, endName, endTag, tagOf, tagItem, startTag, item}
@@ -43,7 +45,7 @@ use Rattle.states.specs.Constraints.{noneSeen, withdrawing, changing, unchangin
 use Rattle.states.specs.Moves.{oneMore, oneSeries, oneInterval, oneOriginal, lastPos, covering, closedAt, lackRefusal, endRefusal, afterEndAt as tagEnded, afterEnd, begun, heldOf, cutShort, tooMany, noRoom, halfOriginals, againstOthers, besideOthers, valuesJudged, judgedAt, startJudged, atRow, kept, entered, entryOf, startedBy, startedAt, started, countRefusal, moved, rootKind, kindTold, step}
 use Rattle.notes.specs.Note.{groupsIn, flat, left}
 use Rattle.notes.specs.declared.Shape.the-variants.{Old}
-use Rattle.reader.specs.Items.{itemsAfter, itemsFrom}
+use Rattle.reader.specs.Items.{placed, itemsAfter, itemsFrom}
 use Rattle.series.specs.Row.{withView, view}
 use Rattle.reader.specs.Rows.{quoted, thousandthsOf, used, usedIn, usedWith, broughtBy, fieldAfter, seriesWith, positionsWith, amountsWith, seriesAfter, positionsAfter, amountsAfter, usedBefore}
 use Rattle.reader.specs.Reading.{acceptedAt, blank, roomOf, refusedAt, endedAt, withoutUsed, stepOf, tablesAfter, readItems, roomIn, itemsRead, readAfter, readInto, orBlank, readSheet}
@@ -55,6 +57,9 @@ use Rattle.slices.specs.declared.Span.{Span}
 use Rattle.blindness.specs.Readable.{tagNamed}
 use Rattle.blindness.specs.Sources.{valueAt}
 use Rattle.blindness.specs.Renamed.{valuesNamed, valuesNamedAfter, identificationsIn}
+use Rattle.reader.specs.declared.Answer.{Answer}
+use Rattle.faults.specs.Faults.{Clause, HasFault, hasValue, valueNumber, valueCode, schemeOutside, startClauses, startFaults, faultsBy, faultsOf, FirstIn, NoneIn}
+use Rattle.faults.proofs.First.{first-named, accepted-faultless}
 use Rattle.trees.specs.Trees.{Trees}
 use Rattle.contents.specs.Said.{TagSaid}
 use Rattle.contents.specs.Spelled.{Spells}
@@ -69,11 +74,19 @@ firstId = record { start = 460; len = 2 }
 abbrev pub secondId : Span
 secondId = record { start = 955; len = 2 }
 
+-- a root's empty tag: "over too early", "attribute .. unknown", "value against its .. fixed value"
+abbrev threeFaults : List ℕ
+threeFaults = text "<Kostenblatt DtdBDEWNachrichtenVersion='2' x=''/>"
+
+abbrev pub threefold : List Clause
+threefold = faultsOf threeFaults [] (roomOf 0 0 0) (placed 0 threeFaults) begun
+
 computed : (allPass examples ≡ true) × (readOf sheet 25 4 4 Old 16 ≡ sheetOutcome)
     × (readOf twiceSheet 25 4 4 Old 16 .answer ≡ twiceAnswer) × (identificationsIn sheet ≡ firstId ∷ secondId ∷ [])
     × (readOf constraintSheet 25 4 4 Old 16 ≡ constraintOutcome) × (readOf withdrawnSheet 0 0 0 Old 16 ≡ withdrawnOutcome)
+    × (HasFault threefold 3 × HasFault threefold 5 × HasFault threefold 6) × (length twiceSheet ≡ 1387)
 unfolding byte run same begins walk seqLen control single charAt met charOf saidBy saidAt saysAfter says nameStart nameByte white quote fit standingNext valueNext valueOver
-    value openingFrom opening attributeEnd attributeQuote attributeName attribute pieceAfter piece partOf absent dtdName noDtd withDtd noneKnown anotherKnown
+    value openingFrom opening attributeEnd attributeQuote attributeName attribute pieceAfter piece partOf absent passedOver dtdName noDtd withDtd noneKnown anotherKnown
     notedKnown onto endsAfter ends keptOf named twice endClose endName endTag tagOf tagItem startTag item markLen beginAfter begin capital
     capitalOrDigit firstThree digit takes fitsOf shownNumber numberAt space dropLead keepEnd dropTrail dropped leadAfter leadOf keptFrom keptAfter keptBytes cutTrail trimmedOf digits numberFrom nothingAfter
     onlyDigits minus unsigned fractionForm unsignedForm writtenAmount filled thousandths signed amountOf numberForm atMostNine numberWithin countOf
@@ -89,8 +102,17 @@ unfolding byte run same begins walk seqLen control single charAt met charOf said
     withView view thousandthsOf used usedIn usedWith spanOf broughtBy fieldAfter seriesWith positionsWith
     amountsWith seriesAfter positionsAfter amountsAfter usedBefore acceptedAt blank roomOf refusedAt
     depthOf heightIn endedAt withoutUsed stepOf tablesAfter readItems roomIn itemsRead readAfter readInto orBlank readSheet noteFor answerOf told noted readOf
-    identificationsIn valuesNamedAfter valuesNamed tagNamed valueAt
-computed = (refl, refl, refl, refl, refl, refl)
+    identificationsIn valuesNamedAfter valuesNamed tagNamed valueAt faultsOf faultsBy startFaults startClauses hasValue valueNumber valueCode schemeOutside HasFault
+computed = (
+  refl,
+  refl,
+  refl,
+  refl,
+  refl,
+  refl,
+  (inl (refl, refl), inr (inr (inr (inl (refl, refl)))), inr (inr (inr (inr (inl (refl, refl)))))),
+  refl,
+)
 
 -- "P1 to P12 form a single table with a single proved statement."
 pub examples-pass : allPass examples ≡ true
@@ -111,6 +133,19 @@ constraint-read = computed .4
 
 pub withdrawn-read : readOf withdrawnSheet 0 0 0 Old 16 ≡ withdrawnOutcome
 withdrawn-read = computed .5
+
+-- an item with several faults
+pub three-at-once : HasFault threefold 3 × HasFault threefold 5 × HasFault threefold 6
+three-at-once = computed .6
+
+-- a document with a first fault, and one without any
+pub twice-first : FirstIn twiceSheet 25 4 4 9 926
+twice-first =
+    let r = ap (λ (a : Answer). a .refusal) twice-read in
+    let p = ap (λ (a : Answer). a .place) twice-read in
+    let l = computed .7 in
+    let h = first-named twiceSheet 25 4 4 Old 16 (omega arith) (omega (arith, l)) (λ z. omega (arith, r, z)) in
+    subst (λ (n : ℕ). FirstIn twiceSheet 25 4 4 n 926) r (subst (FirstIn twiceSheet 25 4 4 (readOf twiceSheet 25 4 4 Old 16 .answer .refusal)) p h)
 
 -- a document that is accepted, and is told to be no longer than a document may be, spells a legal content
 content-of : (doc : List ℕ) (ns np na : ℕ) → readOf doc ns np na Old 16 .answer .refusal ≡ 0 → readOf doc ns np na Old 16 .answer .place ≤ 1048576
@@ -141,3 +176,6 @@ constraint-content = let p = ap placeIn constraint-read in content-of constraint
 
 pub withdrawn-content : (kind : ℕ) × (c : Trees TagSaid) × Spells withdrawnSheet kind c × Legal kind c × HasRoom (roomOf 0 0 0) kind c
 withdrawn-content = let p = ap placeIn withdrawn-read in content-of withdrawnSheet 0 0 0 (ap refusalIn withdrawn-read) (omega (arith, p))
+
+pub sheet-faultless : NoneIn sheet 25 4 4
+sheet-faultless = accepted-faultless sheet 25 4 4 Old 16 (omega arith) sheet-short sheet-accepted

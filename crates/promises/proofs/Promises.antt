@@ -26,6 +26,8 @@ use Rattle.blindness.specs.Readable.{DifferInQty}
 use Rattle.blindness.specs.Blind.{OwnDigitsDiffer}
 use Rattle.blindness.specs.Renamed.{IdsReplaced, Renamed}
 use Rattle.blindness.proofs.Outcomes.{two-runs}
+use Rattle.faults.specs.Faults.{HasFault, FirstIn, NoneIn}
+use Rattle.faults.proofs.First.{first-named, first-refused, faultless-accepted, accepted-faultless}
 use Rattle.trees.specs.Trees.{Trees}
 use Rattle.contents.specs.Said.{TagSaid}
 use Rattle.contents.specs.Spelled.{Spells, SpellAlike}
@@ -40,7 +42,7 @@ use Rattle.promises.specs.Examples.{examples, allPass}
 use Rattle.promises.specs.Sheet.{sheet, sheetOutcome, renamedSheet, twiceSheet, twiceAnswer, constraintSheet, constraintOutcome, withdrawnSheet, withdrawnOutcome}
 use Rattle.promises.proofs.Answers.{ten-is, ten-only, long-is, long-only, refusal-clears, refusal-known, place-within, place-told, accepted-whole, counts-within, cells-past, rows-kept, counts-told, note-told, open-told}
 use Rattle.promises.proofs.Faces.{two-calls, two-replies, renamed-runs, renamed-calls, renamed-replies}
-use Rattle.promises.proofs.Examples.{examples-pass, sheet-read, sheet-content, twice-read, constraint-read, withdrawn-read, constraint-content, withdrawn-content}
+use Rattle.promises.proofs.Examples.{examples-pass, sheet-read, sheet-content, twice-read, constraint-read, withdrawn-read, constraint-content, withdrawn-content, threefold, three-at-once, twice-first, sheet-faultless}
 use Rattle.promises.proofs.Renamings.{sheet-renamed, renamed-read, sheet-twice}
 
 -- "P1 to P12 form a single table with a single proved statement."
@@ -137,7 +139,21 @@ module _ (doc : List ℕ) (ns np na : ℕ) (shape : Shape) (nb : ℕ) where
       × ((kind : ℕ) (c : Trees TagSaid) → Spells doc kind c → Legal kind c → HasRoom (roomOf ns np na) kind c → Tells doc outcome kind c)
   accepted-exactly wide small = (accepted-legal doc ns np na shape nb wide small, legal-accepted doc ns np na shape nb wide small)
 
--- and there is one: the content of the sheet above
+  -- "The first item with a fault decides; where it has several, the smallest number.": a refusal names the first fault and its place, and a document is refused with
+  -- no other number and at no other place than those of its first fault. `FirstIn` says of each item which faults it has, clause by clause and in no order
+  pub first-fault-named : 16 ≤ nb → length doc ≤ 1048576 → ((outcome .answer .refusal ≡ 0 → ⊥) → FirstIn doc ns np na (outcome .answer .refusal) (outcome .answer .place))
+      × ((n p : ℕ) → FirstIn doc ns np na n p → (outcome .answer .refusal ≡ n) × (outcome .answer .place ≡ p))
+  first-fault-named wide small = (first-named doc ns np na shape nb wide small, first-refused doc ns np na shape nb wide small)
+
+  -- and a document without a fault is accepted, and no other
+  pub faultless-exactly : 16 ≤ nb → length doc ≤ 1048576 → (NoneIn doc ns np na → outcome .answer .refusal ≡ 0) × (outcome .answer .refusal ≡ 0 → NoneIn doc ns np na)
+  faultless-exactly wide small = (faultless-accepted doc ns np na shape nb wide small, accepted-faultless doc ns np na shape nb wide small)
+
+-- there are documents of both sorts, and an item with three faults at once
+pub a-first-fault : FirstIn twiceSheet 25 4 4 9 926 × NoneIn sheet 25 4 4 × (HasFault threefold 3 × HasFault threefold 5 × HasFault threefold 6)
+a-first-fault = (twice-first, sheet-faultless, three-at-once)
+
+-- a legal content, of the sheet above
 pub a-content : (kind : ℕ) × (c : Trees TagSaid) × Spells sheet kind c × Legal kind c × HasRoom (roomOf 25 4 4) kind c
 a-content = sheet-content
 

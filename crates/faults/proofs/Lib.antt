@@ -1,0 +1,5 @@
+pub mod Clauses
+pub mod Steps
+pub mod Turns
+pub mod Named
+pub mod First
