@@ -12,7 +12,7 @@ use Rattle.slices.specs.Walk.{walk}
 use Rattle.slices.specs.Same.{same, begins}
 use Rattle.slices.specs.Text.{text}
 use Rattle.characters.specs.Utf8.{seqLen, control, single, charAt}
-use Rattle.characters.specs.References.{within, xmlChar, decimalDigit, refDigit, base, digitValue, numberBy, charBy, numberedTo, numberedAt, referenceAt}
+use Rattle.characters.specs.References.{within, xmlChar, digit, refDigit, base, digitValue, numberBy, charBy, numberedTo, numberedAt, referenceAt}
 use Rattle.characters.specs.Says.{met}
 use Rattle.attributes.specs.Names.{nameStart, nameByte, white}
 use Rattle.slices.specs.Part.{partOf}
@@ -21,7 +21,6 @@ use Rattle.tags.specs.Known.{absent, noneKnown, upToTwo, withAttribute}
 use Rattle.tags.specs.Tail.{onto, endsAfter, ends, keptOf, named, twice}
 use Rattle.items.specs.Item.{tagOf, tagItem, startTag, item}
 use Rattle.prolog.specs.Prolog.{markLen, beginAfter, begin}
-use Rattle.pictures.specs.Picture.{digit}
 use Rattle.reader.specs.Items.{Placed, placed, itemsAfter, itemsFrom}
 use Rattle.items.specs.Parts.{spanOf}
 use Rattle.digits.specs.Items.{InV, valueIn}
@@ -40,7 +39,7 @@ pos-digit h = ⊎-elim (λ z. let e : _≡_ {A = Bool} false true = z .2 .0 .0 i
 
 -- of `1&#50;3` the 1 and the 3, and not the 5 of the reference, which stands for 2
 pub beside-reference : QtyDigit (text "<Qty v=\"1&#50;3\"/>") 8 × QtyDigit (text "<Qty v=\"1&#50;3\"/>") 14
-unfolding QtyDigit InTagsAfter InTags InV tagNamed spanOf openAt opened digit byte begin beginAfter markLen begins same itemsFrom itemsAfter item startTag tagItem tagOf ends endsAfter onto keptOf named twice withAttribute upToTwo noneKnown absent piece pieceAfter attribute attributeName attributeQuote attributeEnd opening openingFrom value valueNext standingNext valueOver walk met charAt seqLen control single quote fit nameStart nameByte white run partOf referredNext referenceAt numberedAt numberedTo refDigit decimalDigit numberBy base digitValue charBy xmlChar within
+unfolding QtyDigit InTagsAfter InTags InV tagNamed spanOf openAt opened digit byte begin beginAfter markLen begins same itemsFrom itemsAfter item startTag tagItem tagOf ends endsAfter onto keptOf named twice withAttribute upToTwo noneKnown absent piece pieceAfter attribute attributeName attributeQuote attributeEnd opening openingFrom value valueNext standingNext valueOver walk met charAt seqLen control single quote fit nameStart nameByte white run partOf referredNext referenceAt numberedAt numberedTo refDigit numberBy base digitValue charBy xmlChar within
 beside-reference = (
   (refl, inl (8, refl, ((refl, (omega arith, omega arith)), refl))),
   (refl, inl (14, refl, ((refl, (omega arith, omega arith)), refl))),
@@ -56,5 +55,5 @@ in-reference x a s v h =
     h
 
 pub reference-digit : QtyDigit (text "<Qty v=\"1&#50;3\"/>") 11 → ⊥
-unfolding QtyDigit InTagsAfter InTags InV tagNamed spanOf openAt opened digit byte begin beginAfter markLen begins same itemsFrom itemsAfter item startTag tagItem tagOf ends endsAfter onto keptOf named twice withAttribute upToTwo noneKnown absent piece pieceAfter attribute attributeName attributeQuote attributeEnd opening openingFrom value valueNext standingNext valueOver walk met charAt seqLen control single quote fit nameStart nameByte white run partOf referredNext referenceAt numberedAt numberedTo refDigit decimalDigit numberBy base digitValue charBy xmlChar within
+unfolding QtyDigit InTagsAfter InTags InV tagNamed spanOf openAt opened digit byte begin beginAfter markLen begins same itemsFrom itemsAfter item startTag tagItem tagOf ends endsAfter onto keptOf named twice withAttribute upToTwo noneKnown absent piece pieceAfter attribute attributeName attributeQuote attributeEnd opening openingFrom value valueNext standingNext valueOver walk met charAt seqLen control single quote fit nameStart nameByte white run partOf referredNext referenceAt numberedAt numberedTo refDigit numberBy base digitValue charBy xmlChar within
 reference-digit h = in-reference (placed 0 (text "<Qty v=\"1&#50;3\"/>")) refl refl refl (h .1)

@@ -22,7 +22,7 @@ use Rattle.items.proofs.Promises.{refused-two}
 use Rattle.prolog.specs.Prolog.{begin}
 use Rattle.prolog.specs.declared.Begin.{Begin}
 use Rattle.prolog.specs.declared.Begin.the-variants.{From, Misdeclared}
-use Rattle.pictures.specs.Picture.{digit}
+use Rattle.characters.specs.References.{digit}
 use Rattle.reader.specs.Items.{Placed, itemsAfter, itemsFrom}
 use Rattle.digits.specs.Items.{InSpan, InV, JoinsV, valueIn}
 use Rattle.digits.specs.Outside.{openAt, AlikeFrom}

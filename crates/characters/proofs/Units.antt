@@ -20,7 +20,7 @@ use Rattle.slices.proofs.Bytes.{byte-there, byte-drop, byte-take}
 use Rattle.slices.proofs.Runs.{run-each}
 use Rattle.slices.proofs.Near.{Front, front-drop, run-near, take-front, begins-take}
 use Rattle.characters.specs.Utf8.{charAt}
-use Rattle.characters.specs.References.{xmlChar, decimalDigit, hexDigit, refDigit, numberBy, charBy, numberedTo, numberedAt, namedAt, referenceAt}
+use Rattle.characters.specs.References.{xmlChar, digit, hexDigit, refDigit, numberBy, charBy, numberedTo, numberedAt, namedAt, referenceAt}
 use Rattle.characters.specs.Says.{met, charOf, itself}
 use Rattle.characters.specs.declared.Char.{Char}
 use Rattle.characters.specs.declared.Char.the-variants.{Is, NoChar}
@@ -55,7 +55,7 @@ met-itself s e = let r = itself-range (byte s 0) e in met-standing s (r .2) ∙ 
 -- ---- digits and `;`
 
 none-digit : (hex : Bool) → refDigit hex 0 ≡ false
-unfolding refDigit hexDigit decimalDigit
+unfolding refDigit hexDigit digit
 none-digit true = refl
 none-digit false = refl
 
@@ -237,7 +237,7 @@ name-shut t {s} {n = n} w p e f =
     }
 
 digit-other : (hex : Bool) (b : ℕ) → refDigit hex b ≡ true → b ≡ 0x3B → ⊥
-unfolding refDigit hexDigit decimalDigit
+unfolding refDigit hexDigit digit
 digit-other true b e q = never (rw q at e)
 digit-other false b e q = never (rw q at e)
 

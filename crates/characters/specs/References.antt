@@ -26,15 +26,15 @@ xmlChar c =
     (cond (within 0xE000 0xFFFD c) true
     (within 0x10000 0x10FFFF c)))))
 
--- XML 1.0, CharRef: "'&#' [0-9]+ ';' | '&#x' [0-9a-fA-F]+ ';'"
-unfoldable pub decimalDigit : ℕ → Bool
-decimalDigit b = cond (leb (code "0") b) (leb b (code "9")) false
+-- 01: "Digits are ASCII only"; XML 1.0, CharRef: "'&#' [0-9]+ ';' | '&#x' [0-9a-fA-F]+ ';'"
+unfoldable pub digit : ℕ → Bool
+digit b = cond (leb (code "0") b) (leb b (code "9")) false
 
 unfoldable pub hexDigit : ℕ → Bool
-hexDigit b = cond (leb (code "a") b) (leb b (code "f")) (cond (leb (code "A") b) (leb b (code "F")) (decimalDigit b))
+hexDigit b = cond (leb (code "a") b) (leb b (code "f")) (cond (leb (code "A") b) (leb b (code "F")) (digit b))
 
 unfoldable pub refDigit : Bool → ℕ → Bool
-refDigit hex b = cond hex (hexDigit b) (decimalDigit b)
+refDigit hex b = cond hex (hexDigit b) (digit b)
 
 unfoldable pub base : Bool → ℕ
 base hex = cond hex 16 10

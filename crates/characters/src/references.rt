@@ -9,7 +9,7 @@ ghost use Prim.Native.Nat.{_+_, _≤_};
 ghost use lib.ListN.{length};
 ghost use Rattle.slices.specs.Run.{run};
 ghost use Rattle.characters.specs.Utf8.{charUse, sliceMost};
-ghost use Rattle.characters.specs.References.{within, xmlChar, decimalDigit, hexDigit, refDigit, digitValue, base, capped, numberBy, numberedAt, namedAt, referenceAt};
+ghost use Rattle.characters.specs.References.{within, xmlChar, digit, hexDigit, refDigit, digitValue, base, capped, numberBy, numberedAt, namedAt, referenceAt};
 
 fn is_within(low: u32, high: u32, c: u32) -> bool
     ensures { λ r. ⌜ r ≡ within low high c ⌝ }
@@ -39,7 +39,7 @@ fn is_xml_char(c: u32) -> bool
 }
 
 fn is_decimal(b: u8) -> bool
-    ensures { λ r. ⌜ r ≡ decimalDigit b ⌝ }
+    ensures { λ r. ⌜ r ≡ digit b ⌝ }
 {
     if 0x30 <= b { b <= 0x39 } else { false }
 }

@@ -12,7 +12,7 @@ use lib.IntN.{ℤ, pos, negℤ, natAbs}
 use lib.ListN.{length, take, drop, length-take}
 use Rattle.lists.proofs.Cases.{bool-cases, by-cond}
 use Rattle.slices.specs.Text.{text}
-use Rattle.pictures.specs.Picture.{digit}
+use Rattle.characters.specs.References.{digit}
 use Rattle.numbers.specs.Digits.{digits, numberFrom}
 use Rattle.numbers.specs.Amount.{filled, thousandths, signed, writtenAmount, unsigned, minus, amountOf}
 use Rattle.numbers.specs.declared.Amount.{Amount}

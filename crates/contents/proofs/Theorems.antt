@@ -10,7 +10,6 @@ use native.Mathlib.Nat.{zero-add}
 use lib.Dec.{leb}
 use lib.ListN.{length, getD, length-replicate, take}
 use lib.IntN.{pos}
-use borrow.Author.Tests.{le-ltb}
 use Rattle.lists.proofs.Cases.{leb-cases, never}
 use Rattle.structure.specs.Rows.{nameOf}
 use Rattle.prolog.specs.Prolog.{begin}
@@ -22,9 +21,9 @@ use Rattle.states.specs.Moves.{begun}
 use Rattle.states.specs.declared.Room.{Room}
 use Rattle.notes.specs.declared.Shape.{Shape}
 use Rattle.reader.specs.Items.{Placed, itemsFrom}
-use Rattle.reader.specs.Reading.{Tables, Out, blank, roomOf, roomIn, refusedAt, acceptedAt, readItems, itemsRead, readAfter, readInto, orBlank, readSheet}
+use Rattle.reader.specs.Reading.{Tables, Out, blank, roomOf, roomIn, refusedAt, acceptedAt, readItems, itemsRead, readAfter, readInto}
 use Rattle.reader.specs.Answer.{Outcome, answerOf, told, noted, readOf}
-use Rattle.reader.proofs.Sheets.{into-items, sheet-taken, read-noted}
+use Rattle.reader.proofs.Sheets.{into-items, sheet-taken, sheet-found, read-noted}
 use Rattle.trees.specs.Trees.{Sign, Opens, Trees, none, spell, Conforms}
 use Rattle.trees.specs.Cursor.{rowAfter, openAfter}
 use Rattle.trees.proofs.Theorems.{one-tree}
@@ -87,13 +86,9 @@ module _ (doc : List ℕ) (ns np na : ℕ) (shape : Shape) (nb : ℕ) (wide : 16
       sym (read-noted doc ns np na shape nb wide)
       ∙ ap (noted shape nb) (sym (sheet-taken doc ns np na refl small refl (ap (λ (o : Out). o .found .refusal) i ∙ z)) ∙ i)
 
-  sheet-found : readSheet doc ns np na .found ≡ readInto doc (blank ns np na) .found
-  unfolding readSheet orBlank
-  sheet-found = rw (le-ltb 1048576 (length doc) small) refl
-
   outcome-refusal : readOf doc ns np na shape nb .answer .refusal ≡ readInto doc (blank ns np na) .found .refusal
   unfolding noted told answerOf
-  outcome-refusal = ap (λ (o : Outcome). o .answer .refusal) (sym (read-noted doc ns np na shape nb wide)) ∙ ap (λ f. f .refusal) sheet-found
+  outcome-refusal = ap (λ (o : Outcome). o .answer .refusal) (sym (read-noted doc ns np na shape nb wide)) ∙ ap (λ f. f .refusal) (sheet-found doc ns np na small)
 
   accepted-from : (b : Begin) → begin doc ≡ b → readInto doc (blank ns np na) .found .refusal ≡ 0 → (n : ℕ) × (begin doc ≡ From n) × (read n .found .refusal ≡ 0)
   unfolding readInto readAfter refusedAt

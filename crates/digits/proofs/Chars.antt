@@ -20,7 +20,7 @@ use Rattle.characters.proofs.Units.{reference-inside, reference-front, referenc
 use Rattle.attributes.specs.Attribute.{quote, standingNext, valueNext, valueOver, value}
 use Rattle.attributes.specs.declared.Value.the-variants.{Long}
 use Rattle.attributes.proofs.Values.{met-amp, met-other}
-use Rattle.pictures.specs.Picture.{digit}
+use Rattle.characters.specs.References.{digit}
 use Rattle.numbers.proofs.Reading.{digit-range}
 use Rattle.numbers.specs.Alike.{Like}
 use Rattle.digits.specs.Unseen.{Unseen}

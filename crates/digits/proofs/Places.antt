@@ -12,7 +12,7 @@ use Rattle.lists.proofs.Cases.{by-cond, never}
 use Rattle.slices.specs.Bytes.{byte}
 use Rattle.slices.specs.Text.{text}
 use Rattle.slices.proofs.Near.{Front}
-use Rattle.pictures.specs.Picture.{digit}
+use Rattle.characters.specs.References.{digit}
 use Rattle.numbers.proofs.Reading.{digit-range}
 use Rattle.numbers.specs.Alike.{Like}
 use Rattle.digits.specs.Outside.{opened, openAt, AlikeFrom, none, same, digits}

@@ -12,7 +12,7 @@ use Rattle.lists.proofs.Cases.{eqb-cases, zero-not-one}
 use Rattle.slices.specs.Text.{text}
 use Rattle.attributes.specs.Attribute.{quote, fit}
 use Rattle.trims.specs.Trim.{space}
-use Rattle.pictures.specs.Picture.{digit}
+use Rattle.characters.specs.References.{digit}
 use Rattle.numbers.proofs.Reading.{digit-range}
 use Rattle.numbers.specs.Alike.{Like}
 

@@ -5,7 +5,7 @@ use mathlib.Core.Path.{_≡_}
 use mathlib.Core.List.{List, [], _∷_}
 use mathlib.Core.Bool.{Bool, true, false, cond}
 use lib.Dec.{eqb}
-use Rattle.pictures.specs.Picture.{digit}
+use Rattle.characters.specs.References.{digit}
 
 -- whether a reference is open behind the byte b: `&` opens one, `;` closes it, and any other byte leaves it as it is
 unfoldable pub opened : Bool → ℕ → Bool

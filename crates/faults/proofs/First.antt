@@ -7,7 +7,6 @@ use mathlib.Core.Logic.{_⊎_, inl, inr, ⊎-elim}
 use native.Mathlib.Omega.{arith}
 use lib.Dec.{eqb, ltb}
 use lib.ListN.{length}
-use borrow.Author.Tests.{le-ltb}
 use Rattle.lists.proofs.Cases.{bool-cases, never}
 use Rattle.structure.specs.Rows.{overOf}
 use Rattle.guideline.specs.Rows.{rowsOf}
@@ -22,11 +21,11 @@ use Rattle.states.specs.declared.Entry.{Entry}
 use Rattle.states.specs.declared.Step.{Step}
 use Rattle.states.specs.declared.Step.the-variants.{Next, Refused}
 use Rattle.reader.specs.Items.{Placed, itemsFrom}
-use Rattle.reader.specs.Reading.{Tables, Out, blank, refusedAt, acceptedAt, endedAt, stepOf, tablesAfter, readItems, itemsRead, readAfter, readInto, orBlank, readSheet, roomIn}
+use Rattle.reader.specs.Reading.{Tables, Out, blank, refusedAt, acceptedAt, endedAt, stepOf, tablesAfter, readItems, itemsRead, readAfter, readInto, roomIn}
 use Rattle.reader.specs.Answer.{Outcome, answerOf, told, noted, readOf}
 use Rattle.reader.specs.declared.Found.{Found}
 use Rattle.reader.specs.declared.Answer.{Answer}
-use Rattle.reader.proofs.Sheets.{read-noted}
+use Rattle.reader.proofs.Sheets.{sheet-found, read-noted}
 use Rattle.faults.specs.Faults.{Clause, HasFault, Smallest, Faultless, faultsOf, after, FirstFault, NoFault, FirstFaultAfter, NoFaultAfter, FirstIn, NoneIn}
 use Rattle.faults.proofs.Clauses.{firstHeld, Rising, none-held, first-smallest}
 use Rattle.faults.proofs.Turns.{refusalIn}
@@ -124,17 +123,13 @@ module _ (doc : List ℕ) (ns np na : ℕ) (shape : Shape) (nb : ℕ) (wide : 16
   abbrev answer : Answer
   answer = readOf doc ns np na shape nb .answer
 
-  sheet-found : readSheet doc ns np na .found ≡ readInto doc (blank ns np na) .found
-  unfolding readSheet orBlank
-  sheet-found = rw (le-ltb 1048576 (length doc) short) refl
-
   refusal-is : answer .refusal ≡ readInto doc (blank ns np na) .found .refusal
   unfolding noted told answerOf
-  refusal-is = ap (λ (o : Outcome). o .answer .refusal) (sym (read-noted doc ns np na shape nb wide)) ∙ ap (λ (f : Found). f .refusal) sheet-found
+  refusal-is = ap (λ (o : Outcome). o .answer .refusal) (sym (read-noted doc ns np na shape nb wide)) ∙ ap (λ (f : Found). f .refusal) (sheet-found doc ns np na short)
 
   place-is : answer .place ≡ readInto doc (blank ns np na) .found .place
   unfolding noted told answerOf
-  place-is = ap (λ (o : Outcome). o .answer .place) (sym (read-noted doc ns np na shape nb wide)) ∙ ap (λ (f : Found). f .place) sheet-found
+  place-is = ap (λ (o : Outcome). o .answer .place) (sym (read-noted doc ns np na shape nb wide)) ∙ ap (λ (f : Found). f .place) (sheet-found doc ns np na short)
 
   sheet-told : Told (FirstIn doc ns np na) (NoneIn doc ns np na) (answer .refusal) (answer .place)
   unfolding FirstIn NoneIn readInto

@@ -6,7 +6,8 @@ use lib.Dec.{leb}
 use lib.ListN.{length, replicate}
 use Rattle.slices.specs.Same.{same}
 use Rattle.slices.specs.Text.{text}
-use Rattle.pictures.specs.Picture.{digit, capitalOrDigit, partyChar, firstThree, held}
+use Rattle.characters.specs.References.{digit}
+use Rattle.pictures.specs.Picture.{capitalOrDigit, partyChar, firstThree, held}
 
 -- "Identifications: 0 to 35 characters"
 unfoldable pub identification : List ℕ → Bool

@@ -20,7 +20,7 @@ use Rattle.characters.specs.Says.{saidAt, says}
 use Rattle.characters.specs.declared.Said.{Said}
 use Rattle.characters.specs.declared.Said.the-variants.{Says, Over}
 use Rattle.characters.proofs.Saying.{says-char, says-over}
-use Rattle.pictures.specs.Picture.{digit}
+use Rattle.characters.specs.References.{digit}
 use Rattle.numbers.specs.Digits.{digits, numberFrom, nothingLeft, onlyDigits}
 use Rattle.numbers.specs.Number.{numberForm, numberWithin}
 use Rattle.numbers.specs.Amount.{minus, unsigned, fractionForm, unsignedForm, writtenAmount, filled, thousandths, signed, amountOf}

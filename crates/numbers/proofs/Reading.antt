@@ -10,7 +10,7 @@ use lib.ListN.{take, drop}
 use lib.Dec.{leb, lit<}
 use borrow.Author.Tests.{leb-true}
 use Rattle.lists.proofs.Cases.{both-true}
-use Rattle.pictures.specs.Picture.{digit}
+use Rattle.characters.specs.References.{digit}
 use Rattle.numbers.specs.Digits.{digits, numberFrom}
 
 -- of the digits that begin l, n are read, and say x; what is left is t

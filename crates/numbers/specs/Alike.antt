@@ -4,7 +4,7 @@ use mathlib.Core.Path.{_≡_}
 use mathlib.Core.List.{List, [], _∷_}
 use mathlib.Core.Bool.{true}
 use mathlib.Core.Logic.{_⊎_}
-use Rattle.pictures.specs.Picture.{digit}
+use Rattle.characters.specs.References.{digit}
 
 -- the same, or two digits
 abbrev pub Like : ℕ → ℕ → Type 0

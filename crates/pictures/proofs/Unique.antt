@@ -7,7 +7,8 @@ use mathlib.Core.Bool.{Bool}
 use Rattle.lists.proofs.Unique.{one}
 use Rattle.slices.specs.Same.{same}
 use Rattle.characters.specs.Says.{says}
-use Rattle.pictures.specs.Picture.{digit, fitsOf}
+use Rattle.characters.specs.References.{digit}
+use Rattle.pictures.specs.Picture.{fitsOf}
 use Rattle.pictures.specs.Number.{numberAt}
 
 pub is-digit-one : (c : ℕ) {r r′ : Bool} → r ≡ digit c → r′ ≡ digit c → r ≡ r′

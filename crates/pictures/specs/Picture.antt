@@ -5,10 +5,7 @@ use Prim.Native.Char.{code}
 use mathlib.Core.List.{List, [], _∷_, map}
 use mathlib.Core.Bool.{Bool, true, false, cond}
 use lib.Dec.{leb, eqb}
-
--- "Digits are ASCII only"
-unfoldable pub digit : ℕ → Bool
-digit c = cond (leb (code "0") c) (leb c (code "9")) false
+use Rattle.characters.specs.References.{digit}
 
 -- A to Z
 unfoldable pub capital : ℕ → Bool

@@ -7,7 +7,8 @@ ghost use mathlib.Core.List.{map};
 ghost use Rattle.slices.specs.Same.{same};
 ghost use Rattle.characters.specs.Says.{says};
 ghost use Rattle.pictures.specs.Number.{numberAt};
-ghost use Rattle.pictures.specs.Picture.{digit, capital, capitalOrDigit, partyChar, firstThree, takes, held, fitsOf, test};
+ghost use Rattle.characters.specs.References.{digit};
+ghost use Rattle.pictures.specs.Picture.{capital, capitalOrDigit, partyChar, firstThree, takes, held, fitsOf, test};
 
 // Whether a character is an ASCII digit.
 // Ruled out: true for a digit of another script, for `/` or `:`; false for `0` or `9`.

@@ -20,7 +20,8 @@ use Rattle.tags.specs.Tail.{onto, endsAfter, ends, keptOf, named, twice}
 use Rattle.items.specs.Parts.{spanOf}
 use Rattle.items.specs.Item.{endClose, endName, endTag, tagOf, tagItem, startTag, item}
 use Rattle.prolog.specs.Prolog.{markLen, beginAfter, begin}
-use Rattle.pictures.specs.Picture.{capital, capitalOrDigit, firstThree, digit, takes, held, fitsOf}
+use Rattle.characters.specs.References.{digit}
+use Rattle.pictures.specs.Picture.{capital, capitalOrDigit, firstThree, takes, held, fitsOf}
 use Rattle.pictures.specs.Number.{shownNumber, numberAt}
 use Rattle.trims.specs.Trim.{space, dropLead, keptBefore as keepEnd, dropTrail, dropped, leadAfter, leadOf, keptFrom, keptAfter, keptBytes, cutTrail, trimmedOf}
 use Rattle.numbers.specs.Digits.{digits, numberFrom, nothingLeft as nothingAfter, onlyDigits}

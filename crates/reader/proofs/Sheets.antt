@@ -66,6 +66,11 @@ module _ (doc : List ℕ) (ns np na : ℕ) {u : Tables} (q : u ≡ blank ns np n
     unfolding readSheet orBlank
     sheet-refused k z = rw (le-ltb _ _ h, into, ne-eqb _ _ k, z) refl
 
+-- a document of no more than 01's length gets what its items got
+pub sheet-found : (doc : List ℕ) (ns np na : ℕ) → length doc ≤ 1048576 → readSheet doc ns np na .found ≡ readInto doc (blank ns np na) .found
+unfolding readSheet orBlank
+sheet-found doc ns np na h = rw (le-ltb 1048576 (length doc) h) refl
+
 pub blank-same : {ns np na ns′ np′ na′ : ℕ} → ns ≡ ns′ → np ≡ np′ → na ≡ na′ → blank ns np na ≡ blank ns′ np′ na′
 blank-same a b c = rw (a, b, c) refl
 

@@ -25,6 +25,14 @@ use Rattle.trims.specs.Short.{bare, bareAtEnds}
 
 -- ---- one unit
 
+is-space : (c : ℕ) → c ≡ 0x20 → space c ≡ true
+unfolding space
+is-space c e = eq-eqb c 0x20 e
+
+no-space : (c : ℕ) → (c ≡ 0x20 → ⊥) → space c ≡ false
+unfolding space
+no-space c u = ne-eqb c 0x20 u
+
 lead-skip : (k : ℕ) (v : List ℕ) → leadAfter k v ≡ leadAfter 0 (drop k v)
 unfolding leadAfter
 lead-skip zero v = refl
@@ -258,13 +266,11 @@ module _ {v : List ℕ} {i : ℕ} (w : Led v i) where
       step = let m = said-some-bytes (drop i v) more (sym e ∙ q) in rw (← drop-drop n i v) (lead-step (drop i v) more (sym e ∙ q) m)
 
       pub led-stop : (c ≡ 0x20 → ⊥) → i ≡ leadOf v
-      unfolding space
-      led-stop u = let z : leadOf (drop i v) ≡ 0 = step ∙ rw (ne-eqb c 0x20 u) in omega (arith, z, w .total)
+      led-stop u = let z : leadOf (drop i v) ≡ 0 = step ∙ rw (no-space c u) in omega (arith, z, w .total)
 
       pub led-more : c ≡ 0x20 → Led v (i + n)
-      unfolding space
       led-more u =
-          let z : leadOf (drop i v) ≡ n + leadOf (drop (i + n) v) = step ∙ rw (eq-eqb c 0x20 u) in
+          let z : leadOf (drop i v) ≡ n + leadOf (drop (i + n) v) = step ∙ rw (is-space c u) in
           record { inside = omega (arith, said-inside (drop i v) more (sym e ∙ q), length-drop i v); total = omega (arith, z, w .total) }
 
 -- i bytes are passed, and of those the first `kept` are kept where no more are
@@ -301,13 +307,13 @@ module _ {v : List ℕ} {i kept : ℕ} (w : Keeping v i kept) where
       inside-next = omega (arith, said-inside (drop i v) more-kept (sym e ∙ q), length-drop i v)
 
       pub keeping-space : c ≡ 0x20 → Keeping v (i + n) kept
-      unfolding keptFrom space
+      unfolding keptFrom
       keeping-space u =
           record {
             inside = inside-next;
             total =
                 ⊎-elim
-                (λ y. let z : keptBytes (drop i v) ≡ 0 = kept-here ∙ rw (y .1, eq-eqb c 0x20 u) in rw (y .1) (rw z at (w .total)))
+                (λ y. let z : keptBytes (drop i v) ≡ 0 = kept-here ∙ rw (y .1, is-space c u) in rw (y .1) (rw z at (w .total)))
                 (λ y.
                 let m = some-bytes in
                 let z : keptBytes (drop i v) ≡ n + keptBytes (drop (i + n) v) = kept-here ∙ rw (y .1) in
@@ -317,7 +323,7 @@ module _ {v : List ℕ} {i kept : ℕ} (w : Keeping v i kept) where
           }
 
       pub keeping-other : (c ≡ 0x20 → ⊥) → Keeping v (i + n) (i + n)
-      unfolding keptFrom space
+      unfolding keptFrom
       keeping-other u =
           let m = some-bytes in
           record {
@@ -325,7 +331,7 @@ module _ {v : List ℕ} {i kept : ℕ} (w : Keeping v i kept) where
             total =
                 ⊎-elim
                 (λ y.
-                let z : keptBytes (drop i v) ≡ n = kept-here ∙ rw (y .1, ne-eqb c 0x20 u) in
+                let z : keptBytes (drop i v) ≡ n = kept-here ∙ rw (y .1, no-space c u) in
                 let t : i + n ≡ keptBytes v = rw (z, ne-eqb n 0 (λ k. omega (arith, k))) at (w .total) in
                 rw (y .1) t)
                 (λ y.
@@ -337,12 +343,15 @@ module _ {v : List ℕ} {i kept : ℕ} (w : Keeping v i kept) where
 
 -- ---- a value whose first and last byte tell that nothing is dropped
 
+not-equal : (b k : ℕ) → not (eqb b k) ≡ true → b ≡ k → ⊥
+not-equal b k e z = never (rw (eq-eqb b k z) at e)
+
 bare-other : (b : ℕ) → bare b ≡ true → (b ≡ 0x20 → ⊥) × (b ≡ 0x26 → ⊥) × (b ≡ 0x3B → ⊥)
 unfolding bare
 bare-other b e =
     let a = past-cond (eqb b 0x20) (λ z. never z) e in
     let m = past-cond (eqb b 0x26) (λ z. never z) (a .1) in
-    (eqb-false b 0x20 (a .0), eqb-false b 0x26 (m .0), λ z. never (rw (eq-eqb b 0x3B z) at (m .1)))
+    (eqb-false b 0x20 (a .0), eqb-false b 0x26 (m .0), not-equal b 0x3B (m .1))
 
 abbrev AllKept : List ℕ → Type 0
 AllKept v = 0 < length v → (byte v (length v - 1) ≡ 0x20 → ⊥) → (byte v (length v - 1) ≡ 0x3B → ⊥) → keptBytes v ≡ length v
@@ -360,7 +369,7 @@ last-other v {c} {n} (unit q) l a b e = by (unit-is v q)
     by (refers amp is) = let k : length v - 1 ≡ pred n = omega (arith, l) in b (ap (byte v) k ∙ reference-shut v is .last)
 
 kept-all : (v : List ℕ) (f : First v) → 0 < length v → AllKept (drop (f .n) v) → AllKept v
-unfolding keptFrom space
+unfolding keptFrom
 kept-all v f p ih some a b =
     let e = kept-step v p (f .is) (f .some) in
     let m = f .some in
@@ -375,7 +384,7 @@ kept-all v f p ih some a b =
     (λ y.
     let z : f .n ≡ length v = omega (arith, y .0) in
     let r : keptBytes (drop (f .n) v) ≡ 0 = rw (drop-of-length-le v {i = f .n} (omega arith)) kept-none in
-    e ∙ rw (r, ne-eqb (f .c) 0x20 (last-other v (uttered v p (f .is)) z a b)) z)
+    e ∙ rw (r, no-space (f .c) (last-other v (uttered v p (f .is)) z a b)) z)
     (ltb-cases (f .n) (length v))
 
 -- the first unit is no space
@@ -388,8 +397,7 @@ first-other v {c} {n} (unit q) a b e = by (unit-is v q)
     by (refers amp is) = b amp
 
 lead-bare : (v : List ℕ) → 0 < length v → (byte v 0 ≡ 0x20 → ⊥) → (byte v 0 ≡ 0x26 → ⊥) → leadOf v ≡ 0
-unfolding space
-lead-bare v p a b = let f = first v p in lead-step v p (f .is) (f .some) ∙ rw (ne-eqb (f .c) 0x20 (first-other v (uttered v p (f .is)) a b))
+lead-bare v p a b = let f = first v p in lead-step v p (f .is) (f .some) ∙ rw (no-space (f .c) (first-other v (uttered v p (f .is)) a b))
 
 pub bare-all : (v : List ℕ) → bareAtEnds v ≡ true → v ≡ trimmedOf v
 unfolding bareAtEnds trimmedOf cutTrail

@@ -1,5 +1,5 @@
 use borrow.Author.Tests.{le-leb, lt-leb}
-use Rattle.pictures.specs.Picture.{digit}
+use Rattle.characters.specs.References.{digit}
 use Rattle.pictures.proofs.is_digit.Statement.{statement}
 use Rattle.pictures.proofs.is_digit.Tie as tie
 use Rattle.pictures.proofs.is_digit.Reads as reads
