@@ -15,7 +15,7 @@ use Rattle.slices.specs.Bytes.{byte}
 use Rattle.slices.specs.Same.{same}
 use Rattle.slices.proofs.Bytes.{byte-drop}
 use Rattle.slices.proofs.Sames.{same-equal}
-use Rattle.characters.specs.Says.{met, charOf, itself, ownByte, ownEnd, endsOtherwise, ownLen, saidBy, saidAt, says}
+use Rattle.characters.specs.Says.{met, charOf, itself, ownByte, ownEnd, otherByte, endsOtherwise, ownLen, saidBy, saidAt, says}
 use Rattle.characters.specs.declared.Said.{Said}
 use Rattle.characters.specs.declared.Said.the-variants.{Says, Over}
 use Rattle.characters.specs.declared.Char.the-variants.{Is, NoChar}
@@ -183,6 +183,13 @@ none-own : ownEnd [] ≡ 0
 unfolding ownEnd ownByte byte itself
 none-own = refl
 
+end-own : (v : List ℕ) → ownByte (byte v (length v - 1)) ≡ ownEnd v
+unfolding ownEnd
+end-own v = refl
+
+own-ends : (v : List ℕ) → (ownByte (byte v (length v - 1)) ≡ 0 → ⊥) → ownEnd v ≡ 0 → ⊥
+own-ends v h z = h (end-own v ∙ z)
+
 -- a value whose last byte says itself says it last; n is a bound of its length
 abbrev LastSaid : ℕ → Type 0
 LastSaid n = (v : List ℕ) (d : ℕ) → length v ≤ n → (ownEnd v ≡ 0 → ⊥) → lastOr d (says v) ≡ ownEnd v
@@ -243,15 +250,17 @@ last-said : (n : ℕ) → LastSaid n
 last-said zero = last-none
 last-said (suc n) = last-step n (last-said n)
 
-pub otherwise : (a b : List ℕ) → endsOtherwise (ownEnd a) (ownEnd b) ≡ true → false ≡ same (says a) (says b)
-unfolding endsOtherwise
+pub otherwise : (a b : List ℕ) → endsOtherwise a (ownEnd b) ≡ true → false ≡ same (says a) (says b)
+unfolding endsOtherwise otherByte
 otherwise a b e =
-    let differ = past-cond (eqb (ownEnd a) (ownEnd b)) (λ z. never z) e in
-    let x = past-cond (eqb (ownEnd a) 0) (λ z. never z) (differ .1) in
+    let l = byte a (length a - 1) in
+    let differ = past-cond (eqb l (ownEnd b)) (λ z. never z) e in
+    let x = past-cond (eqb (ownEnd b) 0) (λ z. never z) (differ .1) in
+    let h : ownByte l ≡ 0 → ⊥ = λ z. never (rw (eq-eqb (ownByte l) 0 z) at (x .1)) in
     ⊎-elim
     (λ (t : same (says a) (says b) ≡ true).
-    let p = last-said (length a) a 0 (omega arith) (eqb-false (ownEnd a) 0 (x .0)) in
-    let q = last-said (length b) b 0 (omega arith) (λ z. never (rw (eq-eqb (ownEnd b) 0 z) at (x .1))) in
-    absurd (eqb-false (ownEnd a) (ownEnd b) (differ .0) (sym p ∙ ap (lastOr 0) (same-equal (says a) (says b) t) ∙ q)))
+    let p = last-said (length a) a 0 (omega arith) (own-ends a h) in
+    let q = last-said (length b) b 0 (omega arith) (eqb-false (ownEnd b) 0 (x .0)) in
+    absurd (eqb-false l (ownEnd b) (differ .0) (sym (own-byte l h .0) ∙ end-own a ∙ sym p ∙ ap (lastOr 0) (same-equal (says a) (says b) t) ∙ q)))
     (λ t. sym t)
     (bool-cases (same (says a) (says b)))

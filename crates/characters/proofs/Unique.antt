@@ -31,8 +31,8 @@ count-chars-one v = one
 pub own-end-one : (v : List ℕ) {r r′ : ℕ} → r ≡ ownEnd v → r′ ≡ ownEnd v → r ≡ r′
 own-end-one v = one
 
-pub ends-otherwise-one : (x y : ℕ) {r r′ : Bool} → r ≡ endsOtherwise x y → r′ ≡ endsOtherwise x y → r ≡ r′
-ends-otherwise-one x y = one
+pub ends-otherwise-one : (v : List ℕ) (y : ℕ) {r r′ : Bool} → r ≡ endsOtherwise v y → r′ ≡ endsOtherwise v y → r ≡ r′
+ends-otherwise-one v y = one
 
 pub says-same-one : (a b : List ℕ) {r r′ : Bool} → r ≡ same (says a) (says b) → r′ ≡ same (says a) (says b) → r ≡ r′
 says-same-one a b = one

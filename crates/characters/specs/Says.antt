@@ -73,9 +73,12 @@ ownByte b = cond (eqb b (code ";")) 0 (cond (itself b) b 0)
 unfoldable pub ownEnd : List ℕ → ℕ
 ownEnd v = ownByte (byte v (length v - 1))
 
--- two such bytes, neither 0, that are not the same
-unfoldable pub endsOtherwise : ℕ → ℕ → Bool
-endsOtherwise x y = cond (eqb x y) false (cond (eqb x 0) false (not (eqb y 0)))
+-- the last byte of a value, where it says itself, is not y, which is not 0
+unfoldable pub otherByte : ℕ → ℕ → Bool
+otherByte b y = cond (eqb b y) false (cond (eqb y 0) false (not (eqb (ownByte b) 0)))
+
+unfoldable pub endsOtherwise : List ℕ → ℕ → Bool
+endsOtherwise v y = otherByte (byte v (length v - 1)) y
 
 -- how many bytes at the front of both are the same and are seen to say themselves
 unfoldable pub ownLen : List ℕ → List ℕ → ℕ

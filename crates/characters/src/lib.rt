@@ -10,7 +10,7 @@ ghost use lib.ListN.{length};
 ghost use Rattle.slices.specs.Bytes.{byte};
 ghost use Rattle.slices.specs.Same.{same};
 ghost use Rattle.characters.specs.Utf8.{seqLen, low, high, second, laterByte, control, nonchar, single, double, triple, fourfold, charAt, charUse, sliceMost};
-ghost use Rattle.characters.specs.Says.{met, charOf, itself, ownEnd, endsOtherwise, ownLen, saidAt, saidUse, says, allChars};
+ghost use Rattle.characters.specs.Says.{met, charOf, itself, ownByte, ownEnd, endsOtherwise, ownLen, saidAt, saidUse, says, allChars};
 
 pub enum Char {
     // its number in Unicode, and how many bytes it takes
@@ -267,12 +267,9 @@ fn last_byte(v: &[u8]) -> u8
     v[v.len() - 1]
 }
 
-// The last byte of a value where it is seen to say itself and ends no reference, else 0.
-// Ruled out: a byte of a longer character, or the `;` of a reference.
-pub fn own_end(v: &[u8]) -> u8
-    ensures { λ r. ⌜ r ≡ ownEnd (now (v .entry)) ⌝ }
+fn own_byte(b: u8) -> u8
+    ensures { λ r. ⌜ r ≡ ownByte b ⌝ }
 {
-    let b = last_byte(v);
     if b == 0x3B {
         return 0;
     }
@@ -282,18 +279,28 @@ pub fn own_end(v: &[u8]) -> u8
     0
 }
 
-// Whether the last bytes alone tell that two values say something else, x and y being their `own_end`.
-// Ruled out: true where one of them is 0, or where they are the same.
-pub fn ends_otherwise(x: u8, y: u8) -> bool
-    ensures { λ r. ⌜ r ≡ endsOtherwise x y ⌝ }
+// The last byte of a value where it is seen to say itself and ends no reference, else 0.
+// Ruled out: a byte of a longer character, or the `;` of a reference.
+pub fn own_end(v: &[u8]) -> u8
+    ensures { λ r. ⌜ r ≡ ownEnd (now (v .entry)) ⌝ }
 {
-    if x == y {
+    own_byte(last_byte(v))
+}
+
+// Whether its last byte alone tells that a value says something else than another whose `own_end` is y. Bytes that are the same are told first: of many values
+// held against one, most differ there.
+// Ruled out: true where y is 0, where the last byte is y, or where it is a byte of a longer character or the `;` of a reference.
+pub fn ends_otherwise(v: &[u8], y: u8) -> bool
+    ensures { λ r. ⌜ r ≡ endsOtherwise (now (v .entry)) y ⌝ }
+{
+    let b = last_byte(v);
+    if b == y {
         return false;
     }
-    if x == 0 {
+    if y == 0 {
         return false;
     }
-    y != 0
+    own_byte(b) != 0
 }
 
 // How many bytes at the front of both are the same and are seen to say themselves.

@@ -169,7 +169,7 @@ fn is_shown(doc: &[u8], t: &[u32], i: u32, id: &[u8], last: u8) -> bool
     ensures { λ r. ⌜ r ≡ same (says (view (now (doc .entry)) (now (t .entry)) i Identification)) (says (now (id .entry))) ⌝ }
 {
     let shown = view_of(doc, t, i, Field::Identification);
-    if ends_otherwise(own_end(shown), last) {
+    if ends_otherwise(shown, last) {
         return false;
     }
     says_same(shown, id)
