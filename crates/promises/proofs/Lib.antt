@@ -13,3 +13,5 @@ pub mod Places
 pub mod Answers
 pub mod Faces
 pub mod Renamings
+pub mod Digits
+pub mod Dearer
