@@ -93,7 +93,7 @@ computed : (allPass examples ≡ true) × (readOf sheet 25 4 4 Old 16 ≡ sheetO
     × (readOf constraintSheet 25 4 4 Old 16 ≡ constraintOutcome) × (readOf withdrawnSheet 0 0 0 Old 16 ≡ withdrawnOutcome)
     × (HasFault threefold 3 × HasFault threefold 5 × HasFault threefold 6) × (length twiceSheet ≡ 1387)
     × (readOf dearerSheet 25 4 4 Old 16 ≡ dearerOutcome) × (qtyAfter sheet (begin sheet) qtyPlace ≡ true)
-    × (readOf shortDay 12 92 92 Old 16 ≡ dayOutcome)
+    × (readOf shortDay 12 92 92 Old 16 ≡ dayOutcome) × (readOf [] 25 4 4 Old 16 .answer .refusal ≡ 3)
 unfolding byte run same begins walk seqLen control single charAt met charOf saidBy saidAt saysAfter says nameStart nameByte white quote fit standingNext valueNext valueOver
     value openingFrom opening attributeEnd attributeQuote attributeName attribute pieceAfter piece partOf absent passedOver dtdName noDtd withDtd noneKnown anotherKnown
     notedKnown onto endsAfter ends keptOf named twice endClose endName endTag tagOf tagItem startTag item markLen beginAfter begin capital
@@ -121,6 +121,7 @@ computed = (
   refl,
   refl,
   (inl (refl, refl), inr (inr (inr (inl (refl, refl)))), inr (inr (inr (inr (inl (refl, refl)))))),
+  refl,
   refl,
   refl,
   refl,
@@ -156,6 +157,10 @@ qty-place = computed .9
 -- of kind 1, a day of 92 Intervals
 pub day-read : readOf shortDay 12 92 92 Old 16 ≡ dayOutcome
 day-read = computed .10
+
+-- P1 again, with these tables
+pub nothing-read : readOf [] 25 4 4 Old 16 .answer .refusal ≡ 3
+nothing-read = computed .11
 
 -- an item with several faults
 pub three-at-once : HasFault threefold 3 × HasFault threefold 5 × HasFault threefold 6

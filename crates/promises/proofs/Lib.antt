@@ -15,3 +15,4 @@ pub mod Faces
 pub mod Renamings
 pub mod Digits
 pub mod Dearer
+pub mod Fakes

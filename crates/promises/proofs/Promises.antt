@@ -46,6 +46,8 @@ use Rattle.promises.specs.Sheet.{sheet, sheetOutcome, dearerSheet, deare
 use Rattle.promises.proofs.Answers.{ten-is, ten-only, long-is, long-only, refusal-clears, refusal-known, place-within, place-told, accepted-whole, counts-within, cells-past, rows-kept, counts-told, note-told, open-told}
 use Rattle.promises.proofs.Faces.{two-calls, two-replies, renamed-runs, renamed-calls, renamed-replies}
 use Rattle.promises.proofs.Examples.{examples-pass, day-read, day-content, sheet-read, sheet-content, dearer-read, twice-read, constraint-read, withdrawn-read, constraint-content, withdrawn-content, threefold, three-at-once, twice-first, sheet-faultless}
+use Rattle.promises.specs.Fakes.{Promised, theReader, refusesEverything, oneAnswer, doesNothing, firstSeriesOnly, inventsCounts}
+use Rattle.promises.proofs.Fakes.{reader-meets, refusing-fails, answering-fails, idling-fails, pretending-fails, inventing-fails}
 use Rattle.promises.proofs.Dearer.{sheet-dearer, sheets-differ, amount-differs}
 use Rattle.promises.proofs.Renamings.{sheet-renamed, renamed-read, sheet-twice}
 
@@ -53,8 +55,7 @@ use Rattle.promises.proofs.Renamings.{sheet-renamed, renamed-read, shee
 pub the-examples : allPass examples ≡ true
 the-examples = examples-pass
 
--- "These fakes have to be rejected: a reader that refuses everything or gives one answer for all .., one that does nothing .., one that fills only the
--- first series and pretends after it .., one that invents counts": a document that is accepted, with two series
+-- a document that is accepted, with two series
 pub a-sheet : readOf sheet 25 4 4 Old 16 ≡ sheetOutcome
 a-sheet = sheet-read
 
@@ -162,6 +163,15 @@ module _ (doc : List ℕ) (ns np na : ℕ) (shape : Shape) (nb : ℕ) where
   -- and a document without a fault is accepted, and no other
   pub faultless-exactly : 16 ≤ nb → length doc ≤ 1048576 → (NoneIn doc ns np na → outcome .answer .refusal ≡ 0) × (outcome .answer .refusal ≡ 0 → NoneIn doc ns np na)
   faultless-exactly wide small = (faultless-accepted doc ns np na shape nb wide small, accepted-faultless doc ns np na shape nb wide small)
+
+-- demand 2 as it is asked of any reader, `accepted-exactly` and `counts-of-start-tags`, is met by this one
+pub reader-promised : Promised theReader
+reader-promised = reader-meets
+
+-- "These fakes have to be rejected: a reader that refuses everything or gives one answer for all (demand 2 on acceptance), one that does nothing (demand 2 on tables), one that fills
+-- only the first series and pretends after it (demand 2 on rows), one that invents counts (demand 2 on the note).": none of them meets it
+pub fakes-rejected : (Promised refusesEverything → ⊥) × (Promised oneAnswer → ⊥) × (Promised doesNothing → ⊥) × (Promised firstSeriesOnly → ⊥) × (Promised inventsCounts → ⊥)
+fakes-rejected = (refusing-fails, answering-fails, idling-fails, pretending-fails, inventing-fails)
 
 -- there are documents of both sorts, and an item with three faults at once
 pub a-first-fault : FirstIn twiceSheet 25 4 4 9 926 × NoneIn sheet 25 4 4 × (HasFault threefold 3 × HasFault threefold 5 × HasFault threefold 6)

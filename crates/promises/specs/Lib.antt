@@ -4,3 +4,4 @@ pub mod Answers
 pub mod Items
 pub mod Sheet
 pub mod Day
+pub mod Fakes
