@@ -2,17 +2,18 @@
 use Prim.Native.Nat.{ℕ, zero, suc, pred, _+_, _≤_, _<_}
 use mathlib.Core.Path.{_≡_, refl, sym, ap, _∙_}
 use mathlib.Core.List.{List, [], _∷_}
+use mathlib.Core.Bool.{true, false}
 use mathlib.Core.Logic.{_⊎_, inl, inr, ⊎-elim}
 use native.Mathlib.Omega.{arith}
 use lib.ListN.{length, drop}
 use lib.Seq.{drop-drop, ext-getD}
+use Rattle.lists.proofs.Cases.{bool-cases, never}
 use Rattle.slices.specs.Bytes.{byte}
-use Rattle.items.specs.Item.{item, itemRefusal, itemEnd}
+use Rattle.items.specs.Item.{item, isReadable, itemEnd}
 use Rattle.items.specs.Parts.{spanOf}
 use Rattle.items.specs.declared.Item.{Item}
 use Rattle.items.specs.declared.Item.the-variants.{Start, Empty, End, Text, Comment, Unreadable}
 use Rattle.items.specs.declared.Tag.{Tag}
-use Rattle.items.proofs.Promises.{refused-two}
 use Rattle.prolog.specs.Prolog.{begin}
 use Rattle.prolog.specs.declared.Begin.{Begin}
 use Rattle.prolog.specs.declared.Begin.the-variants.{From, Misdeclared}
@@ -56,21 +57,21 @@ in-v (Comment e) i h = omega (arith, h .1)
 in-v (Unreadable p) i h = omega (arith, h .1)
 
 -- an unreadable item has no `v`
-unread-v : (x : Item) (i : ℕ) → itemRefusal x ≡ 2 → InV x i → ⊥
+unread-v : (x : Item) (i : ℕ) → isReadable x ≡ false → InV x i → ⊥
 unfolding InV
-unread-v (Start t) i q h = omega (arith, q)
-unread-v (Empty t) i q h = omega (arith, q)
+unread-v (Start t) i q h = never (sym q)
+unread-v (Empty t) i q h = never (sym q)
 unread-v (End n e) i q h = h
 unread-v (Text w e) i q h = h
 unread-v (Comment e) i q h = h
 unread-v (Unreadable p) i q h = h
 
-unreadable : (x : Item) → itemRefusal x ≡ 2 → (p : ℕ) × (x ≡ Unreadable p)
-unreadable (Start t) q = absurd (omega (arith, q))
-unreadable (Empty t) q = absurd (omega (arith, q))
-unreadable (End n e) q = absurd (omega (arith, q))
-unreadable (Text w e) q = absurd (omega (arith, q))
-unreadable (Comment e) q = absurd (omega (arith, q))
+unreadable : (x : Item) → isReadable x ≡ false → (p : ℕ) × (x ≡ Unreadable p)
+unreadable (Start t) q = never (sym q)
+unreadable (Empty t) q = never (sym q)
+unreadable (End n e) q = never (sym q)
+unreadable (Text w e) q = never (sym q)
+unreadable (Comment e) q = never (sym q)
 unreadable (Unreadable p) q = (p, refl)
 
 -- what is behind the first byte of a part of a document
@@ -91,7 +92,7 @@ module _ (name : List ℕ) where
 
   module _ {R : List ℕ → List ℕ → Type 0} (u : Unseen R) (x y : List ℕ) where
     -- an unreadable item, whose bytes are the same
-    unread-aligned : (at b c : ℕ) (t v : List ℕ) → itemRefusal (item at (b ∷ t)) ≡ 2 → c ∷ v ≡ b ∷ t
+    unread-aligned : (at b c : ℕ) (t v : List ℕ) → isReadable (item at (b ∷ t)) ≡ false → c ∷ v ≡ b ∷ t
         → Aligned name R x y (itemsAfter zero at (b ∷ t)) (itemsAfter zero at (c ∷ v))
     unfolding itemsAfter
     unread-aligned at b c t v e same =
@@ -126,12 +127,12 @@ module _ (name : List ℕ) where
       says = item-says name R at (b ∷ t) (c ∷ v) long front refl (λ i l. here i (omega arith)) (λ z. rw (← ey) at (j .0 z))
 
       -- it is readable
-      read-same : itemRefusal front ≡ 0 → item at (c ∷ v) ≡ front
+      read-same : isReadable front ≡ true → item at (c ∷ v) ≡ front
       read-same e =
           item-same u at (b ∷ t) (c ∷ v) e
           (record { long = long; inside = λ i l. ⊎-elim inl (λ z. inr (z .1)) (here i l); joined = says-joins name R front (b ∷ t) (c ∷ v) says })
 
-      behind : itemRefusal front ≡ 0 → Differ (suc at + pred (itemEnd front)) (itemsAfter (pred (itemEnd front)) (suc at) t)
+      behind : isReadable front ≡ true → Differ (suc at + pred (itemEnd front)) (itemsAfter (pred (itemEnd front)) (suc at) t)
       unfolding itemsAfter InTags
       behind e p l =
           ⊎-elim inl
@@ -141,13 +142,13 @@ module _ (name : List ℕ) where
           (d p (omega arith))
 
       -- or not: then nothing is changed
-      unread-same : itemRefusal front ≡ 2 → c ∷ v ≡ b ∷ t
+      unread-same : isReadable front ≡ false → c ∷ v ≡ b ∷ t
       unfolding itemsAfter InTags byte
       unread-same e =
           sym (ext-getD 0 (b ∷ t) (c ∷ v) long
           (λ i l. at-front i
           (⊎-elim (λ q. q)
-          (⊎-elim (λ z. absurd (unread-v front (z .0) e (z .2 .1))) (λ z. absurd (omega (arith, e, z .0))))
+          (⊎-elim (λ z. absurd (unread-v front (z .0) e (z .2 .1))) (λ z. never (sym e ∙ z .0)))
           (d (at + i) (omega arith)))))
 
     align : (l m : List ℕ) → length l ≡ length m → (k at : ℕ) → l ≡ drop at x → m ≡ drop at y → Differ (at + k) (itemsAfter k at l) → Joins name R y (itemsAfter k at l)
@@ -165,7 +166,7 @@ module _ (name : List ℕ) where
         (pair at (item at (b ∷ t)) (b ∷ t) (c ∷ v) ex ey (says at b c t v long ex ey d j)
         (align t v (omega arith) (pred (itemEnd (item at (b ∷ t)))) (suc at) (tail-of x at b t ex) (tail-of y at c v ey) (behind at b c t v long ex ey d j e) (j .1 e))))
         (λ e. unread-aligned at b c t v e (unread-same at b c t v long ex ey d j e))
-        (refused-two (item at (b ∷ t)))
+        (bool-cases (isReadable (item at (b ∷ t))))
 
 pub record SameItems (name : List ℕ) (R : List ℕ → List ℕ → Type 0) (x y : List ℕ) : Type 0 where
   pub from : ℕ

@@ -7,7 +7,7 @@ use mathlib.Core.Bool.{Bool, true, false, cond}
 use mathlib.Core.Logic.{_⊎_, inl, inr, ⊎-elim}
 use native.Mathlib.Omega.{arith}
 use lib.ListN.{length, drop, length-take}
-use Rattle.lists.proofs.Cases.{by-cond, leb-cases, ltb-cases, never}
+use Rattle.lists.proofs.Cases.{bool-cases, by-cond, leb-cases, ltb-cases, never}
 use Rattle.slices.specs.Bytes.{byte}
 use Rattle.slices.specs.Part.{partOf}
 use Rattle.slices.specs.Text.{text}
@@ -18,7 +18,7 @@ use Rattle.items.specs.Item.{item, itemEnd}
 use Rattle.items.specs.Parts.{spanOf}
 use Rattle.items.specs.declared.Item.{Item}
 use Rattle.items.specs.declared.Item.the-variants.{Start, Empty, End, Text, Comment, Unreadable}
-use Rattle.items.proofs.Promises.{refused-two}
+use Rattle.items.specs.Item.{isReadable}
 use Rattle.prolog.specs.Prolog.{begin}
 use Rattle.prolog.specs.declared.Begin.{Begin}
 use Rattle.prolog.specs.declared.Begin.the-variants.{From, Misdeclared}
@@ -108,8 +108,8 @@ tags-told (x ∷ xs) p =
     (λ h.
     ⊎-elim
     (λ e. ⊎-elim (λ g. inl (inr (e, g))) (λ g. inr (⊎-elim h (λ z. g (z .1)))) (tags-told xs p))
-    (λ e. inr (⊎-elim h (λ z. omega (arith, e, z .0))))
-    (refused-two (x .item)))
+    (λ e. inr (⊎-elim h (λ z. never (sym e ∙ z .0))))
+    (bool-cases (isReadable (x .item))))
     (here-told x p)
 
 after-told : (doc : List ℕ) (b : Begin) (p : ℕ) → Told (InTagsAfter InQty doc b p)

@@ -18,7 +18,7 @@ use Rattle.characters.specs.Says.{says}
 use Rattle.characters.proofs.Saying.{says-none}
 use Rattle.slices.specs.declared.Span.{Span}
 use Rattle.elements.specs.Names.{names, numberIn, elementNo}
-use Rattle.items.specs.Item.{itemRefusal}
+use Rattle.items.specs.Item.{isReadable}
 use Rattle.items.specs.Parts.{spanOf}
 use Rattle.items.specs.declared.Item.{Item}
 use Rattle.items.specs.declared.Item.the-variants.{Start, Empty, End, Text, Comment, Unreadable}
@@ -53,17 +53,17 @@ use Rattle.blindness.proofs.Told.{sheets-same}
 -- ---- the values of the tags of one name, as a list and one by one
 
 module _ (name : List ℕ) where
-  behind : (x : Placed) (xs : List Placed) (v : Span) → OneSpan v (cond (eqb (itemRefusal (x .item)) 0) (valuesNamed name xs) [])
-      → (itemRefusal (x .item) ≡ 0) × OneSpan v (valuesNamed name xs)
-  behind x xs v h = ⊎-elim (λ y. (y .0, rw (y .1) at h)) (λ y. absurd (rw (y .1) at h)) (eqb-cases (itemRefusal (x .item)) 0)
+  behind : (x : Placed) (xs : List Placed) (v : Span) → OneSpan v (cond (isReadable (x .item)) (valuesNamed name xs) [])
+      → (isReadable (x .item) ≡ true) × OneSpan v (valuesNamed name xs)
+  behind x xs v h = ⊎-elim (λ y. (y, rw y at h)) (λ y. absurd (rw y at h)) (bool-cases (isReadable (x .item)))
 
   one-of : (x : Placed) (xs : List Placed) (v : Span) → OneSpan v (valuesNamed name (x ∷ xs))
-      → ((tagNamed name (x .item) (x .rest) ≡ true) × (v ≡ valueAt x)) ⊎ ((itemRefusal (x .item) ≡ 0) × OneSpan v (valuesNamed name xs))
+      → ((tagNamed name (x .item) (x .rest) ≡ true) × (v ≡ valueAt x)) ⊎ ((isReadable (x .item) ≡ true) × OneSpan v (valuesNamed name xs))
   unfolding valuesNamed
   one-of x xs v h =
       ⊎-elim
       (λ (n : tagNamed name (x .item) (x .rest) ≡ true).
-      let z : (v ≡ valueAt x) ⊎ OneSpan v (cond (eqb (itemRefusal (x .item)) 0) (valuesNamed name xs) []) = rw n at h in
+      let z : (v ≡ valueAt x) ⊎ OneSpan v (cond (isReadable (x .item)) (valuesNamed name xs) []) = rw n at h in
       ⊎-elim (λ e. inl (n, e)) (λ m. inr (behind x xs v m)) z)
       (λ (n : tagNamed name (x .item) (x .rest) ≡ false). inr (behind x xs v (rw n at h)))
       (bool-cases (tagNamed name (x .item) (x .rest)))
@@ -72,10 +72,10 @@ module _ (name : List ℕ) where
   unfolding valuesNamed
   first-one x xs n = rw n (inl refl)
 
-  later-one : (x : Placed) (xs : List Placed) (v : Span) → itemRefusal (x .item) ≡ 0 → OneSpan v (valuesNamed name xs) → OneSpan v (valuesNamed name (x ∷ xs))
+  later-one : (x : Placed) (xs : List Placed) (v : Span) → isReadable (x .item) ≡ true → OneSpan v (valuesNamed name xs) → OneSpan v (valuesNamed name (x ∷ xs))
   unfolding valuesNamed
   later-one x xs v e m =
-      let z : OneSpan v (cond (eqb (itemRefusal (x .item)) 0) (valuesNamed name xs) []) = rw (eq-eqb (itemRefusal (x .item)) 0 e) m in
+      let z : OneSpan v (cond (isReadable (x .item)) (valuesNamed name xs) []) = rw e m in
       ⊎-elim (λ n. rw n (inr z)) (λ n. rw n z) (bool-cases (tagNamed name (x .item) (x .rest)))
 
   -- a place of such a value

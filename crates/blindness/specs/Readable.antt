@@ -10,7 +10,7 @@ use Rattle.slices.specs.Bytes.{byte}
 use Rattle.slices.specs.Same.{same}
 use Rattle.slices.specs.Text.{text}
 use Rattle.slices.specs.Part.{partOf}
-use Rattle.items.specs.Item.{itemRefusal}
+use Rattle.items.specs.Item.{isReadable}
 use Rattle.items.specs.Parts.{spanOf}
 use Rattle.items.specs.declared.Item.{Item}
 use Rattle.items.specs.declared.Item.the-variants.{Start, Empty, End, Text, Comment, Unreadable}
@@ -38,7 +38,7 @@ InTag name x s i = (tagNamed name x s ≡ true) × InV x i
 -- of these items, where P tells which places of an item are meant: in the first, or in a later one if the first is readable
 unfoldable pub InTags : (Item → List ℕ → ℕ → Type 0) → List Placed → ℕ → Type 0
 InTags P [] p = ⊥
-InTags P (x ∷ xs) p = ((i : ℕ) × (p ≡ x .at + i) × P (x .item) (x .rest) i) ⊎ ((itemRefusal (x .item) ≡ 0) × InTags P xs p)
+InTags P (x ∷ xs) p = ((i : ℕ) × (p ≡ x .at + i) × P (x .item) (x .rest) i) ⊎ ((isReadable (x .item) ≡ true) × InTags P xs p)
 
 -- of the items of a document, of which there are none where the XML declaration is unreadable
 unfoldable pub InTagsAfter : (Item → List ℕ → ℕ → Type 0) → List ℕ → Begin → ℕ → Type 0

@@ -6,12 +6,11 @@ use mathlib.Core.Path.{_≡_}
 use mathlib.Core.List.{List, [], _∷_}
 use mathlib.Core.Bool.{cond}
 use mathlib.Core.Logic.{_⊎_}
-use lib.Dec.{eqb}
 use lib.ListN.{length}
 use Rattle.slices.specs.Bytes.{byte}
 use Rattle.slices.specs.Text.{text}
 use Rattle.slices.specs.declared.Span.{Span}
-use Rattle.items.specs.Item.{itemRefusal}
+use Rattle.items.specs.Item.{isReadable}
 use Rattle.prolog.specs.Prolog.{begin}
 use Rattle.prolog.specs.declared.Begin.{Begin}
 use Rattle.prolog.specs.declared.Begin.the-variants.{From, Misdeclared}
@@ -27,7 +26,7 @@ use Rattle.blindness.specs.Sources.{valueAt}
 unfoldable pub valuesNamed : List ℕ → List Placed → List Span
 valuesNamed name [] = []
 valuesNamed name (x ∷ xs) =
-    let rest = cond (eqb (itemRefusal (x .item)) 0) (valuesNamed name xs) [] in
+    let rest = cond (isReadable (x .item)) (valuesNamed name xs) [] in
     cond (tagNamed name (x .item) (x .rest)) (valueAt x ∷ rest) rest
 
 unfoldable pub valuesNamedAfter : List ℕ → List ℕ → Begin → List Span

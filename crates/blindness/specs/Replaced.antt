@@ -6,7 +6,7 @@ use mathlib.Core.Bool.{true}
 use mathlib.Core.Logic.{_⊎_}
 use lib.ListN.{length, drop}
 use Rattle.slices.specs.Bytes.{byte}
-use Rattle.items.specs.Item.{itemRefusal}
+use Rattle.items.specs.Item.{isReadable}
 use Rattle.prolog.specs.Prolog.{begin}
 use Rattle.prolog.specs.declared.Begin.{Begin}
 use Rattle.prolog.specs.declared.Begin.the-variants.{From, Misdeclared}
@@ -19,7 +19,7 @@ module _ (name : List ℕ) (R : List ℕ → List ℕ → Type 0) where
   unfoldable pub Joins : List ℕ → List Placed → Type 0
   Joins y [] = Unit {0}
   Joins y (p ∷ xs) =
-      (tagNamed name (p .item) (p .rest) ≡ true → JoinsV R (p .item) (p .rest) (drop (p .at) y)) × (itemRefusal (p .item) ≡ 0 → Joins y xs)
+      (tagNamed name (p .item) (p .rest) ≡ true → JoinsV R (p .item) (p .rest) (drop (p .at) y)) × (isReadable (p .item) ≡ true → Joins y xs)
 
   unfoldable pub JoinsAfter : List ℕ → List ℕ → Begin → Type 0
   JoinsAfter x y (From n) = Joins y (itemsFrom x n)

@@ -31,3 +31,4 @@ pub mod Unused
 pub mod Totals
 pub mod Theorems
 pub mod Examples
+pub mod Paired

@@ -79,6 +79,19 @@ pub record Shows (doc : List ℕ) (t : Tables) (rows : List ℕ) (c : Trees TagS
   pub positions : (j : ℕ) → getD (t .positions) j 0 ≡ getD (map positionOf (those (hasRole posRole) rows c)) j 0
   pub amounts : (j : ℕ) → getD (t .amounts) j (pos 0) ≡ getD (map amountIn (those (hasRole qtyRole) rows c)) j (pos 0)
 
+-- the Intervals of a content, in document order: what stands in each
+unfoldable pub eachInterval : List ℕ → Trees TagSaid → List (Trees TagSaid)
+eachInterval rows c = inEach (hasRole intervalRole) rows c
+
+-- "Intervals take one position and one amount at the same index": row j has the Pos and the Qty of Interval i, of which it has one each
+pub record IntervalShown (t : Tables) (rows : List ℕ) (j : ℕ) (i : Trees TagSaid) : Type 0 where
+  pub its-pos : TagSaid
+  pub its-qty : TagSaid
+  pub one-pos : those (hasRole posRole) rows i ≡ its-pos ∷ []
+  pub one-qty : those (hasRole qtyRole) rows i ≡ its-qty ∷ []
+  pub position : getD (t .positions) j 0 ≡ positionOf its-pos
+  pub amount : getD (t .amounts) j (pos 0) ≡ amountIn its-qty
+
 -- what is answered, and left in the tables, where a document that spells the content is accepted
 pub record Tells (doc : List ℕ) (o : Outcome) (kind : ℕ) (c : Trees TagSaid) : Type 0 where
   pub accepted : o .answer .refusal ≡ 0

@@ -8,7 +8,7 @@ use native.Mathlib.Omega.{arith}
 use lib.Dec.{eqb, ltb}
 use lib.ListN.{length, take, drop}
 use lib.Seq.{drop-drop}
-use Rattle.lists.proofs.Cases.{bool-cases, eqb-cases, ltb-cases, by-cond}
+use Rattle.lists.proofs.Cases.{bool-cases, eqb-cases, ltb-cases, by-cond, never}
 use Rattle.slices.specs.Bytes.{byte}
 use Rattle.slices.specs.Run.{run}
 use Rattle.slices.specs.Same.{same, firstAt}
@@ -24,7 +24,7 @@ use Rattle.slices.specs.declared.Span.{Span}
 use Rattle.tags.specs.declared.Known.{Known}
 use Rattle.items.specs.Comment.{commentTo, comment}
 use Rattle.items.specs.Text.{textTo, textItem}
-use Rattle.items.specs.Item.{tagOf, tagItem, startTag, endTag, endName, endClose, commentItem, commentTag, item, itemRefusal, itemEnd}
+use Rattle.items.specs.Item.{tagOf, tagItem, startTag, endTag, endName, endClose, commentItem, commentTag, item, isReadable, itemEnd}
 use Rattle.items.specs.declared.Item.{Item}
 use Rattle.items.specs.declared.Item.the-variants.{End, Text, Comment, Unreadable}
 use Rattle.digits.specs.Unseen.{Unseen, Or}
@@ -95,10 +95,10 @@ white-first (b ∷ s) =
 
 module _ {R : List ℕ → List ℕ → Type 0} (u : Unseen R) (before : ℕ) (s s′ : List ℕ) (long : length s ≡ length s′) where
   abbrev Held : Item → Type 0
-  Held x = (itemRefusal x ≡ 0) × SameButV (Or R) x s s′
+  Held x = (isReadable x ≡ true) × SameButV (Or R) x s s′
 
   torn-held : {A : Type 0} → Held (Unreadable before) → A
-  torn-held h = absurd (omega (arith, h .0))
+  torn-held h = never (h .0)
 
   -- an item without `v`
   plain-front : (x : Item) → ((i : ℕ) → InV x i → ⊥) → Held x → Front s s′ (itemEnd x + 1)
@@ -268,6 +268,6 @@ module _ {R : List ℕ → List ℕ → Type 0} (u : Unseen R) (before : ℕ) (s
       text-same h)
 
 -- the item at the front is readable; another value stands in its `v`, and anything behind the byte behind it
-pub item-same : {R : List ℕ → List ℕ → Type 0} → Unseen R → (before : ℕ) (s s′ : List ℕ) → itemRefusal (item before s) ≡ 0 → SameButV (Or R) (item before s) s s′
+pub item-same : {R : List ℕ → List ℕ → Type 0} → Unseen R → (before : ℕ) (s s′ : List ℕ) → isReadable (item before s) ≡ true → SameButV (Or R) (item before s) s s′
     → item before s′ ≡ item before s
 item-same u before s s′ e h = held-same u before s s′ (h .long) (e, h)

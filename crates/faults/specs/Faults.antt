@@ -7,6 +7,7 @@ use mathlib.Core.Bool.{Bool, true, false, cond, _&&_, not}
 use mathlib.Core.Logic.{_⊎_}
 use lib.Dec.{eqb}
 use lib.ListN.{getD, length}
+use Rattle.refusals.specs.Refusals.{unreadableItem, notDue, tableFull, wrongAttribute, againstForm, outsideList, againstValue, usedAgain}
 use Rattle.slices.specs.Part.{partOf}
 use Rattle.slices.specs.declared.Span.{Span}
 use Rattle.elements.specs.Names.{elementNo}
@@ -62,47 +63,47 @@ unfoldable pub valueCode : State → ℕ → ℕ → Tag → List ℕ → ℕ
 valueCode x kind w t s = cond (hasValue w t) (judge (formOf w) (heldOf x kind) (saidIn w (t .v) s) .first) 0
 
 unfoldable pub schemeOutside : ℕ → Tag → List ℕ → Bool
-schemeOutside w t s = hasValue w t && (there (t .coding) && eqb (schemeRefusal w (t .coding) s) 7)
+schemeOutside w t s = hasValue w t && (there (t .coding) && eqb (schemeRefusal w (t .coding) s) outsideList)
 
 unfoldable pub startClauses : List ℕ → List ℕ → Room → State → ℕ → List ℕ → ℕ → ℕ → Span → Tag → List ℕ → Bool → List Clause
 startClauses doc table room x kind rows r w span t s empty =
     -- "3: element .. too many, .. over too early"
-    when 3 (cutShort empty rows r) ∷
-    when 3 (tooMany x (roleOf w) kind) ∷
+    when notDue (cutShort empty rows r) ∷
+    when notDue (tooMany x (roleOf w) kind) ∷
     -- "4: a due series or Interval start finds its table full"
-    when 4 (noRoom x (roleOf w) room) ∷
+    when tableFull (noRoom x (roleOf w) room) ∷
     -- "5: attribute missing or unknown"
-    when 5 (not (attributesFit kind w t)) ∷
+    when wrongAttribute (not (attributesFit kind w t)) ∷
     -- "6: value against its form or fixed value"
-    when 6 (eqb (roleOf w) rootRole && not (dtdFixed kind (t .dtd) s)) ∷
-    when 6 (eqb (valueNumber x kind w t s) 6) ∷
+    when againstForm (eqb (roleOf w) rootRole && not (dtdFixed kind (t .dtd) s)) ∷
+    when againstForm (eqb (valueNumber x kind w t s) againstForm) ∷
     -- "7: value outside its code list"
-    when 7 (eqb (valueNumber x kind w t s) 7) ∷
-    when 7 (schemeOutside w t s) ∷
+    when outsideList (eqb (valueNumber x kind w t s) outsideList) ∷
+    when outsideList (schemeOutside w t s) ∷
     -- "8: value or count against another value"
-    when 8 (eqb (valueNumber x kind w t s) 8) ∷
-    when 8 (halfOriginals x (roleOf w)) ∷
-    when 8 (againstOthers x kind (roleOf w) (valueCode x kind w t s)) ∷
+    when againstValue (eqb (valueNumber x kind w t s) againstValue) ∷
+    when againstValue (halfOriginals x (roleOf w)) ∷
+    when againstValue (againstOthers x kind (roleOf w) (valueCode x kind w t s)) ∷
     -- "9: TimeSeriesIdentification used before in this document"
-    when 9 (usedBefore doc table span s (x .series) (entryOf (roleOf w) 0)) ∷ []
+    when usedAgain (usedBefore doc table span s (x .series) (entryOf (roleOf w) 0)) ∷ []
 
 -- ---- any item
 
 -- "3: element not due"
 unfoldable pub startFaults : List ℕ → List ℕ → Room → State → ℕ → List ℕ → Span → Tag → List ℕ → Bool → Due → List Clause
 startFaults doc table room x kind rows span t s empty (Row r) = startClauses doc table room x kind rows r (getD rows r 0) span t s empty
-startFaults doc table room x kind rows span t s empty NotDue = when 3 true ∷ []
+startFaults doc table room x kind rows span t s empty NotDue = when notDue true ∷ []
 
 -- "3: .. wrong end tag"; "too few", and "8: .. count against another value", at the end of Period; and what a constraint lacks, at the root's
 unfoldable pub endClauses : State → ℕ → List Clause
 endClauses x w =
-    when 3 (eqb (roleOf w) periodRole && not (hasEnough (x .kind) (x .intervals - x .first))) ∷
-    when 8 (eqb (roleOf w) periodRole && (kindAt (x .kind) .full && not (eqb (x .intervals - x .first) (x .quarters)))) ∷
-    when 8 (eqb (roleOf w) rootRole && (kindAt (x .kind) .constrained && lacking (x .seen) (x .series))) ∷ []
+    when notDue (eqb (roleOf w) periodRole && not (hasEnough (x .kind) (x .intervals - x .first))) ∷
+    when againstValue (eqb (roleOf w) periodRole && (kindAt (x .kind) .full && not (eqb (x .intervals - x .first) (x .quarters)))) ∷
+    when againstValue (eqb (roleOf w) rootRole && (kindAt (x .kind) .constrained && lacking (x .seen) (x .series))) ∷ []
 
 unfoldable pub endFaults : State → List ℕ → Due → List Clause
 endFaults x rows (Row r) = endClauses x (getD rows r 0)
-endFaults x rows NotDue = when 3 true ∷ []
+endFaults x rows NotDue = when notDue true ∷ []
 
 unfoldable pub faultsBy : List ℕ → List ℕ → Room → State → ℕ → List ℕ → Item → List ℕ → List Clause
 faultsBy doc table room x kind rows (Start t) s =
@@ -111,10 +112,10 @@ faultsBy doc table room x kind rows (Empty t) s =
     startFaults doc table room x kind rows (t .v) t s true (startOf rows (x .row) (x .inside) (elementNo (partOf s 1 (t .name))))
 faultsBy doc table room x kind rows (End n e) s = endFaults x rows (endOf rows (x .row) (x .inside) (elementNo (partOf s 2 n)))
 -- "3: .. other text"
-faultsBy doc table room x kind rows (Text white e) s = when 3 (not white) ∷ []
+faultsBy doc table room x kind rows (Text white e) s = when notDue (not white) ∷ []
 faultsBy doc table room x kind rows (Comment e) s = []
 -- "2: the item is unreadable"
-faultsBy doc table room x kind rows (Unreadable p) s = when 2 true ∷ []
+faultsBy doc table room x kind rows (Unreadable p) s = when unreadableItem true ∷ []
 
 -- the faults of an item, after items that leave the state x and this series table
 unfoldable pub faultsOf : List ℕ → List ℕ → Room → Placed → State → List Clause
@@ -140,7 +141,7 @@ after (Refused m) P = ⊥
 -- has several, the smallest number": n, at the place p
 unfoldable pub FirstFault : List ℕ → Room → List Placed → State → Tables → ℕ → ℕ → Type 0
 -- "Missing elements show .. at the end of the document."
-FirstFault doc room [] x t n p = (overOf (rowsOf (x .kind)) (x .row) (x .inside) ≡ false) × ((n ≡ 3) × (p ≡ length doc))
+FirstFault doc room [] x t n p = (overOf (rowsOf (x .kind)) (x .row) (x .inside) ≡ false) × ((n ≡ notDue) × (p ≡ length doc))
 FirstFault doc room (i ∷ xs) x t n p =
     (Smallest (faultsOf doc (t .series) room i x) n × (p ≡ i .at))
     ⊎ (Faultless (faultsOf doc (t .series) room i x)
@@ -156,7 +157,7 @@ NoFault doc room (i ∷ xs) x t =
 -- of a whole document, read into blank tables t: what stands before the first item is the XML declaration, "2" where it is unreadable
 unfoldable pub FirstFaultAfter : List ℕ → Tables → Begin → ℕ → ℕ → Type 0
 FirstFaultAfter doc t (From k) n p = FirstFault doc (roomIn t) (itemsFrom doc k) begun t n p
-FirstFaultAfter doc t (Misdeclared q) n p = (n ≡ 2) × (p ≡ q)
+FirstFaultAfter doc t (Misdeclared q) n p = (n ≡ unreadableItem) × (p ≡ q)
 
 unfoldable pub NoFaultAfter : List ℕ → Tables → Begin → Type 0
 NoFaultAfter doc t (From k) = NoFault doc (roomIn t) (itemsFrom doc k) begun t

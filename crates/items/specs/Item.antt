@@ -2,9 +2,10 @@
 -- The item at the front of s, the part of the document after its first `before` bytes.
 use Prim.Native.Nat.{ℕ, _+_}
 use mathlib.Core.List.{List}
-use mathlib.Core.Bool.{cond}
+use mathlib.Core.Bool.{Bool, true, false, cond}
 use lib.ListN.{drop}
 use lib.Dec.{eqb}
+use Rattle.refusals.specs.Refusals.{noRefusal, unreadableItem, notDue}
 use Rattle.slices.specs.Bytes.{byte}
 use Rattle.slices.specs.Run.{run}
 use Rattle.attributes.specs.Names.{nameStart, nameByte, white}
@@ -61,14 +62,24 @@ item before s =
     (startTag before s)))
     (textItem before s)
 
--- The paper's number for each answer, "2: the item is unreadable"; other text is readable, and 3 by the structure.
+-- whether it is one of the five kinds; the one that is none is "an unreadable item"
+abbrev pub isReadable : Item → Bool
+isReadable (Start t) = true
+isReadable (Empty t) = true
+isReadable (End n e) = true
+isReadable (Text w e) = true
+isReadable (Comment e) = true
+isReadable (Unreadable p) = false
+
+-- 01's number for each answer, by the item alone: "Only space, tab, CR and LF are allowed in it (text with other XML characters is refusal 3 ..)"; "2: the item
+-- is unreadable". What else an item is refused with hangs on the items before it
 abbrev pub itemRefusal : Item → ℕ
-itemRefusal (Start t) = 0
-itemRefusal (Empty t) = 0
-itemRefusal (End n e) = 0
-itemRefusal (Text w e) = 0
-itemRefusal (Comment e) = 0
-itemRefusal (Unreadable p) = 2
+itemRefusal (Start t) = noRefusal
+itemRefusal (Empty t) = noRefusal
+itemRefusal (End n e) = noRefusal
+itemRefusal (Text w e) = cond w noRefusal notDue
+itemRefusal (Comment e) = noRefusal
+itemRefusal (Unreadable p) = unreadableItem
 
 -- how many bytes a reader passes
 abbrev pub itemEnd : Item → ℕ

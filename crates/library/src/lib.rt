@@ -7,6 +7,9 @@ use notes::convert_note;
 use notes::read_note;
 use reader::Answer;
 use reader::read;
+use refusals::BUFFER_SHORT;
+use refusals::NO_REFUSAL;
+use refusals::NOT_ONE_NOTE;
 use tables::clear_numbers;
 use tables::set_number;
 ghost use mathlib.Core.Path.{_≡_};
@@ -103,12 +106,12 @@ pub extern "C" fn lumintayag_read_note_v2(note: &[u8], six: &mut [u32]) -> u32
         NoteRead::Taken(n) => {
             let ns = [n.refusal, n.place, n.kind, n.series, n.intervals, n.depth];
             put_numbers(six, &ns);
-            0
+            NO_REFUSAL
         }
         NoteRead::NotOneNote => {
             let none = [0u32; 6];
             put_numbers(six, &none);
-            11
+            NOT_ONE_NOTE
         }
     }
 }
@@ -129,9 +132,9 @@ fn put_converted(t: &mut [u32], c: Converted) -> u32
     ensures pair { λ _. ⌜ now (t .exit) ≡ cells (length (now (t .entry))) (twoOf c) ⌝ }
 {
     match c {
-        Converted::Turned(k) => put_pair(t, 0, k as u32),
-        Converted::OutShort => put_pair(t, 10, 0),
-        Converted::NeitherShape => put_pair(t, 11, 0),
+        Converted::Turned(k) => put_pair(t, NO_REFUSAL, k as u32),
+        Converted::OutShort => put_pair(t, BUFFER_SHORT, 0),
+        Converted::NeitherShape => put_pair(t, NOT_ONE_NOTE, 0),
     }
 }
 

@@ -4,6 +4,7 @@ use mathlib.Core.List.{List, []}
 use mathlib.Core.Bool.{cond}
 use lib.Dec.{ltb}
 use lib.ListN.{length}
+use Rattle.refusals.specs.Refusals.{noRefusal, bufferShort, notOneNote}
 use Rattle.lists.specs.Zeros.{zeros}
 use Rattle.notes.specs.Note.{noteOf, left}
 use Rattle.notes.specs.Reader.{noteIn}
@@ -35,9 +36,9 @@ convertedOut s shape room = cond (ltb room 24) (zeros room) (left (inShape shape
 
 -- The paper's number and values for each answer of the converter: the refusal, and the note's length, 0 on a refusal
 abbrev pub convertRefusal : Converted → ℕ
-convertRefusal (Turned k) = 0
-convertRefusal OutShort = 10
-convertRefusal NeitherShape = 11
+convertRefusal (Turned k) = noRefusal
+convertRefusal OutShort = bufferShort
+convertRefusal NeitherShape = notOneNote
 
 abbrev pub convertLength : Converted → ℕ
 convertLength (Turned k) = k

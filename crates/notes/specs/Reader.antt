@@ -5,6 +5,7 @@ use mathlib.Core.Bool.{Bool, true, false, cond}
 use mathlib.Core.Option.{Option, some, none}
 use lib.ListN.{getD, drop}
 use lib.Dec.{ltb, eqb}
+use Rattle.refusals.specs.Refusals.{noRefusal, notOneNote}
 use Rattle.lists.specs.Zeros.{zeros}
 use Rattle.notes.specs.Note.{newMark}
 use Rattle.notes.specs.declared.Got.{Got}
@@ -69,8 +70,8 @@ noteIn s = noteAnswer (numbersIn 5 s) (numbersIn 7 s)
 
 -- The paper's number and values for each answer of the note reader: "11: the bytes aren't one note", "on 11 its five numbers are 0", and so is the depth
 abbrev pub readRefusal : NoteRead → ℕ
-readRefusal (Taken n) = 0
-readRefusal NotOneNote = 11
+readRefusal (Taken n) = noRefusal
+readRefusal NotOneNote = notOneNote
 
 abbrev pub sixOf : NoteRead → List ℕ
 sixOf (Taken n) = n .refusal ∷ n .place ∷ n .kind ∷ n .series ∷ n .intervals ∷ n .depth ∷ []

@@ -4,7 +4,7 @@
 -- item stands right after the mark, or at 0.
 -- Assumes nothing.
 use Prim.Native.Nat.{ℕ, _+_}
-use mathlib.Core.Path.{_≡_, refl}
+use mathlib.Core.Path.{_≡_, refl, ap}
 use mathlib.Core.List.{List, [], _∷_}
 use mathlib.Core.Bool.{true, false}
 use mathlib.Core.Logic.{_⊎_, inl, inr, ⊎-elim}
@@ -23,11 +23,6 @@ use Rattle.attributes.specs.declared.Piece.the-variants.{Attribute, Close, Clos
 use Rattle.prolog.specs.Prolog.{utf, declaredBy, declared, encodedBy, encoded, declarationBy, declaration, markLen, behindMark, beginAfter, begin, beginRefusal}
 use Rattle.prolog.specs.declared.Begin.{Begin}
 use Rattle.prolog.specs.declared.Begin.the-variants.{From, Misdeclared}
-
--- "2: the item is unreadable", and no other number
-pub begin-refused : (x : Begin) → (beginRefusal x ≡ 0) ⊎ (beginRefusal x ≡ 2)
-begin-refused (From n) = inl refl
-begin-refused (Misdeclared p) = inr refl
 
 -- "The place of an item is the index of its first byte"
 unfoldable pub Placed : ℕ → Begin → Type 0
@@ -96,3 +91,16 @@ module _ (doc : List ℕ) (p : ℕ) (e : begin doc ≡ Misdeclared p) where
       rw refused-at (⊎-elim (λ y. y)
       (λ n. let w : From (markLen doc) ≡ Misdeclared p = rw (undeclared doc n) at e in absurd (zero-not-one (cc)))
       (bool-cases (begins (text "<?xml") (drop (markLen doc) doc))))
+
+-- "An XML declaration may stand before the first item .. with anything else in it, it is an unreadable item.": nothing is refused, or it is refused with 2, at the
+-- declaration that stands right after the mark
+pub first-or-refused : (doc : List ℕ)
+    → (beginRefusal (begin doc) ≡ 0)
+    ⊎ ((begin doc ≡ Misdeclared (markLen doc)) × (beginRefusal (begin doc) ≡ 2) × (begins (text "<?xml") (drop (markLen doc) doc) ≡ true))
+first-or-refused doc = go (begin doc) refl
+  where
+    go : (x : Begin) → begin doc ≡ x
+        → (beginRefusal x ≡ 0) ⊎ ((x ≡ Misdeclared (markLen doc)) × (beginRefusal x ≡ 2) × (begins (text "<?xml") (drop (markLen doc) doc) ≡ true))
+    go (From n) e = inl refl
+    go (Misdeclared p) e =
+        let q = refused-at doc p e in inr (ap (λ (n : ℕ). Misdeclared n) q, refl, rw q at (refused-declaration doc p e))

@@ -6,6 +6,7 @@ use mathlib.Core.List.{List, [], _∷_}
 use mathlib.Core.Bool.{Bool, false, cond}
 use lib.ListN.{length, drop}
 use lib.Dec.{leb, eqb}
+use Rattle.refusals.specs.Refusals.{noRefusal, unreadableItem}
 use Rattle.slices.specs.Bytes.{byte}
 use Rattle.slices.specs.Run.{run}
 use Rattle.slices.specs.Same.{same, begins}
@@ -82,10 +83,10 @@ beginAfter doc m = cond (begins (text "<?xml") (drop m doc)) (behindMark m (decl
 unfoldable pub begin : List ℕ → Begin
 begin doc = beginAfter doc (markLen doc)
 
--- the paper's number for each answer: 0 for none, or 2, "the item is unreadable"; the refusal's place is in the answer itself
+-- 01's number for each answer: "with anything else in it, it is an unreadable item"; the refusal's place is in the answer itself
 abbrev pub beginRefusal : Begin → ℕ
-beginRefusal (From n) = 0
-beginRefusal (Misdeclared p) = 2
+beginRefusal (From n) = noRefusal
+beginRefusal (Misdeclared p) = unreadableItem
 
 -- how far the part before the first item reaches
 abbrev pub beginUse : Begin → ℕ

@@ -1,7 +1,7 @@
 -- The table of examples and the accepted documents, by computation: every definition on the way is unfolded. Assumes nothing.
 use Prim.Native.Nat.{ℕ, _≤_}
 use mathlib.Core.List.{List, [], _∷_}
-use mathlib.Core.Path.{_≡_, refl, ap, subst}
+use mathlib.Core.Path.{_≡_, refl, sym, ap, subst, _∙_}
 use mathlib.Core.Logic.{inl, inr}
 use native.Mathlib.Omega.{arith}
 use lib.ListN.{length}
@@ -21,14 +21,14 @@ use Rattle.items.specs.Parts.{spanOf}
 use Rattle.items.specs.Item.{endClose, endName, endTag, tagOf, tagItem, startTag, item}
 use Rattle.prolog.specs.Prolog.{markLen, beginAfter, begin}
 use Rattle.characters.specs.References.{digit}
-use Rattle.pictures.specs.Picture.{capital, capitalOrDigit, firstThree, takes, held, fitsOf}
+use Rattle.pictures.specs.Picture.{capital, capitalOrDigit, partyChar, firstThree, takes, held, fitsOf}
 use Rattle.pictures.specs.Number.{shownNumber, numberAt}
 use Rattle.trims.specs.Trim.{space, dropLead, keptBefore as keepEnd, dropTrail, dropped, leadAfter, leadOf, keptFrom, keptAfter, keptBytes, cutTrail, trimmedOf}
 use Rattle.numbers.specs.Digits.{digits, numberFrom, nothingLeft as nothingAfter, onlyDigits}
 use Rattle.numbers.specs.Amount.{minus, unsigned, fractionForm, unsignedForm, writtenAmount, filled, thousandths, signed, amountOf}
 use Rattle.numbers.specs.Number.{numberForm, atMostNine, numberWithin, numberOf as countOf}
 use Rattle.codes.specs.Lists.{lists, codesOf, listed}
-use Rattle.forms.specs.Forms.{identification, gridElement, marketPartner, resourceObject, quarterHour}
+use Rattle.forms.specs.Forms.{identification, gridElement, marketPartner, resourceObject, party, quarterHour}
 use Rattle.times.specs.Calendar.{leap, monthDays, realDate, daysBefore, leapDay, dayNumber, dayOf}
 use Rattle.times.specs.Times.{minuteOn, minuteAt, isMinute, dateTime, between, interval}
 use Rattle.times.specs.Sundays.{changes, marchSunday, octoberSunday}
@@ -53,7 +53,8 @@ use Rattle.reader.specs.Reading.{acceptedAt, blank, roomOf, refusedAt, endedAt,
 use Rattle.reader.specs.Answer.{Outcome, noteFor, answerOf, told, noted, readOf}
 use mathlib.Core.Bool.{true}
 use Rattle.promises.specs.Examples.{examples, allPass}
-use Rattle.promises.specs.Sheet.{sheet, sheetOutcome, twiceSheet, twiceAnswer, constraintSheet, constraintOutcome, withdrawnSheet, withdrawnOutcome}
+use Rattle.promises.specs.Day.{twoDigits, intervalTexts, shortDay, countedFrom, dayOutcome}
+use Rattle.promises.specs.Sheet.{sheet, sheetOutcome, dearerSheet, dearerOutcome, twiceSheet, twiceAnswer, constraintSheet, constraintOutcome, withdrawnSheet, withdrawnOutcome}
 use Rattle.slices.specs.declared.Span.{Span}
 use Rattle.blindness.specs.Readable.{tagNamed}
 use Rattle.blindness.specs.Sources.{valueAt}
@@ -65,7 +66,9 @@ use Rattle.trees.specs.Trees.{Trees}
 use Rattle.contents.specs.Said.{TagSaid}
 use Rattle.contents.specs.Spelled.{Spells}
 use Rattle.contents.specs.Legal.{Legal, HasRoom}
-use Rattle.contents.proofs.Theorems.{accepted-legal}
+use Rattle.contents.proofs.Theorems.{accepted-legal, legal-accepted}
+use Rattle.digits.specs.Outside.{opened, openAt}
+use Rattle.promises.proofs.Digits.{inQty, qtyAt, qtyAfter}
 use Rattle.promises.proofs.Answers.{accepted-whole}
 
 -- where the two identifications of the sheet stand
@@ -74,6 +77,10 @@ firstId = record { start = 460; len = 2 }
 
 abbrev pub secondId : Span
 secondId = record { start = 955; len = 2 }
+
+-- where the first digit of its first amount stands
+abbrev pub qtyPlace : ℕ
+qtyPlace = 867
 
 -- a root's empty tag: "over too early", "attribute .. unknown", "value against its .. fixed value"
 abbrev threeFaults : List ℕ
@@ -86,6 +93,8 @@ computed : (allPass examples ≡ true) × (readOf sheet 25 4 4 Old 16 ≡ sheetO
     × (readOf twiceSheet 25 4 4 Old 16 .answer ≡ twiceAnswer) × (identificationsIn sheet ≡ firstId ∷ secondId ∷ [])
     × (readOf constraintSheet 25 4 4 Old 16 ≡ constraintOutcome) × (readOf withdrawnSheet 0 0 0 Old 16 ≡ withdrawnOutcome)
     × (HasFault threefold 3 × HasFault threefold 5 × HasFault threefold 6) × (length twiceSheet ≡ 1387)
+    × (readOf dearerSheet 25 4 4 Old 16 ≡ dearerOutcome) × (qtyAfter sheet (begin sheet) qtyPlace ≡ true)
+    × (readOf shortDay 12 92 92 Old 16 ≡ dayOutcome) × (readOf [] 25 4 4 Old 16 .answer .refusal ≡ 3)
 unfolding byte run same begins walk seqLen control single charAt met charOf saidBy saidAt saysAfter says nameStart nameByte white quote fit standingNext valueNext valueOver
     value openingFrom opening attributeEnd attributeQuote attributeName attribute pieceAfter piece partOf absent passedOver dtdName noDtd withDtd noneKnown anotherKnown
     notedKnown onto endsAfter ends keptOf named twice endClose endName endTag tagOf tagItem startTag item markLen beginAfter begin capital
@@ -104,6 +113,7 @@ unfolding byte run same begins walk seqLen control single charAt met charOf said
     amountsWith seriesAfter positionsAfter amountsAfter usedBefore acceptedAt blank roomOf refusedAt
     depthOf heightIn endedAt withoutUsed stepOf tablesAfter readItems roomIn itemsRead readAfter readInto orBlank readSheet noteFor answerOf told noted readOf
     identificationsIn valuesNamedAfter valuesNamed tagNamed valueAt faultsOf faultsBy startFaults startClauses hasValue valueNumber valueCode schemeOutside HasFault
+    twoDigits intervalTexts countedFrom party partyChar qtyAfter qtyAt inQty openAt opened
 computed = (
   refl,
   refl,
@@ -112,6 +122,10 @@ computed = (
   refl,
   refl,
   (inl (refl, refl), inr (inr (inr (inl (refl, refl)))), inr (inr (inr (inr (inl (refl, refl)))))),
+  refl,
+  refl,
+  refl,
+  refl,
   refl,
 )
 
@@ -135,6 +149,20 @@ constraint-read = computed .4
 pub withdrawn-read : readOf withdrawnSheet 0 0 0 Old 16 ≡ withdrawnOutcome
 withdrawn-read = computed .5
 
+pub dearer-read : readOf dearerSheet 25 4 4 Old 16 ≡ dearerOutcome
+dearer-read = computed .8
+
+pub qty-place : qtyAfter sheet (begin sheet) qtyPlace ≡ true
+qty-place = computed .9
+
+-- of kind 1, a day of 92 Intervals
+pub day-read : readOf shortDay 12 92 92 Old 16 ≡ dayOutcome
+day-read = computed .10
+
+-- P1 again, with these tables
+pub nothing-read : readOf [] 25 4 4 Old 16 .answer .refusal ≡ 3
+nothing-read = computed .11
+
 -- an item with several faults
 pub three-at-once : HasFault threefold 3 × HasFault threefold 5 × HasFault threefold 6
 three-at-once = computed .6
@@ -148,16 +176,26 @@ twice-first =
     let h = first-named twiceSheet 25 4 4 Old 16 (omega arith) (omega (arith, l)) (λ z. omega (arith, r, z)) in
     subst (λ (n : ℕ). FirstIn twiceSheet 25 4 4 n 926) r (subst (FirstIn twiceSheet 25 4 4 (readOf twiceSheet 25 4 4 Old 16 .answer .refusal)) p h)
 
--- a document that is accepted, and is told to be no longer than a document may be, spells a legal content
-content-of : (doc : List ℕ) (ns np na : ℕ) → readOf doc ns np na Old 16 .answer .refusal ≡ 0 → readOf doc ns np na Old 16 .answer .place ≤ 1048576
-    → (kind : ℕ) × (c : Trees TagSaid) × Spells doc kind c × Legal kind c × HasRoom (roomOf ns np na) kind c
-content-of doc ns np na ok short = let l = accepted-whole doc ns np na Old 16 ok in accepted-legal doc ns np na Old 16 (omega arith) (omega (arith, short, l)) ok
+-- a document that is accepted, and is told to be no longer than a document may be, spells a legal content of the kind that is told
+content-of : (doc : List ℕ) (ns np na kind : ℕ) → readOf doc ns np na Old 16 .answer .refusal ≡ 0 → readOf doc ns np na Old 16 .answer .place ≤ 1048576
+    → readOf doc ns np na Old 16 .answer .kind ≡ kind → (c : Trees TagSaid) × Spells doc kind c × Legal kind c × HasRoom (roomOf ns np na) kind c
+content-of doc ns np na kind ok short own =
+    let l = accepted-whole doc ns np na Old 16 ok in
+    let few : length doc ≤ 1048576 = omega (arith, short, l) in
+    let h = accepted-legal doc ns np na Old 16 (omega arith) few ok in
+    let e = sym (legal-accepted doc ns np na Old 16 (omega arith) few (h .0) (h .1) (h .2) (h .3) (h .4) .kinds) ∙ own in
+    let r : Spells doc (h .0) (h .1) × Legal (h .0) (h .1) × HasRoom (roomOf ns np na) (h .0) (h .1) = (h .2, h .3, h .4) in
+    let v = rw e at r in
+    (h .1, v .0, v .1, v .2)
 
 abbrev refusalIn : Outcome → ℕ
 refusalIn o = o .answer .refusal
 
 abbrev placeIn : Outcome → ℕ
 placeIn o = o .answer .place
+
+abbrev kindIn : Outcome → ℕ
+kindIn o = o .answer .kind
 
 pub sheet-accepted : readOf sheet 25 4 4 Old 16 .answer .refusal ≡ 0
 sheet-accepted = ap (λ (o : Outcome). o .answer .refusal) sheet-read
@@ -168,15 +206,19 @@ sheet-short =
     let l = accepted-whole sheet 25 4 4 Old 16 sheet-accepted in
     omega (arith, p, l)
 
-pub sheet-content : (kind : ℕ) × (c : Trees TagSaid) × Spells sheet kind c × Legal kind c × HasRoom (roomOf 25 4 4) kind c
-sheet-content = let p = ap placeIn sheet-read in content-of sheet 25 4 4 (ap refusalIn sheet-read) (omega (arith, p))
+pub sheet-content : (c : Trees TagSaid) × Spells sheet 2 c × Legal 2 c × HasRoom (roomOf 25 4 4) 2 c
+sheet-content = let p = ap placeIn sheet-read in content-of sheet 25 4 4 2 (ap refusalIn sheet-read) (omega (arith, p)) (ap kindIn sheet-read)
+
+-- of kind 1
+pub day-content : (c : Trees TagSaid) × Spells shortDay 1 c × Legal 1 c × HasRoom (roomOf 12 92 92) 1 c
+day-content = let p = ap placeIn day-read in content-of shortDay 12 92 92 1 (ap refusalIn day-read) (omega (arith, p)) (ap kindIn day-read)
 
 -- of kind 3 with series and with none
-pub constraint-content : (kind : ℕ) × (c : Trees TagSaid) × Spells constraintSheet kind c × Legal kind c × HasRoom (roomOf 25 4 4) kind c
-constraint-content = let p = ap placeIn constraint-read in content-of constraintSheet 25 4 4 (ap refusalIn constraint-read) (omega (arith, p))
+pub constraint-content : (c : Trees TagSaid) × Spells constraintSheet 3 c × Legal 3 c × HasRoom (roomOf 25 4 4) 3 c
+constraint-content = let p = ap placeIn constraint-read in content-of constraintSheet 25 4 4 3 (ap refusalIn constraint-read) (omega (arith, p)) (ap kindIn constraint-read)
 
-pub withdrawn-content : (kind : ℕ) × (c : Trees TagSaid) × Spells withdrawnSheet kind c × Legal kind c × HasRoom (roomOf 0 0 0) kind c
-withdrawn-content = let p = ap placeIn withdrawn-read in content-of withdrawnSheet 0 0 0 (ap refusalIn withdrawn-read) (omega (arith, p))
+pub withdrawn-content : (c : Trees TagSaid) × Spells withdrawnSheet 3 c × Legal 3 c × HasRoom (roomOf 0 0 0) 3 c
+withdrawn-content = let p = ap placeIn withdrawn-read in content-of withdrawnSheet 0 0 0 3 (ap refusalIn withdrawn-read) (omega (arith, p)) (ap kindIn withdrawn-read)
 
 pub sheet-faultless : NoneIn sheet 25 4 4
 sheet-faultless = accepted-faultless sheet 25 4 4 Old 16 (omega arith) sheet-short sheet-accepted

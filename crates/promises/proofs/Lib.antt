@@ -13,3 +13,6 @@ pub mod Places
 pub mod Answers
 pub mod Faces
 pub mod Renamings
+pub mod Digits
+pub mod Dearer
+pub mod Fakes

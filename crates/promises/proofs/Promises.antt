@@ -28,31 +28,40 @@ use Rattle.blindness.specs.Renamed.{IdsReplaced, Renamed}
 use Rattle.blindness.proofs.Outcomes.{two-runs}
 use Rattle.faults.specs.Faults.{HasFault, FirstIn, NoneIn}
 use Rattle.faults.proofs.First.{first-named, first-refused, faultless-accepted, accepted-faultless}
-use Rattle.trees.specs.Trees.{Trees}
+use Rattle.trees.specs.Trees.{Trees, none}
 use Rattle.contents.specs.Said.{TagSaid}
 use Rattle.contents.specs.Spelled.{Spells, SpellAlike}
 use Rattle.contents.specs.Legal.{Legal, HasRoom}
-use Rattle.contents.specs.Shown.{Tells, SameButPlaces}
+use Rattle.contents.specs.Shown.{eachInterval, IntervalShown, Tells, SameButPlaces}
+use Rattle.contents.proofs.Paired.{interval-shown}
 use Rattle.contents.proofs.Theorems.{accepted-legal, legal-accepted, one-content, nothing-but-places}
 use Rattle.promises.specs.Answers.{noteTold, countIn, longest, atOnce}
 use Rattle.promises.specs.Rows.{ZeroPast, InRoom, Sized}
 use Rattle.guideline.specs.Kinds.{seriesElement}
+use Rattle.guideline.specs.Rows.{rowsOf}
 use Rattle.promises.specs.Items.{before, starts, kindIn, intervalElement, itemsIn, PlaceOf, startTags, endTags, openBefore}
 use Rattle.promises.specs.Examples.{examples, allPass}
-use Rattle.promises.specs.Sheet.{sheet, sheetOutcome, renamedSheet, twiceSheet, twiceAnswer, constraintSheet, constraintOutcome, withdrawnSheet, withdrawnOutcome}
+use Rattle.promises.specs.Day.{shortDay, dayOutcome}
+use Rattle.promises.specs.Sheet.{sheet, sheetOutcome, dearerSheet, dearerOutcome, renamedSheet, twiceSheet, twiceAnswer, constraintSheet, constraintOutcome, withdrawnSheet, withdrawnOutcome}
 use Rattle.promises.proofs.Answers.{ten-is, ten-only, long-is, long-only, refusal-clears, refusal-known, place-within, place-told, accepted-whole, counts-within, cells-past, rows-kept, counts-told, note-told, open-told}
 use Rattle.promises.proofs.Faces.{two-calls, two-replies, renamed-runs, renamed-calls, renamed-replies}
-use Rattle.promises.proofs.Examples.{examples-pass, sheet-read, sheet-content, twice-read, constraint-read, withdrawn-read, constraint-content, withdrawn-content, threefold, three-at-once, twice-first, sheet-faultless}
+use Rattle.promises.proofs.Examples.{examples-pass, day-read, day-content, sheet-read, sheet-content, dearer-read, twice-read, constraint-read, withdrawn-read, constraint-content, withdrawn-content, threefold, three-at-once, twice-first, sheet-faultless}
+use Rattle.promises.specs.Fakes.{Promised, theReader, refusesEverything, oneAnswer, doesNothing, firstSeriesOnly, inventsCounts}
+use Rattle.promises.proofs.Fakes.{reader-meets, refusing-fails, answering-fails, idling-fails, pretending-fails, inventing-fails}
+use Rattle.promises.proofs.Dearer.{sheet-dearer, sheets-differ, amount-differs}
 use Rattle.promises.proofs.Renamings.{sheet-renamed, renamed-read, sheet-twice}
 
 -- "P1 to P12 form a single table with a single proved statement."
 pub the-examples : allPass examples ≡ true
 the-examples = examples-pass
 
--- "These fakes have to be rejected: a reader that refuses everything or gives one answer for all .., one that does nothing .., one that fills only the
--- first series and pretends after it .., one that invents counts": a document that is accepted, with two series
+-- a document that is accepted, with two series
 pub a-sheet : readOf sheet 25 4 4 Old 16 ≡ sheetOutcome
 a-sheet = sheet-read
+
+-- of kind 1: the shortest day, with 92 Intervals
+pub a-day : readOf shortDay 12 92 92 Old 16 ≡ dayOutcome
+a-day = day-read
 
 -- and of K2's kind: with two series, and with none and a DocStatus
 pub a-constraint : (readOf constraintSheet 25 4 4 Old 16 ≡ constraintOutcome) × (readOf withdrawnSheet 0 0 0 Old 16 ≡ withdrawnOutcome)
@@ -139,6 +148,12 @@ module _ (doc : List ℕ) (ns np na : ℕ) (shape : Shape) (nb : ℕ) where
       × ((kind : ℕ) (c : Trees TagSaid) → Spells doc kind c → Legal kind c → HasRoom (roomOf ns np na) kind c → Tells doc outcome kind c)
   accepted-exactly wide small = (accepted-legal doc ns np na shape nb wide small, legal-accepted doc ns np na shape nb wide small)
 
+  -- "Intervals take one position and one amount at the same index .. Rows come in document order.": row j has the Pos and the Qty of Interval j of the content, which has one each
+  pub row-of-interval : 16 ≤ nb → length doc ≤ 1048576 → (kind : ℕ) (c : Trees TagSaid) → Spells doc kind c → Legal kind c → HasRoom (roomOf ns np na) kind c
+      → (j : ℕ) → j < outcome .answer .intervals → IntervalShown (outcome .tables) (rowsOf kind) j (getD (eachInterval (rowsOf kind) c) j none)
+  row-of-interval wide small kind c spells legal room =
+      interval-shown doc outcome kind c legal (legal-accepted doc ns np na shape nb wide small kind c spells legal room)
+
   -- "The first item with a fault decides; where it has several, the smallest number.": a refusal names the first fault and its place, and a document is refused with
   -- no other number and at no other place than those of its first fault. `FirstIn` says of each item which faults it has, clause by clause and in no order
   pub first-fault-named : 16 ≤ nb → length doc ≤ 1048576 → ((outcome .answer .refusal ≡ 0 → ⊥) → FirstIn doc ns np na (outcome .answer .refusal) (outcome .answer .place))
@@ -149,16 +164,28 @@ module _ (doc : List ℕ) (ns np na : ℕ) (shape : Shape) (nb : ℕ) where
   pub faultless-exactly : 16 ≤ nb → length doc ≤ 1048576 → (NoneIn doc ns np na → outcome .answer .refusal ≡ 0) × (outcome .answer .refusal ≡ 0 → NoneIn doc ns np na)
   faultless-exactly wide small = (faultless-accepted doc ns np na shape nb wide small, accepted-faultless doc ns np na shape nb wide small)
 
+-- demand 2 as it is asked of any reader, `accepted-exactly` and `counts-of-start-tags`, is met by this one
+pub reader-promised : Promised theReader
+reader-promised = reader-meets
+
+-- "These fakes have to be rejected: a reader that refuses everything or gives one answer for all (demand 2 on acceptance), one that does nothing (demand 2 on tables), one that fills
+-- only the first series and pretends after it (demand 2 on rows), one that invents counts (demand 2 on the note).": none of them meets it
+pub fakes-rejected : (Promised refusesEverything → ⊥) × (Promised oneAnswer → ⊥) × (Promised doesNothing → ⊥) × (Promised firstSeriesOnly → ⊥) × (Promised inventsCounts → ⊥)
+fakes-rejected = (refusing-fails, answering-fails, idling-fails, pretending-fails, inventing-fails)
+
 -- there are documents of both sorts, and an item with three faults at once
 pub a-first-fault : FirstIn twiceSheet 25 4 4 9 926 × NoneIn sheet 25 4 4 × (HasFault threefold 3 × HasFault threefold 5 × HasFault threefold 6)
 a-first-fault = (twice-first, sheet-faultless, three-at-once)
 
--- a legal content, of the sheet above
-pub a-content : (kind : ℕ) × (c : Trees TagSaid) × Spells sheet kind c × Legal kind c × HasRoom (roomOf 25 4 4) kind c
+-- a legal content of each kind: those of the day, of the sheet, and of the two constraints above
+pub a-day-content : (c : Trees TagSaid) × Spells shortDay 1 c × Legal 1 c × HasRoom (roomOf 12 92 92) 1 c
+a-day-content = day-content
+
+pub a-content : (c : Trees TagSaid) × Spells sheet 2 c × Legal 2 c × HasRoom (roomOf 25 4 4) 2 c
 a-content = sheet-content
 
-pub a-constraint-content : ((kind : ℕ) × (c : Trees TagSaid) × Spells constraintSheet kind c × Legal kind c × HasRoom (roomOf 25 4 4) kind c)
-    × ((kind : ℕ) × (c : Trees TagSaid) × Spells withdrawnSheet kind c × Legal kind c × HasRoom (roomOf 0 0 0) kind c)
+pub a-constraint-content : ((c : Trees TagSaid) × Spells constraintSheet 3 c × Legal 3 c × HasRoom (roomOf 25 4 4) 3 c)
+    × ((c : Trees TagSaid) × Spells withdrawnSheet 3 c × Legal 3 c × HasRoom (roomOf 0 0 0) 3 c)
 a-constraint-content = (constraint-content, withdrawn-content)
 
 -- a document spells one legal content at most, so that its content is unambiguous
@@ -177,6 +204,12 @@ pub amounts-alone : (x y : List ℕ) (ns np na : ℕ) (shape : Shape) (nb : ℕ)
     → Permitted (readOf x ns np na shape nb) a s p m n → Permitted (readOf y ns np na shape nb) a′ s′ p′ m′ n′
     → (a ≡ a′) × (n ≡ n′) × (s ≡ s′) × (p ≡ p′) × ((k : ℕ) → (getD m k (pos 0) ≡ getD m′ k (pos 0)) ⊎ OwnDigitsDiffer ns np na shape nb x y k)
 amounts-alone = two-runs
+
+-- a pair of which that is promised, with an amount that differs: the sheet above and one with another digit in its first Qty. Both are accepted, and the first amount is that of a
+-- Qty whose own digits differ
+pub an-amount-differs : DifferInQty sheet dearerSheet × (sheet ≡ dearerSheet → ⊥) × (readOf dearerSheet 25 4 4 Old 16 ≡ dearerOutcome)
+    × OwnDigitsDiffer 25 4 4 Old 16 sheet dearerSheet 0
+an-amount-differs = (sheet-dearer, sheets-differ, dearer-read, amount-differs)
 
 -- the same of `lumintayag_read_v3`
 pub amounts-alone-called : (x y : List ℕ) → DifferInQty x y → (ns np na : ℕ) (shape : Shape) (nb k : ℕ) {r r′ : ℕ} {s s′ p p′ : List ℕ} {m m′ : List ℤ} {n n′ a a′ : List ℕ}

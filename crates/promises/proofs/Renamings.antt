@@ -26,19 +26,14 @@ use Rattle.digits.specs.Identifications.{idByte, PutFor}
 use Rattle.blindness.specs.Renamed.{identificationsIn, OneSpan, IdsReplaced, Renamed}
 use Rattle.blindness.proofs.Renamed.{renamed-same}
 use Rattle.promises.specs.Sheet.{sheet, sheetOutcome, renamedSheet, twiceSheet}
+use Rattle.promises.proofs.Digits.{alongside, along}
 use Rattle.promises.proofs.Examples.{firstId, secondId, sheet-read, sheet-ids}
 
--- ---- a test that two documents differ in these values alone
+-- ---- a place of one of these values
 
 inOne : List Span → ℕ → Bool
 inOne [] p = false
 inOne (v ∷ vs) p = cond (cond (leb (v .start) p) (ltb p (v .start + v .len)) false) true (inOne vs p)
-
-alongside : List Span → ℕ → List ℕ → List ℕ → Bool
-alongside vs at [] [] = true
-alongside vs at [] (b ∷ y) = false
-alongside vs at (a ∷ x) [] = false
-alongside vs at (a ∷ x) (b ∷ y) = cond (cond (eqb a b) true (inOne vs at)) (alongside vs (suc at) x y) false
 
 in-one : (vs : List Span) (p : ℕ) → inOne vs p ≡ true → (v : Span) × OneSpan v vs × InSpan p v
 unfolding inOne
@@ -50,26 +45,9 @@ in-one (v ∷ vs) p h =
     (λ (y : cond (leb (v .start) p) (ltb p (v .start + v .len)) false ≡ false). let r = in-one vs p (rw y at h) in (r .0, inr (r .1), r .2))
     (bool-cases (cond (leb (v .start) p) (ltb p (v .start + v .len)) false))
 
-along : (vs : List Span) (x y : List ℕ) (at : ℕ) → alongside vs at x y ≡ true → (p : ℕ) → (byte x p ≡ byte y p) ⊎ ((v : Span) × OneSpan v vs × InSpan (at + p) v)
-unfolding alongside byte
-along vs [] [] at h p = inl refl
-along vs [] (b ∷ y) at h p = never h
-along vs (a ∷ x) [] at h p = never h
-along vs (a ∷ x) (b ∷ y) at h zero =
-    ⊎-elim
-    (λ e. inl (e .0))
-    (λ e.
-    let r = in-one vs at (rw (e .1) at (both-true (cond (eqb a b) true (inOne vs at)) h .0)) in
-    inr (r .0, r .1, (omega (arith, r .2 .0), omega (arith, r .2 .1))))
-    (eqb-cases a b)
-along vs (a ∷ x) (b ∷ y) at h (suc p) =
-    ⊎-elim inl
-    (λ r. inr (r .0, r .1, (omega (arith, r .2 .0), omega (arith, r .2 .1))))
-    (along vs x y (suc at) (both-true (cond (eqb a b) true (inOne vs at)) h .1) p)
-
 -- ---- a document with two identifications: a and b, for which c and d are put
 
-module _ (x y : List ℕ) (ids : identificationsIn x ≡ firstId ∷ secondId ∷ []) (alone : alongside (firstId ∷ secondId ∷ []) 0 x y ≡ true) (long : length x ≡ length y)
+module _ (x y : List ℕ) (ids : identificationsIn x ≡ firstId ∷ secondId ∷ []) (alone : alongside (inOne (firstId ∷ secondId ∷ [])) 0 x y ≡ true) (long : length x ≡ length y)
     (a b c d : List ℕ) (first : quoted firstId x ≡ a) (second : quoted secondId x ≡ b) (first′ : quoted firstId y ≡ c) (second′ : quoted secondId y ≡ d) where
   abbrev Two : Span → Type 0
   Two v = (v ≡ firstId) ⊎ ((v ≡ secondId) ⊎ ⊥)
@@ -81,7 +59,7 @@ module _ (x y : List ℕ) (ids : identificationsIn x ≡ firstId ∷ secondId �
   two-replaced p q =
       record {
         long = long;
-        places = λ k. ⊎-elim inl (λ z. inr (z .0, rw ids (z .1), (omega (arith, z .2 .0), omega (arith, z .2 .1)))) (along (firstId ∷ secondId ∷ []) x y 0 alone k);
+        places = λ k. ⊎-elim inl (λ h. let z = in-one (firstId ∷ secondId ∷ []) k h in inr (z .0, rw ids (z .1), z .2)) (along (inOne (firstId ∷ secondId ∷ [])) x y alone k);
         values = λ v m. by v (two v m);
       }
     where

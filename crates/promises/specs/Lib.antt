@@ -3,3 +3,5 @@ pub mod Rows
 pub mod Answers
 pub mod Items
 pub mod Sheet
+pub mod Day
+pub mod Fakes

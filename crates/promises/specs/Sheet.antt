@@ -1,14 +1,15 @@
--- Documents that are accepted, with the answer, the tables and the note in full: a Kostenblatt of two series, and the same with other identifications.
+-- Documents that are accepted, with the answer, the tables and the note in full: a Kostenblatt of two series, the same with other identifications, and the same with
+-- another amount.
 use Prim.Native.Nat.{ℕ}
 use mathlib.Core.List.{List, [], _∷_, _++_}
-use lib.IntN.{pos, negsuc}
+use lib.IntN.{ℤ, pos, negsuc}
 use Rattle.slices.specs.Text.{text}
 use Rattle.reader.specs.Answer.{Outcome}
 use Rattle.reader.specs.declared.Answer.{Answer}
 
--- with these two identifications
-abbrev pub sheetWith : List ℕ → List ℕ → List ℕ
-sheetWith first second =
+-- with these two identifications, and this for the first amount
+abbrev pub sheetOf : List ℕ → List ℕ → List ℕ → List ℕ
+sheetOf first second amount =
     text "<Kostenblatt DtdBDEWNachrichtenVersion=\"1.0\">" ++
     text "<DocumentIdentification v=\"D\"/><DocumentVersion v=\"1\"/><DocumentType v=\"Z05\"/><ProcessType v=\"A14\"/>" ++
     text "<SenderIdentification v=\"9900000000001\" codingScheme=\"A10\"/><SenderRole v=\"A18\"/>" ++
@@ -19,13 +20,16 @@ sheetWith first second =
     text "<ResourceObject v=\"A1234567890\" codingScheme=\"NDE\"/><ResourceProvider v=\"9900000000003\" codingScheme=\"A10\"/>" ++
     text "<CurveType v=\"A03\"/><MeasurementUnit v=\"Z01\"/>" ++
     text "<Period><TimeInterval v=\"2024-01-01T00:00Z/2024-01-01T00:30Z\"/><Resolution v=\"PT15M\"/>" ++
-    text "<Interval><Pos v=\"1\"/><Qty v=\"1.5\"/></Interval></Period></CostTimeSeries>" ++
+    text "<Interval><Pos v=\"1\"/><Qty v=\"" ++ amount ++ text "\"/></Interval></Period></CostTimeSeries>" ++
     text "<CostTimeSeries><TimeSeriesIdentification v=\"" ++ second ++ text "\"/><BusinessType v=\"Z03\"/><Product v=\"8716867000016\"/>" ++
     text "<ResourceObject v=\"C0000000002\" codingScheme=\"NDE\"/><ResourceProvider v=\"9900000000003\" codingScheme=\"A10\"/>" ++
     text "<CurveType v=\"A03\"/><MeasurementUnit v=\"Z01\"/>" ++
     text "<Period><TimeInterval v=\"2024-01-01T00:00Z/2024-01-01T00:30Z\"/><Resolution v=\"PT15M\"/>" ++
     text "<Interval><Pos v=\"1\"/><Qty v=\"-0.001\"/></Interval><Interval><Pos v=\"2\"/><Qty v=\"20\"/></Interval></Period></CostTimeSeries>" ++
     text "</Kostenblatt>"
+
+abbrev pub sheetWith : List ℕ → List ℕ → List ℕ
+sheetWith first second = sheetOf first second (text "1.5")
 
 abbrev pub sheet : List ℕ
 sheet = sheetWith (text "S1") (text "S2")
@@ -38,11 +42,15 @@ renamedSheet = sheetWith (text "XX") (text "XY")
 abbrev pub twiceSheet : List ℕ
 twiceSheet = sheetWith (text "XX") (text "XX")
 
+-- with another digit in a Qty
+abbrev pub dearerSheet : List ℕ
+dearerSheet = sheetOf (text "S1") (text "S2") (text "9.5")
+
 -- In tables of 25, 4 and 4 cells and a note buffer of 16 bytes. Each row of the series table: start and length of TimeSeriesIdentification, of
 -- ResourceObject, of BusinessType, which is ` A01 ` in the first, of Direction, which is ` A02 `, and of ConnectingArea, both of which the second has not;
 -- the first interval row; the interval count.
-abbrev pub sheetOutcome : Outcome
-sheetOutcome =
+abbrev pub outcomeWith : ℤ → Outcome
+outcomeWith amount =
     record {
       answer = record { refusal = 0; place = 1387; kind = 2; series = 2; intervals = 3; quarters = 2; note = 6 };
       tables =
@@ -52,10 +60,16 @@ sheetOutcome =
                 955 ∷ 2 ∷ 1030 ∷ 11 ∷ 977 ∷ 3 ∷ 0 ∷ 0 ∷ 0 ∷ 0 ∷ 1 ∷ 2 ∷
                 0 ∷ [];
             positions = 1 ∷ 1 ∷ 2 ∷ 0 ∷ [];
-            amounts = pos 1500 ∷ negsuc 0 ∷ pos 20000 ∷ pos 0 ∷ [];
+            amounts = amount ∷ negsuc 0 ∷ pos 20000 ∷ pos 0 ∷ [];
           };
       note = 0x00 ∷ 0xEB ∷ 0x0A ∷ 0x02 ∷ 0x02 ∷ 0x03 ∷ 0 ∷ 0 ∷ 0 ∷ 0 ∷ 0 ∷ 0 ∷ 0 ∷ 0 ∷ 0 ∷ 0 ∷ [];
     }
+
+abbrev pub sheetOutcome : Outcome
+sheetOutcome = outcomeWith (pos 1500)
+
+abbrev pub dearerOutcome : Outcome
+dearerOutcome = outcomeWith (pos 9500)
 
 -- "9: TimeSeriesIdentification used before in this document", at the second one
 abbrev pub twiceAnswer : Answer

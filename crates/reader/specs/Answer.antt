@@ -6,6 +6,7 @@ use mathlib.Core.Bool.{cond}
 use lib.Dec.{ltb}
 use lib.IntN.{ℤ}
 use lib.ListN.{length}
+use Rattle.refusals.specs.Refusals.{bufferShort}
 use Rattle.lists.specs.Zeros.{zeros}
 use Rattle.notes.specs.Note.{noteOf, left}
 use Rattle.notes.specs.declared.Note.{Note}
@@ -45,7 +46,7 @@ noted shape nb o =
 
 -- "10: the note buffer has fewer than 16 bytes"; "On 10 the note buffer is all 0."
 unfoldable pub unnoted : ℕ → ℕ → ℕ → ℕ → Outcome
-unnoted ns np na nb = record { answer = answerOf (refusedAt 10 0 begun) 0; tables = blank ns np na; note = zeros nb }
+unnoted ns np na nb = record { answer = answerOf (refusedAt bufferShort 0 begun) 0; tables = blank ns np na; note = zeros nb }
 
 -- "10 is looked at first, then 1, then the items from front to back."; "The caller picks the shape that the reader writes": a document, the lengths of the series, position
 -- and amount tables, the shape, and the length of the note buffer

@@ -4,6 +4,7 @@ use mathlib.Core.List.{List}
 use mathlib.Core.Bool.{cond}
 use lib.Dec.{ltb}
 use lib.ListN.{length}
+use Rattle.refusals.specs.Refusals.{tooLong, unreadableItem}
 use Rattle.lists.specs.Zeros.{zeros}
 use Rattle.tables.specs.Cells.{noAmounts}
 use Rattle.prolog.specs.Prolog.{begin}
@@ -16,7 +17,7 @@ use Rattle.reader.specs.declared.Found.{Found}
 
 unfoldable pub judgedAfter : Room → List ℕ → List ℕ → Begin → Found
 judgedAfter room doc t (From n) = itemsRead doc room n (tab t (zeros 1) (noAmounts 1)) .found
-judgedAfter room doc t (Misdeclared p) = refusedAt 2 p begun
+judgedAfter room doc t (Misdeclared p) = refusedAt unreadableItem p begun
 
 -- with this series table
 unfoldable pub judgedInto : Room → List ℕ → List ℕ → Found
@@ -24,4 +25,4 @@ judgedInto room doc t = judgedAfter room doc t (begin doc)
 
 -- "1: the document is longer than 1,048,576 bytes"; the series table has n cells
 unfoldable pub judged : Room → List ℕ → ℕ → Found
-judged room doc n = cond (ltb 1048576 (length doc)) (refusedAt 1 0 begun) (judgedInto room doc (zeros n))
+judged room doc n = cond (ltb 1048576 (length doc)) (refusedAt tooLong 0 begun) (judgedInto room doc (zeros n))

@@ -5,6 +5,7 @@ use mathlib.Core.Bool.{cond}
 use lib.IntN.{ℤ}
 use lib.ListN.{length}
 use lib.Dec.{eqb, leb, ltb}
+use Rattle.refusals.specs.Refusals.{noRefusal, tooLong, unreadableItem, notDue, usedAgain}
 use Rattle.lists.specs.Zeros.{zeros}
 use Rattle.items.specs.Parts.{spanOf}
 use Rattle.items.specs.declared.Item.{Item}
@@ -67,7 +68,7 @@ refusedAt n place st =
 unfoldable pub acceptedAt : ℕ → State → Found
 acceptedAt place st =
     record {
-      refusal = 0;
+      refusal = noRefusal;
       place = place;
       kind = st .kind;
       series = st .series;
@@ -80,11 +81,11 @@ acceptedAt place st =
 
 -- "Missing elements show .. at the end of the document.": 3 at the length, by the rows of the kind
 unfoldable pub endedAt : List ℕ → ℕ → State → Found
-endedAt rows place st = cond (overOf rows (st .row) (st .inside)) (acceptedAt place st) (refusedAt 3 place st)
+endedAt rows place st = cond (overOf rows (st .row) (st .inside)) (acceptedAt place st) (refusedAt notDue place st)
 
 -- an item that moved the state is refused where it brings a TimeSeriesIdentification that was used before
 unfoldable pub withoutUsed : List ℕ → List ℕ → Item → List ℕ → Step → Step
-withoutUsed doc t item s (Next st e) = cond (usedBefore doc t (spanOf item) s (st .series) e) (Refused 9) (Next st e)
+withoutUsed doc t item s (Next st e) = cond (usedBefore doc t (spanOf item) s (st .series) e) (Refused usedAgain) (Next st e)
 withoutUsed doc t item s (Refused n) = Refused n
 
 unfoldable pub stepOf : List ℕ → List ℕ → Room → Placed → State → Step
@@ -126,19 +127,19 @@ itemsRead doc room from t = readItems doc room (itemsFrom doc from) begun t
 -- from the first item on, or not at all where the XML declaration is unreadable
 unfoldable pub readAfter : List ℕ → Tables → Begin → Out
 readAfter doc t (From n) = itemsRead doc (roomIn t) n t
-readAfter doc t (Misdeclared p) = record { found = refusedAt 2 p begun; tables = t }
+readAfter doc t (Misdeclared p) = record { found = refusedAt unreadableItem p begun; tables = t }
 
 unfoldable pub readInto : List ℕ → Tables → Out
 readInto doc t = readAfter doc t (begin doc)
 
 -- "On every refusal by the document reader, all cells of the three tables are 0."
 unfoldable pub orBlank : ℕ → ℕ → ℕ → Out → Out
-orBlank ns np na o = record { found = o .found; tables = cond (eqb (o .found .refusal) 0) (o .tables) (blank ns np na) }
+orBlank ns np na o = record { found = o .found; tables = cond (eqb (o .found .refusal) noRefusal) (o .tables) (blank ns np na) }
 
 -- "1: the document is longer than 1,048,576 bytes"
 unfoldable pub readSheet : List ℕ → ℕ → ℕ → ℕ → Out
 readSheet doc ns np na =
-    orBlank ns np na (cond (ltb 1048576 (length doc)) (record { found = refusedAt 1 0 begun; tables = blank ns np na }) (readInto doc (blank ns np na)))
+    orBlank ns np na (cond (ltb 1048576 (length doc)) (record { found = refusedAt tooLong 0 begun; tables = blank ns np na }) (readInto doc (blank ns np na)))
 
 -- into tables of these lengths
 abbrev pub sheetInto : List ℕ → Tables → Out

@@ -14,6 +14,12 @@ use notes::Shape;
 use notes::write_note;
 use prolog::Begin;
 use prolog::first_item;
+use refusals::BUFFER_SHORT;
+use refusals::NO_REFUSAL;
+use refusals::NOT_DUE;
+use refusals::TOO_LONG;
+use refusals::UNREADABLE_ITEM;
+use refusals::USED_AGAIN;
 use rows::enter;
 use rows::is_used_before;
 use series::rows_in;
@@ -120,7 +126,7 @@ fn accepted_at(place: u32, st: State) -> Found
     ensures { λ r. ⌜ r ≡ acceptedAt place st ⌝ }
 {
     Found {
-        refusal: 0,
+        refusal: NO_REFUSAL,
         place,
         kind: st.kind,
         series: st.series,
@@ -140,7 +146,7 @@ fn ended_at(place: u32, st: State, rows: &[usize]) -> Found
     if is_over(rows, st.row, st.inside) {
         return accepted_at(place, st);
     }
-    refused_at(3, place, st, rows)
+    refused_at(NOT_DUE, place, st, rows)
 }
 
 fn clear_tables(series: &mut [u32], positions: &mut [u32], amounts: &mut [i64])
@@ -167,7 +173,7 @@ fn step_in(
     match st.step(rows, item, s, room) {
         Step::Next(next, entry) => {
             if is_used_before(doc, t, span_of(item), s, next.series, entry) {
-                return Step::Refused(9);
+                return Step::Refused(USED_AGAIN);
             }
             Step::Next(next, entry)
         }
@@ -195,7 +201,7 @@ fn read_items(
         let s = rest(doc, at);
         let item = item_at(at, s);
         if let Item::Unreadable(p) = item {
-            return refused_at(2, p as u32, st, rows_of(&rows, st.kind));
+            return refused_at(UNREADABLE_ITEM, p as u32, st, rows_of(&rows, st.kind));
         }
         if is_passed(item) {
             at += item_len(item);
@@ -222,7 +228,7 @@ fn read_all(doc: &[u8], series: &mut [u32], positions: &mut [u32], amounts: &mut
     let room = room_of(series.len(), positions.len(), amounts.len());
     match first_item(doc) {
         Begin::From(n) => read_items(doc, n, room, series, positions, amounts),
-        Begin::Misdeclared(p) => refused_first(2, p as u32),
+        Begin::Misdeclared(p) => refused_first(UNREADABLE_ITEM, p as u32),
     }
 }
 
@@ -233,10 +239,10 @@ fn read_sheet(doc: &[u8], series: &mut [u32], positions: &mut [u32], amounts: &m
 {
     clear_tables(series, positions, amounts);
     if 1048576 < doc.len() {
-        return refused_first(1, 0);
+        return refused_first(TOO_LONG, 0);
     }
     let found = read_all(doc, series, positions, amounts);
-    if found.refusal == 0 {
+    if found.refusal == NO_REFUSAL {
         return found;
     }
     clear_tables(series, positions, amounts);
@@ -252,7 +258,7 @@ fn judge_all(doc: &[u8], room: Room, series: &mut [u32]) -> Found
     let mut amounts = [0i64; 1];
     match first_item(doc) {
         Begin::From(n) => read_items(doc, n, room, series, &mut positions, &mut amounts),
-        Begin::Misdeclared(p) => refused_first(2, p as u32),
+        Begin::Misdeclared(p) => refused_first(UNREADABLE_ITEM, p as u32),
     }
 }
 
@@ -265,7 +271,7 @@ pub fn judge(doc: &[u8], room: Room, series: &mut [u32]) -> Found
 {
     clear_numbers(series);
     if 1048576 < doc.len() {
-        return refused_first(1, 0);
+        return refused_first(TOO_LONG, 0);
     }
     let found = judge_all(doc, room, series);
     clear_numbers(series);
@@ -317,7 +323,7 @@ pub fn read(
         clear_tables(series, positions, amounts);
         clear_bytes(note);
         return Answer {
-            refusal: 10,
+            refusal: BUFFER_SHORT,
             place: 0,
             kind: 0,
             series: 0,

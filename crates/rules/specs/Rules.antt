@@ -4,6 +4,7 @@ use Prim.Native.Nat.{ℕ, _+_, _-_}
 use mathlib.Core.List.{List}
 use mathlib.Core.Bool.{Bool, true, false, cond}
 use lib.Dec.{leb, ltb, eqb}
+use Rattle.refusals.specs.Refusals.{noRefusal, againstForm, outsideList, againstValue}
 use Rattle.slices.specs.Same.{same}
 use Rattle.slices.specs.Text.{text}
 use Rattle.columns.specs.Columns.{
@@ -41,7 +42,7 @@ use Rattle.rules.specs.declared.Held.{Held}
 use Rattle.rules.specs.declared.Judged.{Judged}
 
 unfoldable pub unless : ℕ → Bool → ℕ
-unless number fits = cond fits 0 number
+unless number fits = cond fits noRefusal number
 
 -- "Version: 1 to 999, no leading zero."
 unfoldable pub versionBy : Number → Bool
@@ -61,16 +62,16 @@ amount cs = amountBy (amountOf cs)
 -- "6: value against its form or fixed value; 7: value outside its code list": "A value with a code list is judged by that list alone"
 unfoldable pub formRefusal : ℕ → List ℕ → ℕ
 formRefusal form cs =
-    cond (eqb form identificationForm) (unless 6 (identification cs))
-    (cond (eqb form seriesIdForm) (unless 6 (identification cs))
-    (cond (eqb form partnerForm) (unless 6 (marketPartner cs))
-    (cond (eqb form versionForm) (unless 6 (isVersion cs))
-    (cond (eqb form dateTimeForm) (unless 6 (dateTime cs))
-    (cond (eqb form amountForm) (unless 6 (amount cs))
-    (cond (eqb form objectForm) (unless 6 (resourceObject cs))
-    (cond (eqb form partyForm) (unless 6 (party cs))
-    (cond (eqb form gridElementForm) (unless 6 (gridElement cs))
-    (cond (leb inList form) (unless 7 (listed (codesOf (form - inList)) cs)) 0)))))))))
+    cond (eqb form identificationForm) (unless againstForm (identification cs))
+    (cond (eqb form seriesIdForm) (unless againstForm (identification cs))
+    (cond (eqb form partnerForm) (unless againstForm (marketPartner cs))
+    (cond (eqb form versionForm) (unless againstForm (isVersion cs))
+    (cond (eqb form dateTimeForm) (unless againstForm (dateTime cs))
+    (cond (eqb form amountForm) (unless againstForm (amount cs))
+    (cond (eqb form objectForm) (unless againstForm (resourceObject cs))
+    (cond (eqb form partyForm) (unless againstForm (party cs))
+    (cond (eqb form gridElementForm) (unless againstForm (gridElement cs))
+    (cond (leb inList form) (unless outsideList (listed (codesOf (form - inList)) cs)) noRefusal)))))))))
 
 -- ---- which code a value is, where later values are held against it; 0 for any other value
 
@@ -109,8 +110,8 @@ periodFits kind from to = cond (kindAt kind .daily) (dayPeriod from to) (costPer
 
 unfoldable pub judgePeriodBy : ℕ → Interval → Judged
 judgePeriodBy kind (Minutes from to) =
-    cond (periodFits kind from to) (record { number = 0; first = from; second = to }) (refused 8)
-judgePeriodBy kind NotInterval = refused 6
+    cond (periodFits kind from to) (record { number = noRefusal; first = from; second = to }) (refused againstValue)
+judgePeriodBy kind NotInterval = refused againstForm
 
 unfoldable pub judgePeriod : ℕ → List ℕ → Judged
 judgePeriod kind cs = judgePeriodBy kind (interval cs)
@@ -118,9 +119,9 @@ judgePeriod kind cs = judgePeriodBy kind (interval cs)
 -- "TimeInterval equals TimePeriodCovered."
 unfoldable pub judgeIntervalBy : ℕ → ℕ → Interval → Judged
 judgeIntervalBy from to (Minutes a b) =
-    cond (eqb a from) (cond (eqb b to) (refused 0) (refused 8))
-    (refused 8)
-judgeIntervalBy from to NotInterval = refused 6
+    cond (eqb a from) (cond (eqb b to) (refused noRefusal) (refused againstValue))
+    (refused againstValue)
+judgeIntervalBy from to NotInterval = refused againstForm
 
 unfoldable pub judgeInterval : ℕ → ℕ → List ℕ → Judged
 judgeInterval from to cs = judgeIntervalBy from to (interval cs)
@@ -134,8 +135,8 @@ positionFits kind quarters last p =
 
 unfoldable pub judgePositionBy : ℕ → ℕ → ℕ → Number → Judged
 judgePositionBy kind quarters last (Is p) =
-    cond (positionFits kind quarters last p) (record { number = 0; first = p; second = 0 }) (refused 8)
-judgePositionBy kind quarters last NotNumber = refused 6
+    cond (positionFits kind quarters last p) (record { number = noRefusal; first = p; second = 0 }) (refused againstValue)
+judgePositionBy kind quarters last NotNumber = refused againstForm
 
 unfoldable pub judgePosition : ℕ → ℕ → ℕ → List ℕ → Judged
 judgePosition kind quarters last cs = judgePositionBy kind quarters last (numberOf cs 5)
@@ -145,6 +146,6 @@ unfoldable pub judge : ℕ → Held → List ℕ → Judged
 judge form h cs =
     cond (eqb form periodForm) (judgePeriod (h .kind) cs)
     (cond (eqb form intervalForm) (judgeInterval (h .from) (h .to) cs)
-    (cond (eqb form resolutionForm) (refused (unless 8 (quarterHour cs)))
+    (cond (eqb form resolutionForm) (refused (unless againstValue (quarterHour cs)))
     (cond (eqb form posForm) (judgePosition (h .kind) (h .quarters) (h .last) cs)
     (record { number = formRefusal form cs; first = codeNo form cs; second = 0 }))))

@@ -28,6 +28,10 @@ use numbers::Number;
 use numbers::amount_of;
 use numbers::number_of;
 use pictures::is_said;
+use refusals::AGAINST_FORM;
+use refusals::AGAINST_VALUE;
+use refusals::NO_REFUSAL;
+use refusals::OUTSIDE_LIST;
 use times::Interval;
 use times::interval_of;
 use times::is_cost_period;
@@ -67,7 +71,7 @@ pub const DOWNWARD: u32 = 2;
 fn refused_unless(number: u32, fits: bool) -> u32
     ensures { λ r. ⌜ r ≡ unless number fits ⌝ }
 {
-    if fits { 0 } else { number }
+    if fits { NO_REFUSAL } else { number }
 }
 
 fn is_version(v: &[u8]) -> bool
@@ -93,36 +97,36 @@ fn form_refusal(form: usize, v: &[u8]) -> u32
     ensures { λ r. ⌜ r ≡ formRefusal form (says (now (v .entry))) ⌝ }
 {
     if form == IDENTIFICATION_FORM {
-        return refused_unless(6, is_identification(v));
+        return refused_unless(AGAINST_FORM, is_identification(v));
     }
     if form == SERIES_ID_FORM {
-        return refused_unless(6, is_identification(v));
+        return refused_unless(AGAINST_FORM, is_identification(v));
     }
     if form == PARTNER_FORM {
-        return refused_unless(6, is_market_partner(v));
+        return refused_unless(AGAINST_FORM, is_market_partner(v));
     }
     if form == VERSION_FORM {
-        return refused_unless(6, is_version(v));
+        return refused_unless(AGAINST_FORM, is_version(v));
     }
     if form == DATE_TIME_FORM {
-        return refused_unless(6, is_date_time(v));
+        return refused_unless(AGAINST_FORM, is_date_time(v));
     }
     if form == AMOUNT_FORM {
-        return refused_unless(6, is_amount(v));
+        return refused_unless(AGAINST_FORM, is_amount(v));
     }
     if form == OBJECT_FORM {
-        return refused_unless(6, is_resource_object(v));
+        return refused_unless(AGAINST_FORM, is_resource_object(v));
     }
     if form == PARTY_FORM {
-        return refused_unless(6, is_party(v));
+        return refused_unless(AGAINST_FORM, is_party(v));
     }
     if form == GRID_ELEMENT_FORM {
-        return refused_unless(6, is_grid_element(v));
+        return refused_unless(AGAINST_FORM, is_grid_element(v));
     }
     if IN_LIST <= form {
-        return refused_unless(7, is_listed(form - IN_LIST, v));
+        return refused_unless(OUTSIDE_LIST, is_listed(form - IN_LIST, v));
     }
-    0
+    NO_REFUSAL
 }
 
 fn type_no(v: &[u8]) -> u32
@@ -178,19 +182,19 @@ fn judge_period(v: &[u8], kind: u32) -> Judged
         Interval::Minutes(from, to) => {
             if is_period(kind, from, to) {
                 return Judged {
-                    number: 0,
+                    number: NO_REFUSAL,
                     first: from,
                     second: to,
                 };
             }
             Judged {
-                number: 8,
+                number: AGAINST_VALUE,
                 first: 0,
                 second: 0,
             }
         }
         Interval::NotInterval => Judged {
-            number: 6,
+            number: AGAINST_FORM,
             first: 0,
             second: 0,
         },
@@ -205,20 +209,20 @@ fn judge_interval(v: &[u8], from: u32, to: u32) -> Judged
             if a == from {
                 if b == to {
                     return Judged {
-                        number: 0,
+                        number: NO_REFUSAL,
                         first: 0,
                         second: 0,
                     };
                 }
             }
             Judged {
-                number: 8,
+                number: AGAINST_VALUE,
                 first: 0,
                 second: 0,
             }
         }
         Interval::NotInterval => Judged {
-            number: 6,
+            number: AGAINST_FORM,
             first: 0,
             second: 0,
         },
@@ -253,19 +257,19 @@ fn judge_position(v: &[u8], h: Held) -> Judged
         Number::Is(p) => {
             if is_position(h.kind, h.quarters, h.last, p) {
                 return Judged {
-                    number: 0,
+                    number: NO_REFUSAL,
                     first: p,
                     second: 0,
                 };
             }
             Judged {
-                number: 8,
+                number: AGAINST_VALUE,
                 first: 0,
                 second: 0,
             }
         }
         Number::NotNumber => Judged {
-            number: 6,
+            number: AGAINST_FORM,
             first: 0,
             second: 0,
         },
@@ -285,7 +289,7 @@ pub fn judge_value(form: usize, v: &[u8], h: Held) -> Judged
     }
     if form == RESOLUTION_FORM {
         return Judged {
-            number: refused_unless(8, is_quarter_hour(v)),
+            number: refused_unless(AGAINST_VALUE, is_quarter_hour(v)),
             first: 0,
             second: 0,
         };

@@ -41,8 +41,8 @@ unfolding viewRoom
 sheet-viewed =
     let s = sheet-content in
     let e = room-series 25 4 4 in
-    let h = s .4 .series in
-    legal-viewed sheet 120 (omega arith) sheet-short (s .0) (s .1) (s .2) (s .3) (omega (arith, e, h))
+    let h = s .3 .series in
+    legal-viewed sheet 120 (omega arith) sheet-short 2 (s .0) (s .1) (s .2) (omega (arith, e, h))
 
-pub sheet-values : ShowsValues sheet (sheetViewed sheet 120 .table) (sheet-content .0) (sheetViewed sheet 120 .told .series) (sheet-content .1)
-sheet-values = let s = sheet-content in shows-values sheet 120 (omega arith) sheet-viewed (s .0) (s .1) (s .2) (s .3)
+pub sheet-values : ShowsValues sheet (sheetViewed sheet 120 .table) 2 (sheetViewed sheet 120 .told .series) (sheet-content .0)
+sheet-values = let s = sheet-content in shows-values sheet 120 (omega arith) sheet-viewed 2 (s .0) (s .1) (s .2)

@@ -3,6 +3,7 @@ use Prim.Native.Nat.{ℕ, _-_}
 use mathlib.Core.List.{List}
 use mathlib.Core.Bool.{Bool, true, false, cond}
 use lib.Dec.{leb, eqb}
+use Rattle.refusals.specs.Refusals.{noRefusal, againstForm, outsideList}
 use Rattle.characters.specs.Says.{says}
 use Rattle.slices.specs.Part.{partOf}
 use Rattle.slices.specs.Same.{same}
@@ -64,11 +65,11 @@ saidIn w x s = cond (collapsed w) (dropped (says (partOf s (x .start) (x .len)))
 -- codingScheme, which is collapsed in every row that has it: 7 outside its code list
 unfoldable pub schemeRefusal : ℕ → Span → List ℕ → ℕ
 schemeRefusal w x s =
-    cond (eqb (schemeOf w) noScheme) 0 (cond (listed (codesOf (schemeOf w - byList)) (dropped (says (partOf s (x .start) (x .len))))) 0 7)
+    cond (eqb (schemeOf w) noScheme) noRefusal (cond (listed (codesOf (schemeOf w - byList)) (dropped (says (partOf s (x .start) (x .len))))) noRefusal outsideList)
 
 -- "where it has several, the smallest number"; 0 is none
 unfoldable pub least : ℕ → ℕ → ℕ
-least a b = cond (eqb a 0) b (cond (eqb b 0) a (cond (leb a b) a b))
+least a b = cond (eqb a noRefusal) b (cond (eqb b noRefusal) a (cond (leb a b) a b))
 
 unfoldable pub alsoScheme : ℕ → Judged → Judged
 alsoScheme n j = record { number = least (j .number) n; first = j .first; second = j .second }
@@ -86,6 +87,6 @@ dtdFixed kind d s =
 -- the values of a tag: the fixed ones on the root; `v` and codingScheme elsewhere
 unfoldable pub judgeTag : ℕ → Tag → Held → List ℕ → Judged
 judgeTag w t h s =
-    cond (eqb (roleOf w) rootRole) (cond (dtdFixed (h .kind) (t .dtd) s) (refused 0) (refused 6))
-    (cond (eqb (formOf w) noForm) (refused 0)
+    cond (eqb (roleOf w) rootRole) (cond (dtdFixed (h .kind) (t .dtd) s) (refused noRefusal) (refused againstForm))
+    (cond (eqb (formOf w) noForm) (refused noRefusal)
     (alsoScheme (schemeRefusal w (t .coding) s) (judge (formOf w) h (saidIn w (t .v) s))))

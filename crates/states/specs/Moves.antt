@@ -4,6 +4,7 @@ use mathlib.Core.List.{List}
 use mathlib.Core.Bool.{Bool, true, false, cond, not}
 use lib.ListN.{getD}
 use lib.Dec.{leb, ltb, eqb}
+use Rattle.refusals.specs.Refusals.{noRefusal, unreadableItem, notDue, tableFull, wrongAttribute, againstValue}
 use Rattle.slices.specs.Part.{partOf}
 use Rattle.elements.specs.Names.{elementNo}
 use Rattle.columns.specs.Columns.{formOf, roleOf, periodForm, rootRole, seriesRole, periodRole, intervalRole, originalRole, objectRole, businessRole, seriesIdRole, posRole, qtyRole, directionRole, areaRole}
@@ -65,18 +66,18 @@ unfoldable pub againstOthers : State → ℕ → ℕ → ℕ → Bool
 againstOthers x kind role code = cond (kindAt kind .constrained) (against (x .seen) (x .series) role code) false
 
 unfoldable pub besideOthers : State → ℕ → ℕ → Judged → Judged
-besideOthers x kind role j = cond (eqb (j .number) 0) (cond (againstOthers x kind role (j .first)) (refused 8) j) j
+besideOthers x kind role j = cond (eqb (j .number) noRefusal) (cond (againstOthers x kind role (j .first)) (refused againstValue) j) j
 
 unfoldable pub valuesJudged : State → ℕ → ℕ → Tag → List ℕ → Judged
-valuesJudged x kind w t s = cond (halfOriginals x (roleOf w)) (refused 8) (besideOthers x kind (roleOf w) (judgeTag w t (heldOf x kind) s))
+valuesJudged x kind w t s = cond (halfOriginals x (roleOf w)) (refused againstValue) (besideOthers x kind (roleOf w) (judgeTag w t (heldOf x kind) s))
 
 -- the smallest refusal, w being the row
 unfoldable pub judgedAt : State → ℕ → List ℕ → ℕ → ℕ → Tag → List ℕ → Bool → Room → Judged
 judgedAt x kind rows r w t s empty room =
-    cond (cutShort empty rows r) (refused 3)
-    (cond (tooMany x (roleOf w) kind) (refused 3)
-    (cond (noRoom x (roleOf w) room) (refused 4)
-    (cond (attributesFit kind w t) (valuesJudged x kind w t s) (refused 5))))
+    cond (cutShort empty rows r) (refused notDue)
+    (cond (tooMany x (roleOf w) kind) (refused notDue)
+    (cond (noRoom x (roleOf w) room) (refused tableFull)
+    (cond (attributesFit kind w t) (valuesJudged x kind w t s) (refused wrongAttribute))))
 
 unfoldable pub startJudged : State → ℕ → List ℕ → ℕ → Tag → List ℕ → Bool → Room → Judged
 startJudged x kind rows r t s empty room = judgedAt x kind rows r (getD rows r 0) t s empty room
@@ -212,11 +213,11 @@ entryOf role p =
 
 unfoldable pub startedBy : State → ℕ → ℕ → ℕ → Bool → Judged → Step
 startedBy x kind r w empty j =
-    cond (eqb (j .number) 0) (Next (entered x kind r w j (not empty)) (entryOf (roleOf w) (j .first))) (Refused (j .number))
+    cond (eqb (j .number) noRefusal) (Next (entered x kind r w j (not empty)) (entryOf (roleOf w) (j .first))) (Refused (j .number))
 
 unfoldable pub startedAt : State → ℕ → List ℕ → Tag → List ℕ → Bool → Room → Due → Step
 startedAt x kind rows t s empty room (Row r) = startedBy x kind r (getD rows r 0) empty (startJudged x kind rows r t s empty room)
-startedAt x kind rows t s empty room NotDue = Refused 3
+startedAt x kind rows t s empty room NotDue = Refused notDue
 
 unfoldable pub started : State → ℕ → List ℕ → ℕ → Tag → List ℕ → Bool → Room → Step
 started x kind rows name t s empty room = startedAt x kind rows t s empty room (startOf rows (x .row) (x .inside) name)
@@ -242,20 +243,20 @@ closedAt x r =
 
 -- "at the end tag of Period there are N intervals": 3 for too few, 8 for another number than N
 unfoldable pub countRefusal : ℕ → ℕ → ℕ → ℕ
-countRefusal kind quarters n = cond (hasEnough kind n) (cond (kindAt kind .full) (cond (eqb n quarters) 0 8) 0) 3
+countRefusal kind quarters n = cond (hasEnough kind n) (cond (kindAt kind .full) (cond (eqb n quarters) noRefusal againstValue) noRefusal) notDue
 
 -- at the root's end a series that a constraint has to have
 unfoldable pub lackRefusal : State → ℕ
-lackRefusal x = cond (kindAt (x .kind) .constrained) (cond (lacking (x .seen) (x .series)) 8 0) 0
+lackRefusal x = cond (kindAt (x .kind) .constrained) (cond (lacking (x .seen) (x .series)) againstValue noRefusal) noRefusal
 
 unfoldable pub endRefusal : State → List ℕ → ℕ → ℕ
 endRefusal x rows r =
     cond (eqb (roleOf (getD rows r 0)) periodRole) (countRefusal (x .kind) (x .quarters) (x .intervals - x .first))
-    (cond (eqb (roleOf (getD rows r 0)) rootRole) (lackRefusal x) 0)
+    (cond (eqb (roleOf (getD rows r 0)) rootRole) (lackRefusal x) noRefusal)
 
 unfoldable pub afterEndAt : State → List ℕ → Due → Step
-afterEndAt x rows (Row r) = cond (eqb (endRefusal x rows r) 0) (Next (closedAt x r) Nothing) (Refused (endRefusal x rows r))
-afterEndAt x rows NotDue = Refused 3
+afterEndAt x rows (Row r) = cond (eqb (endRefusal x rows r) noRefusal) (Next (closedAt x r) Nothing) (Refused (endRefusal x rows r))
+afterEndAt x rows NotDue = Refused notDue
 
 unfoldable pub afterEnd : State → List ℕ → ℕ → Step
 afterEnd x rows name = afterEndAt x rows (endOf rows (x .row) (x .inside) name)
@@ -266,9 +267,9 @@ unfoldable pub moved : State → ℕ → List ℕ → Item → List ℕ → Room
 moved x kind rows (Start t) s room = started x kind rows (elementNo (partOf s 1 (t .name))) t s false room
 moved x kind rows (Empty t) s room = started x kind rows (elementNo (partOf s 1 (t .name))) t s true room
 moved x kind rows (End n e) s room = afterEnd x rows (elementNo (partOf s 2 n))
-moved x kind rows (Text white e) s room = cond white (Next x Nothing) (Refused 3)
+moved x kind rows (Text white e) s room = cond white (Next x Nothing) (Refused notDue)
 moved x kind rows (Comment e) s room = Next x Nothing
-moved x kind rows (Unreadable p) s room = Refused 2
+moved x kind rows (Unreadable p) s room = Refused unreadableItem
 
 -- the kind, which the root's own tag tells
 unfoldable pub rootKind : Item → List ℕ → ℕ

@@ -38,6 +38,14 @@ use guideline::takes_another;
 use items::Item;
 use items::Tag;
 use items::name_in;
+use refusals::AGAINST_FORM;
+use refusals::AGAINST_VALUE;
+use refusals::NO_REFUSAL;
+use refusals::NOT_DUE;
+use refusals::OUTSIDE_LIST;
+use refusals::TABLE_FULL;
+use refusals::UNREADABLE_ITEM;
+use refusals::WRONG_ATTRIBUTE;
 use rules::BEARING_TYPE;
 use rules::CHANGE_TYPE;
 use rules::Held;
@@ -247,24 +255,24 @@ fn scheme_refusal(w: usize, x: Span, s: &[u8]) -> u32
 {
     let k = scheme_of(w);
     if k == NO_SCHEME {
-        return 0;
+        return NO_REFUSAL;
     }
     let start = x.start;
     let len = x.len;
     if is_listed(k - BY_LIST, trimmed(part(s, start, len))) {
-        return 0;
+        return NO_REFUSAL;
     }
-    7
+    OUTSIDE_LIST
 }
 
-// The smaller of two refusals, where 0 is none.
+// The smaller of two refusals, where there are two.
 fn least_of(a: u32, b: u32) -> u32
     ensures { λ r. ⌜ r ≡ least a b ⌝ }
 {
-    if a == 0 {
+    if a == NO_REFUSAL {
         return b;
     }
-    if b == 0 {
+    if b == NO_REFUSAL {
         return a;
     }
     if a <= b { a } else { b }
@@ -303,13 +311,13 @@ fn judge_tag(w: usize, t: Tag, s: &[u8], h: Held) -> Judged
         let dtd = t.dtd;
         if is_dtd_fixed(h.kind, dtd, s) {
             return Judged {
-                number: 0,
+                number: NO_REFUSAL,
                 first: 0,
                 second: 0,
             };
         }
         return Judged {
-            number: 6,
+            number: AGAINST_FORM,
             first: 0,
             second: 0,
         };
@@ -317,7 +325,7 @@ fn judge_tag(w: usize, t: Tag, s: &[u8], h: Held) -> Judged
     let form = form_of(w);
     if form == NO_FORM {
         return Judged {
-            number: 0,
+            number: NO_REFUSAL,
             first: 0,
             second: 0,
         };
@@ -377,13 +385,13 @@ fn count_refusal(kind: u32, quarters: u32, n: u32) -> u32
     if has_enough(kind, n as usize) {
         if kind_at(kind).full {
             if n == quarters {
-                return 0;
+                return NO_REFUSAL;
             }
-            return 8;
+            return AGAINST_VALUE;
         }
-        return 0;
+        return NO_REFUSAL;
     }
-    3
+    NOT_DUE
 }
 
 fn one_more(n: u32) -> u32
@@ -425,10 +433,10 @@ fn act_of(item: Item) -> Act
             if white {
                 return Act::Passes;
             }
-            Act::Refuses(3)
+            Act::Refuses(NOT_DUE)
         }
         Item::Comment(_) => Act::Passes,
-        Item::Unreadable(_) => Act::Refuses(2),
+        Item::Unreadable(_) => Act::Refuses(UNREADABLE_ITEM),
     }
 }
 
@@ -636,10 +644,10 @@ impl State {
     fn beside_others(self, kind: u32, role: usize, j: Judged) -> Judged
         ensures { λ r. ⌜ r ≡ besideOthers self kind role j ⌝ }
     {
-        if j.number == 0 {
+        if j.number == NO_REFUSAL {
             if self.is_against_others(kind, role, j.first) {
                 return Judged {
-                    number: 8,
+                    number: AGAINST_VALUE,
                     first: 0,
                     second: 0,
                 };
@@ -654,7 +662,7 @@ impl State {
         let role = role_of(w);
         if self.has_half(role) {
             return Judged {
-                number: 8,
+                number: AGAINST_VALUE,
                 first: 0,
                 second: 0,
             };
@@ -679,21 +687,21 @@ impl State {
         let role = role_of(w);
         if is_cut_short(empty, rows, row) {
             return Judged {
-                number: 3,
+                number: NOT_DUE,
                 first: 0,
                 second: 0,
             };
         }
         if self.has_too_many(role, kind) {
             return Judged {
-                number: 3,
+                number: NOT_DUE,
                 first: 0,
                 second: 0,
             };
         }
         if self.lacks_room(role, room) {
             return Judged {
-                number: 4,
+                number: TABLE_FULL,
                 first: 0,
                 second: 0,
             };
@@ -702,7 +710,7 @@ impl State {
             return self.judge_values(kind, w, t, s);
         }
         Judged {
-            number: 5,
+            number: WRONG_ATTRIBUTE,
             first: 0,
             second: 0,
         }
@@ -765,7 +773,7 @@ impl State {
         match start_after(rows, self.row, self.inside, name) {
             Due::Row(r) => {
                 let j = self.judge_start(kind, rows, r, t, s, empty, room);
-                if j.number == 0 {
+                if j.number == NO_REFUSAL {
                     let w = row_at(rows, r);
                     return Step::Next(
                         self.entered(kind, r, w, j, !empty),
@@ -774,7 +782,7 @@ impl State {
                 }
                 Step::Refused(j.number)
             }
-            Due::NotDue => Step::Refused(3),
+            Due::NotDue => Step::Refused(NOT_DUE),
         }
     }
 
@@ -794,10 +802,10 @@ impl State {
         if kind_at(self.kind).constrained {
             let seen = self.seen;
             if seen.is_lacking(self.series) {
-                return 8;
+                return AGAINST_VALUE;
             }
         }
-        0
+        NO_REFUSAL
     }
 
     // The refusal of an end tag that closes a row.
@@ -812,7 +820,7 @@ impl State {
         if role == ROOT_ROLE {
             return self.lack_refusal();
         }
-        0
+        NO_REFUSAL
     }
 
     // An end tag whose name has the number `name`.
@@ -822,12 +830,12 @@ impl State {
         match end_after(rows, self.row, self.inside, name) {
             Due::Row(r) => {
                 let n = self.end_refusal(rows, r);
-                if n == 0 {
+                if n == NO_REFUSAL {
                     return Step::Next(self.left(r), Entry::Nothing);
                 }
                 Step::Refused(n)
             }
-            Due::NotDue => Step::Refused(3),
+            Due::NotDue => Step::Refused(NOT_DUE),
         }
     }
 

@@ -6,6 +6,7 @@ use mathlib.Core.List.{List}
 use mathlib.Core.Bool.{cond}
 use lib.Dec.{eqb, ltb}
 use lib.ListN.{length, set}
+use Rattle.refusals.specs.Refusals.{tableFull}
 use Rattle.lists.specs.Zeros.{zeros}
 use Rattle.prolog.specs.Prolog.{begin}
 use Rattle.prolog.specs.declared.Begin.{Begin}
@@ -41,7 +42,7 @@ sightBy doc n f = sight f (cond (eqb (f .refusal) 0) (sheetShown (rowsOf (f .kin
 -- into a table of n cells; one that has no room for a header is refused before the document is looked at
 unfoldable pub sheetViewed : List ℕ → ℕ → Sight
 sheetViewed doc n =
-    cond (ltb n (cellOf headerPairs)) (sight (refusedAt 4 0 begun) (zeros n)) (sightBy doc n (judged (viewRoom n) doc n))
+    cond (ltb n (cellOf headerPairs)) (sight (refusedAt tableFull 0 begun) (zeros n)) (sightBy doc n (judged (viewRoom n) doc n))
 
 -- ---- the exported function
 

@@ -14,6 +14,8 @@ use prolog::Begin;
 use prolog::first_item;
 use reader::Found;
 use reader::judge;
+use refusals::NO_REFUSAL;
+use refusals::TABLE_FULL;
 use slices::rest;
 use states::Room;
 use tables::clear_numbers;
@@ -21,6 +23,7 @@ use tables::set_number;
 ghost use mathlib.Core.Path.{_≡_};
 ghost use Prim.Native.Nat.{_+_, _≤_};
 ghost use lib.ListN.{length};
+ghost use Rattle.refusals.specs.Refusals.{tableFull};
 ghost use Rattle.states.specs.Moves.{begun};
 ghost use Rattle.reader.specs.Items.{itemsFrom};
 ghost use Rattle.reader.specs.Reading.{refusedAt};
@@ -29,10 +32,10 @@ ghost use Rattle.views.specs.Shown.{itemsShown};
 ghost use Rattle.views.specs.Views.{sheetShown, sight, sheetViewed, sixIn, viewsOf, PermittedViews};
 
 fn too_short() -> Found
-    ensures { λ r. ⌜ r ≡ refusedAt 4 0 begun ⌝ }
+    ensures { λ r. ⌜ r ≡ refusedAt tableFull 0 begun ⌝ }
 {
     Found {
-        refusal: 4,
+        refusal: TABLE_FULL,
         place: 0,
         kind: 0,
         series: 0,
@@ -91,7 +94,7 @@ fn view_sheet(doc: &[u8], t: &mut [u32]) -> Found
         return too_short();
     }
     let found = judge(doc, room_in(t.len()), t);
-    if found.refusal == 0 {
+    if found.refusal == NO_REFUSAL {
         let rows = every_row();
         show_sheet(doc, rows_of(&rows, found.kind), t);
     }
