@@ -10,7 +10,7 @@ use lib.IntN.{ℤ, pos, negsuc}
 use lib.ListN.{getD}
 use borrow.Author.Tests.{eqb-true}
 use Rattle.slices.specs.Bytes.{byte}
-use Rattle.pictures.specs.Picture.{digit}
+use Rattle.characters.specs.References.{digit}
 use Rattle.notes.specs.declared.Shape.the-variants.{Old}
 use Rattle.reader.specs.Answer.{Outcome, readOf}
 use Rattle.blindness.specs.Readable.{QtyDigit, DifferInQty}
