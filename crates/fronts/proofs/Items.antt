@@ -1,13 +1,13 @@
 -- The item at the front: it is whole within its list, and what stands behind it does not change it, nor what it says. Assumes nothing.
-use Prim.Native.Nat.{ℕ, suc, _+_, _≤_, _<_}
+use Prim.Native.Nat.{ℕ, _+_, _≤_, _<_}
 use mathlib.Core.Path.{_≡_, refl, sym, ap, _∙_}
-use mathlib.Core.List.{List, [], _∷_, _++_}
+use mathlib.Core.List.{List, _++_}
 use mathlib.Core.Bool.{Bool, true, false, cond}
 use mathlib.Core.Logic.{_⊎_, inl, inr, ⊎-elim}
 use native.Mathlib.Omega.{arith}
 use lib.Dec.{eqb, ltb}
-use lib.ListN.{length, take, drop, length-take, length-drop}
-use lib.Seq.{length-take-le, take-at, drop-at}
+use lib.ListN.{length, take, drop, length-drop}
+use lib.Seq.{take-at, drop-at}
 use borrow.Author.Tests.{eqb-true}
 use Rattle.lists.proofs.Cases.{bool-cases, eqb-cases, ltb-cases, by-cond}
 use Rattle.slices.specs.Bytes.{byte}
@@ -16,7 +16,7 @@ use Rattle.slices.specs.Run.{run}
 use Rattle.slices.specs.Same.{firstAt}
 use Rattle.slices.specs.Text.{text}
 use Rattle.slices.specs.declared.Span.{Span}
-use Rattle.slices.proofs.Bytes.{byte-there, byte-drop, byte-take}
+use Rattle.slices.proofs.Bytes.{byte-there, byte-drop}
 use Rattle.slices.proofs.Near.{Front, front-drop, take-front}
 use Rattle.characters.specs.Says.{allChars}
 use Rattle.characters.proofs.Low.{by-test}
@@ -35,6 +35,7 @@ use Rattle.digits.proofs.Pieces.{white-near, name-near, part-front}
 use Rattle.digits.proofs.Parts.{item-laid, tag-laid}
 use Rattle.digits.proofs.Items.{cond-same, white-first}
 use Rattle.fronts.specs.Front.{TextEnds, EndsBefore}
+use Rattle.fronts.proofs.Shares.{shared-front, shared-long}
 use Rattle.fronts.proofs.Searches.{first-front, upto, upto-within, upto-ends, upto-front, run-front}
 use Rattle.fronts.proofs.Tags.{ends-inside, ends-front}
 
@@ -306,8 +307,8 @@ module _ (before : ℕ) (s s′ : List ℕ) where
       held-same (w .some)
       (record {
         left = w .inside;
-        right = omega (arith, ap length q, length-take-le (itemEnd (item before s)) s (w .inside), length-take (itemEnd (item before s)) s′);
-        front = λ i l. sym (byte-take s (itemEnd (item before s)) i l) ∙ ap (λ (l : List ℕ). byte l i) (sym q) ∙ byte-take s′ (itemEnd (item before s)) i l;
+        right = shared-long s s′ (itemEnd (item before s)) q (w .inside);
+        front = shared-front s s′ (itemEnd (item before s)) q;
         ends = h;
       })
 
@@ -324,14 +325,27 @@ stands-within : (n e : ℕ) (x : Span) → Stands n e x → x .start + x .len �
 stands-within n e x (inl z) = omega (arith, z .0, z .1)
 stands-within n e x (inr z) = omega (arith, z .1)
 
+-- an item says the same in s and in s′
+unfoldable pub Says : Item → List ℕ → List ℕ → Type 0
+Says (Start t) s s′ = PartsSame t s s′ × (valueIn s (t .v) ≡ valueIn s′ (t .v))
+Says (Empty t) s s′ = PartsSame t s s′ × (valueIn s (t .v) ≡ valueIn s′ (t .v))
+Says (End n e) s s′ = partOf s 2 n ≡ partOf s′ 2 n
+Says (Text w e) s s′ = Unit {0}
+Says (Comment e) s s′ = Unit {0}
+Says (Unreadable p) s s′ = Unit {0}
+
 module _ (before : ℕ) (s s′ : List ℕ) where
-  -- each value of a tag
-  pub tag-says : (t : Tag) → IsTag (item before s) t → t .len ≤ length s → t .len ≤ length s′ → Front s s′ (t .len)
-      → PartsSame t s s′ × (valueIn s (t .v) ≡ valueIn s′ (t .v))
-  tag-says t is l l′ f =
+  -- parts that end where the item does, or before
+  part-said : (i : Item) → item before s ≡ i → itemRefusal i ≡ 0 → take (itemEnd i) s′ ≡ take (itemEnd i) s → (at n : ℕ) → at + n ≤ itemEnd i → partOf s at n ≡ partOf s′ at n
+  part-said i is r q at n h =
+      let w : Whole i s = rw is at (item-whole before s (rw is r)) in
+      sym (part-front s s′ (itemEnd i) (w .inside) (shared-long s s′ (itemEnd i) q (w .inside)) (shared-front s s′ (itemEnd i) q) at n h)
+
+  tag-says : (t : Tag) → IsTag (item before s) t → ((at n : ℕ) → at + n ≤ t .len → partOf s at n ≡ partOf s′ at n) → PartsSame t s s′ × (valueIn s (t .v) ≡ valueIn s′ (t .v))
+  tag-says t is h =
       let laid = tag-laid before s t is in (
         record {
-          name = sym (part-front s s′ (t .len) l l′ f 1 (t .name) (omega (arith, laid .name)));
+          name = h 1 (t .name) (omega (arith, laid .name));
           coding = part (t .coding) (laid .values .coding .stands);
           version = part (t .dtd .version) (laid .values .version .stands);
           release = part (t .dtd .release) (laid .values .release .stands);
@@ -341,8 +355,17 @@ module _ (before : ℕ) (s s′ : List ℕ) where
       )
     where
       part : (x : Span) → Stands (t .name) (t .len) x → valueIn s x ≡ valueIn s′ x
-      part x h = sym (part-front s s′ (t .len) l l′ f (x .start) (x .len) (stands-within (t .name) (t .len) x h))
+      part x stands = h (x .start) (x .len) (stands-within (t .name) (t .len) x stands)
 
-  pub end-says : (n e : ℕ) → item before s ≡ End n e → e ≤ length s → e ≤ length s′ → Front s s′ e → partOf s 2 n ≡ partOf s′ 2 n
-  unfolding Laid
-  end-says n e q l l′ f = let h : 2 + n < e = rw q at (item-laid before s) in sym (part-front s s′ e l l′ f 2 n (omega arith))
+  says-by : (i : Item) → item before s ≡ i → take (itemEnd i) s′ ≡ take (itemEnd i) s → Says i s s′
+  unfolding Says Laid
+  says-by (Start t) is q = tag-says t (inl is) (part-said (Start t) is refl q)
+  says-by (Empty t) is q = tag-says t (inr is) (part-said (Empty t) is refl q)
+  says-by (End n e) is q = let h : 2 + n < e = rw is at (item-laid before s) in part-said (End n e) is refl q 2 n (omega arith)
+  says-by (Text w e) is q = tt
+  says-by (Comment e) is q = tt
+  says-by (Unreadable p) is q = tt
+
+  -- where its bytes are the same
+  pub item-says : take (itemEnd (item before s)) s′ ≡ take (itemEnd (item before s)) s → Says (item before s) s s′
+  item-says q = says-by (item before s) refl q

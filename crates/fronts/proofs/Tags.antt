@@ -7,7 +7,6 @@ use native.Mathlib.Omega.{arith}
 use lib.ListN.{length}
 use Rattle.lists.proofs.Cases.{zero-not-one}
 use Rattle.slices.specs.Bytes.{byte}
-use Rattle.slices.specs.Part.{partOf}
 use Rattle.slices.specs.Run.{run}
 use Rattle.slices.proofs.Bytes.{byte-there}
 use Rattle.slices.proofs.Near.{Front}
