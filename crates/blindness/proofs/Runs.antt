@@ -63,7 +63,7 @@ unfolding stepOf withoutUsed step moved
 unread-stop doc series room at p s st = refl
 
 -- an amount is brought by the same value
-amounts-same : (v : Span) (s s′ : List ℕ) (st : State) (e : Entry) (t : List ℤ) → (e ≡ Amount → quoted v s ≡ quoted v s′)
+pub amounts-same : (v : Span) (s s′ : List ℕ) (st : State) (e : Entry) (t : List ℤ) → (e ≡ Amount → quoted v s ≡ quoted v s′)
     → amountsAfter v s st e t ≡ amountsAfter v s′ st e t
 unfolding amountsAfter amountsWith broughtBy
 amounts-same v s s′ st Nothing t q = refl

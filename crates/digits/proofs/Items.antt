@@ -35,7 +35,7 @@ use Rattle.digits.proofs.Pieces.{white-near, name-near}
 use Rattle.digits.proofs.Ends.{OneOf, one-behind, Left, same-ends}
 
 -- what is the same where a fact holds of what is chosen, is the same in a choice
-cond-same : {A : Type 0} (P : A → Type 0) (t : Bool) {a b a′ b′ : A} → (P a → a′ ≡ a) → (P b → b′ ≡ b) → P (cond t a b) → cond t a′ b′ ≡ cond t a b
+pub cond-same : {A : Type 0} (P : A → Type 0) (t : Bool) {a b a′ b′ : A} → (P a → a′ ≡ a) → (P b → b′ ≡ b) → P (cond t a b) → cond t a′ b′ ≡ cond t a b
 cond-same P true f g h = f h
 cond-same P false f g h = g h
 
@@ -82,7 +82,7 @@ unfolding run white
 white-tag s = refl
 
 -- white space ends before `<`
-white-first : (s : List ℕ) → run white s ≤ firstAt (text "<") s
+pub white-first : (s : List ℕ) → run white s ≤ firstAt (text "<") s
 unfolding run
 white-first [] = omega arith
 white-first (b ∷ s) =

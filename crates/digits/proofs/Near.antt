@@ -17,7 +17,7 @@ use Rattle.characters.specs.Says.{referred, standing, met, charOf}
 use Rattle.characters.specs.declared.Char.{Char}
 use Rattle.characters.specs.declared.Char.the-variants.{Is, NoChar}
 use Rattle.characters.proofs.Low.{char-low, char-near}
-use Rattle.characters.proofs.Units.{met-reference, met-standing, reference-front, Unit′, stands, refers, unit-is, unit-some, unit-inside}
+use Rattle.characters.proofs.Units.{met-reference, met-standing, reference-front, Unit′, stands, refers, unit-is, unit-some}
 use Rattle.attributes.specs.Attribute.{fit, standingNext, referredNext, valueNext, valueOver, value}
 use Rattle.attributes.specs.declared.Value.{Value}
 use Rattle.attributes.specs.declared.Value.the-variants.{Long, Broken}
@@ -97,23 +97,22 @@ module _ (q : ℕ) (small : q < 0x80) where
   unfolding value
   value-closes x m e = closes x 0 0 m m e refl
 
-  near : (x y : List ℕ) (k at m : ℕ) → length x ≡ length y → valueFrom at k x ≡ Long m → ((i : ℕ) → i + at ≤ m + k → byte x i ≡ byte y i) → valueFrom at k y ≡ Long m
+  near : (x y : List ℕ) (k at m : ℕ) → m + k < at + length y → valueFrom at k x ≡ Long m → ((i : ℕ) → i + at ≤ m + k → byte x i ≡ byte y i) → valueFrom at k y ≡ Long m
   unfolding walk valueOver byte
   near [] y k at m l e h = absurd (not-long m e)
-  near (c ∷ x) [] k at m l e h = absurd (omega arith)
+  near (c ∷ x) [] k at m l e h = let r = value-from (c ∷ x) k at m e in absurd (omega arith)
   near (c ∷ x) (d ∷ y) (suc k) at m l e h = near x y k at m (omega arith) e (λ i g. h (suc i) (omega arith))
   near (c ∷ x) (d ∷ y) zero at m l e h = by (value-next at c x m e) (near x y)
     where
-      by : Next at c x m → ((k at m : ℕ) → length x ≡ length y → valueFrom at k x ≡ Long m → ((i : ℕ) → i + at ≤ m + k → byte x i ≡ byte y i) → valueFrom at k y ≡ Long m)
+      by : Next at c x m → ((k at m : ℕ) → m + k < at + length y → valueFrom at k x ≡ Long m → ((i : ℕ) → i + at ≤ m + k → byte x i ≡ byte y i) → valueFrom at k y ≡ Long m)
           → valueFrom at zero (d ∷ y) ≡ Long m
       by (ended g u s z) f = rw (walk, met-front (c ∷ x) (d ∷ y) g (omega arith) (λ i v. h i (omega arith)), s) (ap Long z)
       by (passed ch n g s z) f =
           let r = value-from x (pred n) (at + n) m z in
           let u = unit-some (c ∷ x) g in
-          let w = unit-inside (c ∷ x) g in
           rw (walk, met-front (c ∷ x) (d ∷ y) g (omega arith) (λ i v. h i (omega arith)), s)
           (f (pred n) (at + n) m (omega arith) z (λ i v. h (suc i) (omega arith)))
 
-  pub value-near : (x y : List ℕ) (m : ℕ) → length x ≡ length y → value q x ≡ Long m → Front x y (m + 1) → value q y ≡ Long m
+  pub value-near : (x y : List ℕ) (m : ℕ) → m < length y → value q x ≡ Long m → Front x y (m + 1) → value q y ≡ Long m
   unfolding value
-  value-near x y m l e h = near x y 0 0 m l e (λ i g. h i (omega arith))
+  value-near x y m l e h = near x y 0 0 m (omega arith) e (λ i g. h i (omega arith))

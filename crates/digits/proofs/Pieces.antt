@@ -1,24 +1,25 @@
 -- The piece of a tag at the front of two lists is the same where its bytes are, its value left aside. Assumes nothing.
-use Prim.Native.Nat.{ℕ, zero, suc, _+_, _<_}
+use Prim.Native.Nat.{ℕ, zero, suc, _+_, _≤_, _<_}
 use mathlib.Core.Path.{_≡_, refl, sym, ap, _∙_}
 use mathlib.Core.List.{List, [], _∷_, _++_}
 use mathlib.Core.Bool.{true, false}
 use mathlib.Core.Logic.{⊎-elim}
 use native.Mathlib.Omega.{arith}
 use lib.Dec.{eqb}
-use lib.ListN.{length, take, drop, length-append}
+use lib.ListN.{length, take, drop, length-append, length-drop}
 use lib.Seq.{length-take-le, split-at}
 use Rattle.lists.proofs.Cases.{bool-cases}
 use Rattle.slices.specs.Bytes.{byte}
+use Rattle.slices.specs.Part.{partOf}
 use Rattle.slices.specs.Run.{run}
 use Rattle.attributes.specs.Names.{nameByte, white}
 use Rattle.attributes.specs.Attribute.{quote, value, openingFrom, opening, attributeQuote, attributeName, attribute, pieceAfter, piece}
 use Rattle.attributes.specs.declared.Piece.the-variants.{Close, CloseEmpty}
 use Rattle.attributes.specs.declared.Value.the-variants.{Long}
 use Rattle.attributes.proofs.Values.{quote-range}
-use Rattle.slices.proofs.Bytes.{byte-there}
+use Rattle.slices.proofs.Bytes.{byte-there, byte-drop}
 use Rattle.digits.specs.Unseen.{Unseen}
-use Rattle.slices.proofs.Near.{Front, front-drop, long-drop, run-near}
+use Rattle.slices.proofs.Near.{Front, front-drop, run-near, take-front}
 use Rattle.digits.proofs.Near.{value-closes, value-near}
 use Rattle.digits.proofs.Spans.{AttributeLaid, PieceLaid}
 
@@ -36,6 +37,13 @@ white-near x y a h = run-near white none-white (drop a x) (drop a y) (front-drop
 
 pub name-near : (x y : List ℕ) (a : ℕ) → Front x y (a + (run nameByte (drop a x) + 1)) → run nameByte (drop a y) ≡ run nameByte (drop a x)
 name-near x y a h = run-near nameByte none-name (drop a x) (drop a y) (front-drop x y a _ h)
+
+-- a part of both, where both are long enough
+pub part-front : (x y : List ℕ) (e : ℕ) → e ≤ length x → e ≤ length y → Front x y e → (at n : ℕ) → at + n ≤ e → partOf y at n ≡ partOf x at n
+unfolding partOf
+part-front x y e lx ly f at n h =
+    take-front (drop at y) (drop at x) n (rw (length-drop at y) (omega arith)) (rw (length-drop at x) (omega arith))
+    (λ i g. byte-drop y at i ∙ sym (f (at + i) (omega arith)) ∙ sym (byte-drop x at i))
 
 opening-near : (x y : List ℕ) (a : ℕ) → 0 < opening x a → Front x y (opening x a + 1) → opening y a ≡ opening x a
 unfolding opening openingFrom
@@ -74,8 +82,7 @@ value-same u q x y m t long v r e =
     let xs : x ≡ take m x ++ q ∷ drop (suc m) x = split-at x m 0 l ∙ ap (λ (z : ℕ). take m x ++ z ∷ drop (suc m) x) c in
     let ys : y ≡ take m y ++ q ∷ drop (suc m) y = split-at y m 0 (omega arith) ∙ ap (λ (z : ℕ). take m y ++ z ∷ drop (suc m) y) (sym e ∙ c) in
     let w = u .whole r q (drop (suc m) x) t (sym (ap (value q) xs) ∙ v ∙ ap Long (sym a)) in
-    let n : length (take m y ++ q ∷ drop (suc m) x) ≡ length (take m y ++ q ∷ drop (suc m) y) =
-    length-append (take m y) (q ∷ drop (suc m) x) ∙ rw (long-drop x y (suc m) long) (sym (length-append (take m y) (q ∷ drop (suc m) y))) in
+    let n : length (take m y) < length (take m y ++ q ∷ drop (suc m) y) = rw (length-append (take m y) (q ∷ drop (suc m) y)) (omega arith) in
     ap (value q) ys ∙ value-near q (small .0) _ _ (length (take m y)) n w (prefix-front (take m y) q (drop (suc m) x) (drop (suc m) y)) ∙ ap Long b
 
 -- ---- pieces
@@ -97,10 +104,11 @@ module _ (x y : List ℕ) where
       rw (white, a .white, ← f w (omega arith), ← f (w + 1) (omega arith), attribute-near w n o m a f e)
 
   -- and where its value is the same too
-  pub piece-whole : (w n o m : ℕ) → length x ≡ length y → AttributeLaid x w n o m → Front x y (o + 1 + (m + 1)) → piece y ≡ piece x
+  pub piece-whole : (w n o m : ℕ) → o + 1 + m < length y → AttributeLaid x w n o m → Front x y (o + 1 + (m + 1)) → piece y ≡ piece x
   piece-whole w n o m long a f =
       piece-near w n o m a (λ i l. f i (omega arith))
-      (value-near (byte x o) (quote-small (byte x o) (a .quotes) .0) (drop (o + 1) x) (drop (o + 1) y) m (long-drop x y (o + 1) long) (a .value) (front-drop x y (o + 1) (m + 1) f))
+      (value-near (byte x o) (quote-small (byte x o) (a .quotes) .0) (drop (o + 1) x) (drop (o + 1) y) m (rw (length-drop (o + 1) y) (omega arith)) (a .value)
+      (front-drop x y (o + 1) (m + 1) f))
 
   pub close-near : (n : ℕ) → PieceLaid x (Close n) → Front x y n → piece y ≡ Close n
   unfolding piece pieceAfter PieceLaid

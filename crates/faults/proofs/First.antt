@@ -123,11 +123,11 @@ module _ (doc : List ℕ) (ns np na : ℕ) (shape : Shape) (nb : ℕ) (wide : 16
   abbrev answer : Answer
   answer = readOf doc ns np na shape nb .answer
 
-  refusal-is : answer .refusal ≡ readInto doc (blank ns np na) .found .refusal
+  pub refusal-is : answer .refusal ≡ readInto doc (blank ns np na) .found .refusal
   unfolding noted told answerOf
   refusal-is = ap (λ (o : Outcome). o .answer .refusal) (sym (read-noted doc ns np na shape nb wide)) ∙ ap (λ (f : Found). f .refusal) (sheet-found doc ns np na short)
 
-  place-is : answer .place ≡ readInto doc (blank ns np na) .found .place
+  pub place-is : answer .place ≡ readInto doc (blank ns np na) .found .place
   unfolding noted told answerOf
   place-is = ap (λ (o : Outcome). o .answer .place) (sym (read-noted doc ns np na shape nb wide)) ∙ ap (λ (f : Found). f .place) (sheet-found doc ns np na short)
 

@@ -3,3 +3,5 @@ pub mod Steps
 pub mod Turns
 pub mod Named
 pub mod First
+pub mod Shared
+pub mod After

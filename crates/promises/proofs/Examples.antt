@@ -1,24 +1,25 @@
 -- The table of examples and the accepted documents, by computation: every definition on the way is unfolded. Assumes nothing.
-use Prim.Native.Nat.{ℕ, _≤_}
-use mathlib.Core.List.{List, [], _∷_}
+use Prim.Native.Nat.{ℕ, _+_, _≤_}
+use mathlib.Core.List.{List, [], _∷_, _++_}
 use mathlib.Core.Path.{_≡_, refl, sym, ap, subst, _∙_}
 use mathlib.Core.Logic.{inl, inr}
 use native.Mathlib.Omega.{arith}
-use lib.ListN.{length}
+use lib.ListN.{length, take, drop}
 use Rattle.slices.specs.Text.{text}
 use Rattle.slices.specs.Bytes.{byte}
 use Rattle.slices.specs.Run.{run}
-use Rattle.slices.specs.Same.{same, begins}
+use Rattle.slices.specs.Same.{same, begins, seek, here, firstAt}
 use Rattle.slices.specs.Walk.{walk}
 use Rattle.characters.specs.Utf8.{seqLen, control, single, charAt}
-use Rattle.characters.specs.Says.{met, charOf, saidBy, saidAt, saysAfter, says}
+use Rattle.characters.specs.Says.{charNext, charsOver, allChars, met, charOf, saidBy, saidAt, saysAfter, says}
 use Rattle.attributes.specs.Names.{nameStart, nameByte, white}
 use Rattle.slices.specs.Part.{partOf}
 use Rattle.attributes.specs.Attribute.{quote, fit, standingNext, valueNext, valueOver, value, openingFrom, opening, attributeEnd, attributeQuote, attributeName, attribute, pieceAfter, piece}
 use Rattle.tags.specs.Known.{absent, passedOver, dtdName, noDtd, withDtd, noneKnown, upToTwo as anotherKnown, withAttribute as notedKnown}
 use Rattle.tags.specs.Tail.{onto, endsAfter, ends, keptOf, named, twice}
 use Rattle.items.specs.Parts.{spanOf}
-use Rattle.items.specs.Item.{endClose, endName, endTag, tagOf, tagItem, startTag, item}
+use Rattle.items.specs.Text.{textTo, textItem}
+use Rattle.items.specs.Item.{endClose, endName, endTag, tagOf, tagItem, startTag, item, itemEnd}
 use Rattle.prolog.specs.Prolog.{markLen, beginAfter, begin}
 use Rattle.characters.specs.References.{digit}
 use Rattle.pictures.specs.Picture.{capital, capitalOrDigit, partyChar, firstThree, takes, held, fitsOf}
@@ -54,14 +55,16 @@ use Rattle.reader.specs.Answer.{Outcome, noteFor, answerOf, told, noted, readOf
 use mathlib.Core.Bool.{true}
 use Rattle.promises.specs.Examples.{examples, allPass}
 use Rattle.promises.specs.Day.{twoDigits, intervalTexts, shortDay, countedFrom, dayOutcome}
-use Rattle.promises.specs.Sheet.{sheet, sheetOutcome, dearerSheet, dearerOutcome, twiceSheet, twiceAnswer, constraintSheet, constraintOutcome, withdrawnSheet, withdrawnOutcome}
+use Rattle.promises.specs.Sheet.{sheet, sheetOutcome, dearerSheet, dearerOutcome, twiceSheet, twiceAnswer, brokenSheet, longerSheet, numberAndPlace, constraintSheet, constraintOutcome, withdrawnSheet, withdrawnOutcome}
 use Rattle.slices.specs.declared.Span.{Span}
 use Rattle.blindness.specs.Readable.{tagNamed}
 use Rattle.blindness.specs.Sources.{valueAt}
 use Rattle.blindness.specs.Renamed.{valuesNamed, valuesNamedAfter, identificationsIn}
 use Rattle.reader.specs.declared.Answer.{Answer}
+use Rattle.fronts.specs.Front.{TextEnds, EndsBefore}
 use Rattle.faults.specs.Faults.{Clause, HasFault, hasValue, valueNumber, valueCode, schemeOutside, startClauses, startFaults, faultsBy, faultsOf, FirstIn, NoneIn}
 use Rattle.faults.proofs.First.{first-named, accepted-faultless}
+use Rattle.faults.proofs.After.{nothing-behind}
 use Rattle.trees.specs.Trees.{Trees}
 use Rattle.contents.specs.Said.{TagSaid}
 use Rattle.contents.specs.Spelled.{Spells}
@@ -95,6 +98,11 @@ computed : (allPass examples ≡ true) × (readOf sheet 25 4 4 Old 16 ≡ sheetO
     × (HasFault threefold 3 × HasFault threefold 5 × HasFault threefold 6) × (length twiceSheet ≡ 1387)
     × (readOf dearerSheet 25 4 4 Old 16 ≡ dearerOutcome) × (qtyAfter sheet (begin sheet) qtyPlace ≡ true)
     × (readOf shortDay 12 92 92 Old 16 ≡ dayOutcome) × (readOf [] 25 4 4 Old 16 .answer .refusal ≡ 3)
+    × ((length brokenSheet ≡ 961) × (itemEnd (item 926 (drop 926 twiceSheet)) ≡ 34) × (take 960 brokenSheet ≡ take 960 twiceSheet)
+    × EndsBefore (item 926 (drop 926 twiceSheet)) (text "&"))
+    × ((numberAndPlace (readOf (take 926 twiceSheet) 25 4 4 Old 16) ≡ (3, 926)) × (numberAndPlace (readOf longerSheet 25 4 4 Old 16) ≡ (3, 1387)))
+    × ((numberAndPlace (readOf (text "<a") 0 0 0 Old 16) ≡ (2, 0)) × (numberAndPlace (readOf (text "<a>") 0 0 0 Old 16) ≡ (3, 0)))
+    × ((numberAndPlace (readOf (text "a") 0 0 0 Old 16) ≡ (3, 0)) × (numberAndPlace (readOf (text "a&") 0 0 0 Old 16) ≡ (2, 0)))
 unfolding byte run same begins walk seqLen control single charAt met charOf saidBy saidAt saysAfter says nameStart nameByte white quote fit standingNext valueNext valueOver
     value openingFrom opening attributeEnd attributeQuote attributeName attribute pieceAfter piece partOf absent passedOver dtdName noDtd withDtd noneKnown anotherKnown
     notedKnown onto endsAfter ends keptOf named twice endClose endName endTag tagOf tagItem startTag item markLen beginAfter begin capital
@@ -114,6 +122,7 @@ unfolding byte run same begins walk seqLen control single charAt met charOf said
     depthOf heightIn endedAt withoutUsed stepOf tablesAfter readItems roomIn itemsRead readAfter readInto orBlank readSheet noteFor answerOf told noted readOf
     identificationsIn valuesNamedAfter valuesNamed tagNamed valueAt faultsOf faultsBy startFaults startClauses hasValue valueNumber valueCode schemeOutside HasFault
     twoDigits intervalTexts countedFrom party partyChar qtyAfter qtyAt inQty openAt opened
+    firstAt seek here textItem textTo charNext charsOver allChars TextEnds EndsBefore
 computed = (
   refl,
   refl,
@@ -127,6 +136,10 @@ computed = (
   refl,
   refl,
   refl,
+  (refl, refl, refl, tt),
+  (refl, refl),
+  (refl, refl),
+  (refl, refl),
 )
 
 -- "P1 to P12 form a single table with a single proved statement."
@@ -175,6 +188,24 @@ twice-first =
     let l = computed .7 in
     let h = first-named twiceSheet 25 4 4 Old 16 (omega arith) (omega (arith, l)) (λ z. omega (arith, r, z)) in
     subst (λ (n : ℕ). FirstIn twiceSheet 25 4 4 n 926) r (subst (FirstIn twiceSheet 25 4 4 (readOf twiceSheet 25 4 4 Old 16 .answer .refusal)) p h)
+
+-- a document that shares all up to the end of the faulty item has the same outcome
+pub broken-read : readOf brokenSheet 25 4 4 Old 16 ≡ readOf twiceSheet 25 4 4 Old 16
+broken-read =
+    let c = computed .12 in
+    let size : 926 + itemEnd (item 926 (drop 926 twiceSheet)) ≡ 960 = omega (arith, c .1) in
+    nothing-behind twiceSheet 25 4 4 Old 16 (omega (arith, computed .7)) 926 (ap (λ (a : Answer). a .place) twice-read) brokenSheet (omega (arith, c .0))
+    (rw size (c .2)) (rw size (c .3))
+
+-- cut before its fault a document is refused at its end; or accepted, where the fault stands behind the root's end
+pub cut-read : (numberAndPlace (readOf (take 926 twiceSheet) 25 4 4 Old 16) ≡ (3, 926))
+    × ((numberAndPlace (readOf longerSheet 25 4 4 Old 16) ≡ (3, 1387)) × (readOf (take 1387 longerSheet) 25 4 4 Old 16 ≡ sheetOutcome))
+cut-read = (computed .13 .0, (computed .13 .1, sheet-read))
+
+-- what follows may make an unreadable item readable, and a text unreadable
+pub ends-needed : (numberAndPlace (readOf (text "<a") 0 0 0 Old 16) ≡ (2, 0)) × (numberAndPlace (readOf (text "<a>") 0 0 0 Old 16) ≡ (3, 0))
+    × (numberAndPlace (readOf (text "a") 0 0 0 Old 16) ≡ (3, 0)) × (numberAndPlace (readOf (text "a&") 0 0 0 Old 16) ≡ (2, 0))
+ends-needed = (computed .14 .0, computed .14 .1, computed .15 .0, computed .15 .1)
 
 -- a document that is accepted, and is told to be no longer than a document may be, spells a legal content of the kind that is told
 content-of : (doc : List ℕ) (ns np na kind : ℕ) → readOf doc ns np na Old 16 .answer .refusal ≡ 0 → readOf doc ns np na Old 16 .answer .place ≤ 1048576

@@ -1,13 +1,14 @@
 -- What is promised of the document reader. Its contract says that the answer and the four lent buffers are exactly those of `readOf`, the definition in
 -- reader/specs/Answer.antt; here is what holds of `readOf`, for all documents and all lengths of the lent buffers. Each promise is proved by one
 -- citation; above it stands the sentence that it means. Assumes nothing.
-use Prim.Native.Nat.{ℕ, _≤_, _<_}
+use Prim.Native.Nat.{ℕ, _+_, _≤_, _<_}
 use mathlib.Core.Path.{_≡_}
 use mathlib.Core.List.{List}
 use mathlib.Core.Logic.{_⊎_}
 use mathlib.Core.Bool.{true}
 use lib.IntN.{ℤ, pos}
-use lib.ListN.{length, take, getD}
+use lib.ListN.{length, take, drop, getD}
+use Rattle.slices.specs.Text.{text}
 use Rattle.lists.specs.Zeros.{zeros, padded}
 use Rattle.notes.specs.Note.{noteOf, tellsIn}
 use Rattle.notes.specs.Reader.{noteIn}
@@ -26,8 +27,12 @@ use Rattle.blindness.specs.Readable.{DifferInQty}
 use Rattle.blindness.specs.Blind.{OwnDigitsDiffer}
 use Rattle.blindness.specs.Renamed.{IdsReplaced, Renamed}
 use Rattle.blindness.proofs.Outcomes.{two-runs}
+use Rattle.prolog.specs.Prolog.{begin}
+use Rattle.items.specs.Item.{item, itemEnd}
+use Rattle.fronts.specs.Front.{EndsBefore}
 use Rattle.faults.specs.Faults.{HasFault, FirstIn, NoneIn}
 use Rattle.faults.proofs.First.{first-named, first-refused, faultless-accepted, accepted-faultless}
+use Rattle.faults.proofs.After.{cut-ended, nothing-behind, same-fault}
 use Rattle.trees.specs.Trees.{Trees, none}
 use Rattle.contents.specs.Said.{TagSaid}
 use Rattle.contents.specs.Spelled.{Spells, SpellAlike}
@@ -42,10 +47,10 @@ use Rattle.guideline.specs.Rows.{rowsOf}
 use Rattle.promises.specs.Items.{before, starts, kindIn, intervalElement, itemsIn, PlaceOf, startTags, endTags, openBefore}
 use Rattle.promises.specs.Examples.{examples, allPass}
 use Rattle.promises.specs.Day.{shortDay, dayOutcome}
-use Rattle.promises.specs.Sheet.{sheet, sheetOutcome, dearerSheet, dearerOutcome, renamedSheet, twiceSheet, twiceAnswer, constraintSheet, constraintOutcome, withdrawnSheet, withdrawnOutcome}
+use Rattle.promises.specs.Sheet.{sheet, sheetOutcome, dearerSheet, dearerOutcome, renamedSheet, twiceSheet, twiceAnswer, brokenSheet, longerSheet, numberAndPlace, constraintSheet, constraintOutcome, withdrawnSheet, withdrawnOutcome}
 use Rattle.promises.proofs.Answers.{ten-is, ten-only, long-is, long-only, refusal-clears, refusal-known, place-within, place-told, accepted-whole, counts-within, cells-past, rows-kept, counts-told, note-told, open-told}
 use Rattle.promises.proofs.Faces.{two-calls, two-replies, renamed-runs, renamed-calls, renamed-replies}
-use Rattle.promises.proofs.Examples.{examples-pass, day-read, day-content, sheet-read, sheet-content, dearer-read, twice-read, constraint-read, withdrawn-read, constraint-content, withdrawn-content, threefold, three-at-once, twice-first, sheet-faultless}
+use Rattle.promises.proofs.Examples.{examples-pass, day-read, day-content, sheet-read, sheet-content, dearer-read, twice-read, constraint-read, withdrawn-read, constraint-content, withdrawn-content, threefold, three-at-once, twice-first, sheet-faultless, broken-read, cut-read, ends-needed}
 use Rattle.promises.specs.Fakes.{Promised, theReader, refusesEverything, oneAnswer, doesNothing, firstSeriesOnly, inventsCounts}
 use Rattle.promises.proofs.Fakes.{reader-meets, refusing-fails, answering-fails, idling-fails, pretending-fails, inventing-fails}
 use Rattle.promises.proofs.Dearer.{sheet-dearer, sheets-differ, amount-differs}
@@ -164,6 +169,24 @@ module _ (doc : List ℕ) (ns np na : ℕ) (shape : Shape) (nb : ℕ) where
   pub faultless-exactly : 16 ≤ nb → length doc ≤ 1048576 → (NoneIn doc ns np na → outcome .answer .refusal ≡ 0) × (outcome .answer .refusal ≡ 0 → NoneIn doc ns np na)
   faultless-exactly wide small = (faultless-accepted doc ns np na shape nb wide small, accepted-faultless doc ns np na shape nb wide small)
 
+  -- "The first item with a fault decides": the items before it have none. A document cut before its faulty item is accepted, or refused with 3 at its end
+  pub cut-before-fault : 16 ≤ nb → length doc ≤ 1048576 → (p : ℕ) → outcome .answer .place ≡ p
+      → (readOf (take p doc) ns np na shape nb .answer .refusal ≡ 0)
+      ⊎ ((readOf (take p doc) ns np na shape nb .answer .refusal ≡ 3) × (readOf (take p doc) ns np na shape nb .answer .place ≡ p))
+  cut-before-fault wide small p at = cut-ended doc ns np na shape nb small p at wide
+
+  -- and what stands behind it decides nothing: a document y with the same bytes up to the end of the faulty item, which ends there in y too, has the same answer, tables and note
+  pub nothing-behind-matters : length doc ≤ 1048576 → (y : List ℕ) → length y ≤ 1048576 → (p : ℕ) → outcome .answer .place ≡ p
+      → take (p + itemEnd (item p (drop p doc))) y ≡ take (p + itemEnd (item p (drop p doc))) doc
+      → EndsBefore (item p (drop p doc)) (drop (p + itemEnd (item p (drop p doc))) y) → readOf y ns np na shape nb ≡ outcome
+  nothing-behind-matters small y short p at = nothing-behind doc ns np na shape nb small p at y short
+
+  -- an unreadable item has no end that is its own: y has the same bytes up to its first one, an unreadable item there too, and begins its items where the document does
+  pub same-fault-same-outcome : length doc ≤ 1048576 → (y : List ℕ) → length y ≤ 1048576 → (p : ℕ) → outcome .answer .place ≡ p → p < length doc → begin y ≡ begin doc
+      → take (p + itemEnd (item p (drop p doc))) y ≡ take (p + itemEnd (item p (drop p doc))) doc → item p (drop p y) ≡ item p (drop p doc)
+      → readOf y ns np na shape nb ≡ outcome
+  same-fault-same-outcome small y short p at = same-fault doc ns np na shape nb small p at y short
+
 -- demand 2 as it is asked of any reader, `accepted-exactly` and `counts-of-start-tags`, is met by this one
 pub reader-promised : Promised theReader
 reader-promised = reader-meets
@@ -176,6 +199,16 @@ fakes-rejected = (refusing-fails, answering-fails, idling-fails, pretending-fail
 -- there are documents of both sorts, and an item with three faults at once
 pub a-first-fault : FirstIn twiceSheet 25 4 4 9 926 × NoneIn sheet 25 4 4 × (HasFault threefold 3 × HasFault threefold 5 × HasFault threefold 6)
 a-first-fault = (twice-first, sheet-faultless, three-at-once)
+
+-- a sheet that is refused for a tag, cut before the tag, and with anything behind the tag; and one with a fault behind its end
+pub a-sheet-cut : (numberAndPlace (readOf (take 926 twiceSheet) 25 4 4 Old 16) ≡ (3, 926)) × (readOf brokenSheet 25 4 4 Old 16 ≡ readOf twiceSheet 25 4 4 Old 16)
+    × ((numberAndPlace (readOf longerSheet 25 4 4 Old 16) ≡ (3, 1387)) × (readOf (take 1387 longerSheet) 25 4 4 Old 16 ≡ sheetOutcome))
+a-sheet-cut = (cut-read .0, broken-read, cut-read .1)
+
+-- that the item ends is needed: what follows may make an unreadable item readable, and a text unreadable
+pub end-needed : (numberAndPlace (readOf (text "<a") 0 0 0 Old 16) ≡ (2, 0)) × (numberAndPlace (readOf (text "<a>") 0 0 0 Old 16) ≡ (3, 0))
+    × (numberAndPlace (readOf (text "a") 0 0 0 Old 16) ≡ (3, 0)) × (numberAndPlace (readOf (text "a&") 0 0 0 Old 16) ≡ (2, 0))
+end-needed = ends-needed
 
 -- a legal content of each kind: those of the day, of the sheet, and of the two constraints above
 pub a-day-content : (c : Trees TagSaid) × Spells shortDay 1 c × Legal 1 c × HasRoom (roomOf 12 92 92) 1 c

@@ -3,6 +3,7 @@
 use Prim.Native.Nat.{ℕ}
 use mathlib.Core.List.{List, [], _∷_, _++_}
 use lib.IntN.{ℤ, pos, negsuc}
+use lib.ListN.{take}
 use Rattle.slices.specs.Text.{text}
 use Rattle.reader.specs.Answer.{Outcome}
 use Rattle.reader.specs.declared.Answer.{Answer}
@@ -74,6 +75,17 @@ dearerOutcome = outcomeWith (pos 9500)
 -- "9: TimeSeriesIdentification used before in this document", at the second one
 abbrev pub twiceAnswer : Answer
 twiceAnswer = record { refusal = 9; place = 926; kind = 2; series = 2; intervals = 1; quarters = 0; note = 6 }
+
+-- it up to the end of that tag, and then anything
+abbrev pub brokenSheet : List ℕ
+brokenSheet = take 960 twiceSheet ++ text "&"
+
+-- the sheet, and a tag behind its end
+abbrev pub longerSheet : List ℕ
+longerSheet = sheet ++ text "<a/>"
+
+abbrev pub numberAndPlace : Outcome → ℕ × ℕ
+numberAndPlace o = (o .answer .refusal, o .answer .place)
 
 -- A NetworkConstraintDocument of two series, an A77 and a B59, and one that withdraws and has none.
 abbrev pub constraintHead : List ℕ
