@@ -93,7 +93,7 @@ module _ (before : ℕ) (x y : List ℕ) (k : ℕ) (long : k ≤ length x → k 
   encoded-by a (CloseEmpty n) is l q = let s = declared-same a q in (rw (torn-at (drop a y) (s .mark)) (s .ends), s .low, s .inside)
   encoded-by a Torn is l q = let s = declared-same a q in (rw (torn-at (drop a y) (s .mark)) (s .ends), s .low, s .inside)
 
-  declaration-by : (p : Piece) → piece (drop 5 x) ≡ p → PieceLaid (drop 5 x) p → declarationBy before x p ≡ From k → (declaration before y ≡ From k) × (k ≤ length x)
+  declaration-by : (p : Piece) → piece (drop 5 x) ≡ p → PieceLaid (drop 5 x) p → declarationBy before x p ≡ From k → (declaration before y ≡ From k) × (k ≤ length x) × (5 ≤ k)
   unfolding declaration declarationBy encoded PieceLaid
   declaration-by (Attribute w n v m e) is l q =
       let name = reached (same (partOf (drop 5 x) w n) (text "version")) (not-from before k) q in
@@ -101,12 +101,12 @@ module _ (before : ℕ) (x y : List ℕ) (k : ℕ) (long : k ≤ length x → k 
       let rest = encoded-by (5 + e) (piece (drop (5 + e) x)) refl (piece-laid (drop (5 + e) x)) (value .1) in
       let en = part-behind (rest .2) 5 w n (omega (arith, l .1, l .2, l .3 .behind, rest .1)) in
       let ev = part-behind (rest .2) 5 v m (omega (arith, l .2, rest .1)) in
-      (rw (piece-behind (rest .2) 5 w n v m e is l (rest .1)) (rw (en, name .0, ev, value .0) (rest .0)), rest .2)
+      (rw (piece-behind (rest .2) 5 w n v m e is l (rest .1)) (rw (en, name .0, ev, value .0) (rest .0)), rest .2, omega (arith, rest .1))
   declaration-by (Close n) is l q = absurd (not-from before k q)
   declaration-by (CloseEmpty n) is l q = absurd (not-from before k q)
   declaration-by Torn is l q = absurd (not-from before k q)
 
-  pub declaration-same : declaration before x ≡ From k → (declaration before y ≡ From k) × (k ≤ length x)
+  pub declaration-same : declaration before x ≡ From k → (declaration before y ≡ From k) × (k ≤ length x) × (5 ≤ k)
   unfolding declaration
   declaration-same q = declaration-by (piece (drop 5 x)) refl (piece-laid (drop 5 x)) q
 

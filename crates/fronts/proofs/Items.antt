@@ -6,8 +6,8 @@ use mathlib.Core.Bool.{Bool, true, false, cond}
 use mathlib.Core.Logic.{_⊎_, inl, inr, ⊎-elim}
 use native.Mathlib.Omega.{arith}
 use lib.Dec.{eqb, ltb}
-use lib.ListN.{length, take, drop, length-take, length-drop}
-use lib.Seq.{length-take-le, take-at, drop-at}
+use lib.ListN.{length, take, drop, length-drop}
+use lib.Seq.{take-at, drop-at}
 use borrow.Author.Tests.{eqb-true}
 use Rattle.lists.proofs.Cases.{bool-cases, eqb-cases, ltb-cases, by-cond}
 use Rattle.slices.specs.Bytes.{byte}
@@ -16,7 +16,7 @@ use Rattle.slices.specs.Run.{run}
 use Rattle.slices.specs.Same.{firstAt}
 use Rattle.slices.specs.Text.{text}
 use Rattle.slices.specs.declared.Span.{Span}
-use Rattle.slices.proofs.Bytes.{byte-there, byte-drop, byte-take}
+use Rattle.slices.proofs.Bytes.{byte-there, byte-drop}
 use Rattle.slices.proofs.Near.{Front, front-drop, take-front}
 use Rattle.characters.specs.Says.{allChars}
 use Rattle.characters.proofs.Low.{by-test}
@@ -35,6 +35,7 @@ use Rattle.digits.proofs.Pieces.{white-near, name-near, part-front}
 use Rattle.digits.proofs.Parts.{item-laid, tag-laid}
 use Rattle.digits.proofs.Items.{cond-same, white-first}
 use Rattle.fronts.specs.Front.{TextEnds, EndsBefore}
+use Rattle.fronts.proofs.Shares.{shared-front, shared-long}
 use Rattle.fronts.proofs.Searches.{first-front, upto, upto-within, upto-ends, upto-front, run-front}
 use Rattle.fronts.proofs.Tags.{ends-inside, ends-front}
 
@@ -306,8 +307,8 @@ module _ (before : ℕ) (s s′ : List ℕ) where
       held-same (w .some)
       (record {
         left = w .inside;
-        right = omega (arith, ap length q, length-take-le (itemEnd (item before s)) s (w .inside), length-take (itemEnd (item before s)) s′);
-        front = λ i l. sym (byte-take s (itemEnd (item before s)) i l) ∙ ap (λ (l : List ℕ). byte l i) (sym q) ∙ byte-take s′ (itemEnd (item before s)) i l;
+        right = shared-long s s′ (itemEnd (item before s)) q (w .inside);
+        front = shared-front s s′ (itemEnd (item before s)) q;
         ends = h;
       })
 
