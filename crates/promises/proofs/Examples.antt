@@ -65,6 +65,7 @@ use Rattle.contents.specs.Said.{TagSaid}
 use Rattle.contents.specs.Spelled.{Spells}
 use Rattle.contents.specs.Legal.{Legal, HasRoom}
 use Rattle.contents.proofs.Theorems.{accepted-legal}
+use Rattle.likeness.proofs.Examples.{emptyRoot, closedRoot}
 use Rattle.promises.proofs.Answers.{accepted-whole}
 
 -- where the two identifications of the sheet stand
@@ -85,6 +86,7 @@ computed : (allPass examples ≡ true) × (readOf sheet 25 4 4 Old 16 ≡ sheetO
     × (readOf twiceSheet 25 4 4 Old 16 .answer ≡ twiceAnswer) × (identificationsIn sheet ≡ firstId ∷ secondId ∷ [])
     × (readOf constraintSheet 25 4 4 Old 16 ≡ constraintOutcome) × (readOf withdrawnSheet 0 0 0 Old 16 ≡ withdrawnOutcome)
     × (HasFault threefold 3 × HasFault threefold 5 × HasFault threefold 6) × (length twiceSheet ≡ 1387)
+    × ((readOf emptyRoot 0 0 0 Old 16 .answer .refusal ≡ 3) × (readOf closedRoot 0 0 0 Old 16 .answer .refusal ≡ 5))
 unfolding byte run same begins walk seqLen control single charAt met charOf saidBy saidAt saysAfter says nameStart nameByte white quote fit standingNext valueNext valueOver
     value openingFrom opening attributeEnd attributeQuote attributeName attribute pieceAfter piece partOf absent passedOver dtdName noDtd withDtd noneKnown anotherKnown
     notedKnown onto endsAfter ends keptOf named twice endClose endName endTag tagOf tagItem startTag item markLen beginAfter begin capital
@@ -112,6 +114,7 @@ computed = (
   refl,
   (inl (refl, refl), inr (inr (inr (inl (refl, refl)))), inr (inr (inr (inr (inl (refl, refl)))))),
   refl,
+  (refl, refl),
 )
 
 -- "P1 to P12 form a single table with a single proved statement."
@@ -137,6 +140,10 @@ withdrawn-read = computed .5
 -- an item with several faults
 pub three-at-once : HasFault threefold 3 × HasFault threefold 5 × HasFault threefold 6
 three-at-once = computed .6
+
+-- an empty tag, and a start tag with its end
+pub roots-refused : (readOf emptyRoot 0 0 0 Old 16 .answer .refusal ≡ 3) × (readOf closedRoot 0 0 0 Old 16 .answer .refusal ≡ 5)
+roots-refused = computed .8
 
 -- a document with a first fault, and one without any
 pub twice-first : FirstIn twiceSheet 25 4 4 9 926
