@@ -72,6 +72,7 @@ use Rattle.contents.specs.Legal.{Legal, HasRoom}
 use Rattle.contents.proofs.Theorems.{accepted-legal, legal-accepted}
 use Rattle.digits.specs.Outside.{opened, openAt}
 use Rattle.promises.proofs.Digits.{inQty, qtyAt, qtyAfter}
+use Rattle.likeness.proofs.Examples.{emptyRoot, closedRoot}
 use Rattle.promises.proofs.Answers.{accepted-whole}
 
 -- where the two identifications of the sheet stand
@@ -103,6 +104,7 @@ computed : (allPass examples ≡ true) × (readOf sheet 25 4 4 Old 16 ≡ sheetO
     × ((numberAndPlace (readOf (take 926 twiceSheet) 25 4 4 Old 16) ≡ (3, 926)) × (numberAndPlace (readOf longerSheet 25 4 4 Old 16) ≡ (3, 1387)))
     × ((numberAndPlace (readOf (text "<a") 0 0 0 Old 16) ≡ (2, 0)) × (numberAndPlace (readOf (text "<a>") 0 0 0 Old 16) ≡ (3, 0)))
     × ((numberAndPlace (readOf (text "a") 0 0 0 Old 16) ≡ (3, 0)) × (numberAndPlace (readOf (text "a&") 0 0 0 Old 16) ≡ (2, 0)))
+    × ((readOf emptyRoot 0 0 0 Old 16 .answer .refusal ≡ 3) × (readOf closedRoot 0 0 0 Old 16 .answer .refusal ≡ 5))
 unfolding byte run same begins walk seqLen control single charAt met charOf saidBy saidAt saysAfter says nameStart nameByte white quote fit standingNext valueNext valueOver
     value openingFrom opening attributeEnd attributeQuote attributeName attribute pieceAfter piece partOf absent passedOver dtdName noDtd withDtd noneKnown anotherKnown
     notedKnown onto endsAfter ends keptOf named twice endClose endName endTag tagOf tagItem startTag item markLen beginAfter begin capital
@@ -137,6 +139,7 @@ computed = (
   refl,
   refl,
   (refl, refl, refl, tt),
+  (refl, refl),
   (refl, refl),
   (refl, refl),
   (refl, refl),
@@ -179,6 +182,10 @@ nothing-read = computed .11
 -- an item with several faults
 pub three-at-once : HasFault threefold 3 × HasFault threefold 5 × HasFault threefold 6
 three-at-once = computed .6
+
+-- an empty tag, and a start tag with its end
+pub roots-refused : (readOf emptyRoot 0 0 0 Old 16 .answer .refusal ≡ 3) × (readOf closedRoot 0 0 0 Old 16 .answer .refusal ≡ 5)
+roots-refused = computed .16
 
 -- a document with a first fault, and one without any
 pub twice-first : FirstIn twiceSheet 25 4 4 9 926
