@@ -39,7 +39,7 @@ use Rattle.blindness.proofs.Aligned.{tail-of}
 use Rattle.blindness.proofs.Shown.{shown-none}
 use Rattle.fronts.specs.Front.{TextEnds, EndsBefore}
 use Rattle.fronts.proofs.Shares.{shared-front, shared-long, shared-less, shared-behind}
-use Rattle.fronts.proofs.Items.{Says, item-whole, item-near, item-says, ends-read}
+use Rattle.fronts.proofs.Items.{Whole, Says, item-whole, item-near, item-says, ends-read}
 use Rattle.fronts.proofs.Begins.{begin-told, begin-front, begin-cut, misdeclared-cut, xml-unread}
 use Rattle.faults.proofs.First.{refusal-is, place-is}
 use Rattle.faults.proofs.Shared.{SameRows, moved-read, same-step, same-tables, same-rows}
@@ -85,6 +85,18 @@ module _ (doc : List ℕ) (room : Room) where
           let r = ih (pred (itemEnd (item at (b ∷ l)))) (omega (arith, w .inside)) st′ (tablesAfter (placed at (b ∷ l)) st′ e′ t) in
           rw (read-next doc room (placed at (b ∷ l)) rest st t st′ e′ z) (omega (arith, r .0), r .1)
       by (Refused n) z ih = rw (read-stop doc room (placed at (b ∷ l)) rest st t n z) (omega arith, omega arith)
+
+-- an item that moved the state can be read, and what is found is not before its end
+moved-behind : (doc : List ℕ) (room : Room) (at b : ℕ) (l : List ℕ) (st : State) (t : Tables) (st′ : State) (e : Entry) → at + length (b ∷ l) ≡ length doc
+    → stepOf doc (t .series) room (placed at (b ∷ l)) st ≡ Next st′ e
+    → Whole (item at (b ∷ l)) (b ∷ l) × (at + itemEnd (item at (b ∷ l)) ≤ readItems doc room (itemsAfter 0 at (b ∷ l)) st t .found .place)
+unfolding itemsAfter
+moved-behind doc room at b l st t st′ e long o =
+    let n = pred (itemEnd (item at (b ∷ l))) in
+    let whole = item-whole at (b ∷ l) (moved-read doc (t .series) room (placed at (b ∷ l)) st st′ e o) in
+    let size = one-less (itemEnd (item at (b ∷ l))) (whole .some) in
+    let low = lies doc room l n (suc at) (omega arith) (omega (arith, size, whole .inside)) st′ (tablesAfter (placed at (b ∷ l)) st′ e t) in
+    (whole, rw (read-next doc room (placed at (b ∷ l)) (itemsAfter n (suc at) l) st t st′ e o) (omega (arith, size, low .0)))
 
 -- ---- x and y begin with the same bytes, and go on with r and with q; a text that ends before r ends before q
 
@@ -175,10 +187,9 @@ module _ (x y : List ℕ) (room : Room) (r q : List ℕ) (stop : TextEnds r → 
           let t′ = tablesAfter here st′ e′ t in
           let next = read-next x room here (itemsAfter n (suc at) (w ++ r)) st t st′ e′ o in
           let z′ : readItems x room (itemsAfter n (suc at) (w ++ r)) st′ t′ .found .place ≡ p = sym (ap (λ (u : Out). u .found .place) next) ∙ z in
-          let whole = item-whole at (b ∷ w ++ r) (moved-read x (t .series) room here st st′ e′ o) in
-          let size : suc n ≡ itemEnd (item at (b ∷ w ++ r)) = one-less (itemEnd (item at (b ∷ w ++ r))) (whole .some) in
-          let low = lies x room (w ++ r) n (suc at) (omega arith) (omega (arith, size, whole .inside)) st′ t′ in
-          let fits : itemEnd (item at (b ∷ w ++ r)) ≤ suc (length w) = omega (arith, low .0, size) in
+          let low = moved-behind x room at b (w ++ r) st t st′ e′ long o in
+          let size : suc n ≡ itemEnd (item at (b ∷ w ++ r)) = one-less (itemEnd (item at (b ∷ w ++ r))) (low .0 .some) in
+          let fits : itemEnd (item at (b ∷ w ++ r)) ≤ suc (length w) = omega (arith, low .1, z) in
           onward next (passed at b w ex ey st t rows st′ e′ o fits) (ih n (omega (arith, size, fits)) st′ t′ (rows-next at b w ex ey st t rows st′ e′ o fits) z′)
 
 -- ---- a document x, read from its first item on, at k, up to the place p
@@ -208,12 +219,8 @@ module _ (x : List ℕ) (t : Tables) (k p : ℕ) (bx : begin x ≡ From k) (plac
       by (Refused n) o =
           let f : k ≡ p = sym (ap (λ (u : Out). u .found .place) (read-stop x (roomIn t) (placed k (b ∷ l)) rest begun t n o)) ∙ z in absurd (omega arith)
       by (Next st′ e′) o =
-          let read = moved-read x (t .series) (roomIn t) (placed k (b ∷ l)) begun st′ e′ o in
-          let whole = item-whole k (b ∷ l) read in
-          let size = one-less (itemEnd (item k (b ∷ l))) (whole .some) in
-          let low = lies x (roomIn t) l (pred (itemEnd (item k (b ∷ l)))) (suc k) (omega arith) (omega (arith, size, whole .inside)) st′ (tablesAfter (placed k (b ∷ l)) st′ e′ t) in
-          let f = sym (ap (λ (u : Out). u .found .place) (read-next x (roomIn t) (placed k (b ∷ l)) rest begun t st′ e′ o)) ∙ z in
-          (read, omega (arith, size, low .0, f))
+          let low = moved-behind x (roomIn t) k b l begun t st′ e′ e o in
+          (moved-read x (t .series) (roomIn t) (placed k (b ∷ l)) begun st′ e′ o, omega (arith, low .1, z))
 
   first-passed : k < p → (itemRefusal (item k (drop k x)) ≡ 0) × (k + itemEnd (item k (drop k x)) ≤ p)
   first-passed low = passed-by (drop k x) long low place
@@ -254,12 +261,7 @@ module _ (x y : List ℕ) (room : Room) (p : ℕ) (st : State) (t : Tables) (row
       xs = itemsAfter (pred (itemEnd (item p (b ∷ l)))) (suc p) l
 
       by : (o : Step) → stepOf x (t .series) room (placed p (b ∷ l)) st ≡ o → readItems y room (itemsAfter 0 p (c ∷ m)) st t ≡ readItems x room (itemsAfter 0 p (b ∷ l)) st t
-      by (Next st′ e′) o =
-          let whole = item-whole p (b ∷ l) (moved-read x (t .series) room (placed p (b ∷ l)) st st′ e′ o) in
-          let size = one-less (itemEnd (item p (b ∷ l))) (whole .some) in
-          let low = lies x room l (pred (itemEnd (item p (b ∷ l)))) (suc p) (omega arith) (omega (arith, size, whole .inside)) st′ (tablesAfter (placed p (b ∷ l)) st′ e′ t) in
-          let f = sym (ap (λ (u : Out). u .found .place) (read-next x room (placed p (b ∷ l)) xs st t st′ e′ o)) ∙ z in
-          absurd (omega (arith, low .0, f))
+      by (Next st′ e′) o = let low = moved-behind x room p b l st t st′ e′ e o in absurd (omega (arith, low .0 .some, low .1, z))
       by (Refused n) o =
           let says = item-says p (b ∷ l) (c ∷ m) bytes in
           rw same
