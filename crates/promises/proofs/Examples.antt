@@ -104,7 +104,7 @@ computed : (allPass examples ≡ true) × (readOf sheet 25 4 4 Old 16 ≡ sheetO
     × ((numberAndPlace (readOf (take 926 twiceSheet) 25 4 4 Old 16) ≡ (3, 926)) × (numberAndPlace (readOf longerSheet 25 4 4 Old 16) ≡ (3, 1387)))
     × ((numberAndPlace (readOf (text "<a") 0 0 0 Old 16) ≡ (2, 0)) × (numberAndPlace (readOf (text "<a>") 0 0 0 Old 16) ≡ (3, 0)))
     × ((numberAndPlace (readOf (text "a") 0 0 0 Old 16) ≡ (3, 0)) × (numberAndPlace (readOf (text "a&") 0 0 0 Old 16) ≡ (2, 0)))
-    × ((readOf emptyRoot 0 0 0 Old 16 .answer .refusal ≡ 3) × (readOf closedRoot 0 0 0 Old 16 .answer .refusal ≡ 5))
+    × ((numberAndPlace (readOf emptyRoot 0 0 0 Old 16) ≡ (3, 0)) × (numberAndPlace (readOf closedRoot 0 0 0 Old 16) ≡ (5, 0)))
 unfolding byte run same begins walk seqLen control single charAt met charOf saidBy saidAt saysAfter says nameStart nameByte white quote fit standingNext valueNext valueOver
     value openingFrom opening attributeEnd attributeQuote attributeName attribute pieceAfter piece partOf absent passedOver dtdName noDtd withDtd noneKnown anotherKnown
     notedKnown onto endsAfter ends keptOf named twice endClose endName endTag tagOf tagItem startTag item markLen beginAfter begin capital
@@ -184,7 +184,7 @@ pub three-at-once : HasFault threefold 3 × HasFault threefold 5 × HasFault thr
 three-at-once = computed .6
 
 -- an empty tag, and a start tag with its end
-pub roots-refused : (readOf emptyRoot 0 0 0 Old 16 .answer .refusal ≡ 3) × (readOf closedRoot 0 0 0 Old 16 .answer .refusal ≡ 5)
+pub roots-refused : (numberAndPlace (readOf emptyRoot 0 0 0 Old 16) ≡ (3, 0)) × (numberAndPlace (readOf closedRoot 0 0 0 Old 16) ≡ (5, 0))
 roots-refused = computed .16
 
 -- a document with a first fault, and one without any

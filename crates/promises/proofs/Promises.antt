@@ -287,7 +287,7 @@ alike-ways = (sender-between, tags-spelt .0, some-white, a-comment, (tags-well .
 -- Refusals of documents that are alike may differ: `<Kostenblatt/>` is over too early, and lacks an attribute; of `<Kostenblatt></Kostenblatt>` the start tag has the
 -- second fault alone
 pub alike-refused-otherwise : SpellAlike emptyRoot closedRoot
-    × ((readOf emptyRoot 0 0 0 Old 16 .answer .refusal ≡ 3) × (readOf closedRoot 0 0 0 Old 16 .answer .refusal ≡ 5))
+    × ((numberAndPlace (readOf emptyRoot 0 0 0 Old 16) ≡ (3, 0)) × (numberAndPlace (readOf closedRoot 0 0 0 Old 16) ≡ (5, 0)))
 alike-refused-otherwise = (roots-alike, roots-refused)
 
 -- "Two documents of equal length that differ only in digits of readable Qty values get the same answer, place, counts and note, and the same cells but for
