@@ -1,0 +1,4 @@
+pub mod Wholes
+pub mod Fractions
+pub mod Putting
+pub mod Unique
