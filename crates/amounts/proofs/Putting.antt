@@ -1,7 +1,7 @@
 -- What the writing functions leave in a buffer. Assumes nothing.
-use Prim.Native.Nat.{ℕ, suc, _+_, _/_, _%_, _≤_, _<_}
+use Prim.Native.Nat.{ℕ, _+_}
 use mathlib.Core.Path.{_≡_, refl, sym, ap, _∙_}
-use mathlib.Core.Bool.{true, false}
+use mathlib.Core.Bool.{true}
 use mathlib.Core.List.{List, [], _∷_, _++_}
 use native.Mathlib.Nat.{zero-add}
 use native.Mathlib.Numerals.{add-one}
@@ -12,9 +12,7 @@ use lib.ListN.{length, set, length-append}
 use lib.Seq.{sets}
 use Rattle.lists.proofs.Cases.{never}
 use Rattle.lists.proofs.Stores.{sets-more}
-use Rattle.amounts.specs.Texts.{numeral, wholeText, decimals, pointed, fractionText, unsignedText, amountText}
-use Rattle.amounts.proofs.Wholes.{last, on}
-use Rattle.amounts.proofs.Fractions.{none-after, one-after, two-after, three-after}
+use Rattle.amounts.specs.Texts.{unsignedText, amountText}
 
 -- the text w stands in l, which was b, from `at` on, and k is the place after it
 pub record Put (b : List ℕ) (at : ℕ) (w : List ℕ) (k : ℕ) (l : List ℕ) : Type 0 where

@@ -1,7 +1,7 @@
 -- `amounts::put_fraction` meets its contract: byte after byte is put, and the text is known where it ends. Assumes nothing.
 use Prim.Native.Nat.{_+_}
 use mathlib.Core.Path.{refl, sym}
-use native.Mathlib.Omega.{arith}
+use native.Mathlib.Nat.{add-assoc}
 use borrow.Author.Needs.{needs}
 use Rattle.amounts.proofs.Putting.{byte-put, told, more, nothing}
 use Rattle.amounts.proofs.Fractions.{no-point, point-first, one-after, two-after, three-after}
@@ -35,7 +35,7 @@ returns-2 c =
     let a = b .before .before .before .before .before in
     let at = a .before .before .before .before .args .at in
     let p = byte-put _ at _ _ (at + 1) _ refl refl (a .set-byte .ensures) in
-    let q = byte-put _ (at + 1) _ _ (at + 2) _ (omega arith) (b .before .numeral .ensures) (b .set-byte2 .ensures) in
+    let q = byte-put _ (at + 1) _ _ (at + 2) _ (sym (add-assoc at 1 1)) (b .before .numeral .ensures) (b .set-byte2 .ensures) in
     told (sym (point-first _ (one-after _ (a .before .before .if1 .left) (c .if2 .taken)))) (more p q)
 
 add-set-byte-2 : tie.Need-add-set-byte-2
@@ -60,8 +60,8 @@ returns-3 c =
     let a = b .before .before .before .before .before in
     let at = a .before .before .before .before .args .at in
     let p = byte-put _ at _ _ (at + 1) _ refl refl (a .set-byte .ensures) in
-    let q = byte-put _ (at + 1) _ _ (at + 2) _ (omega arith) (b .before .numeral .ensures) (b .set-byte2 .ensures) in
-    let r = byte-put _ (at + 2) _ _ (at + 3) _ (omega arith) (d .before .numeral2 .ensures) (d .set-byte3 .ensures) in
+    let q = byte-put _ (at + 1) _ _ (at + 2) _ (sym (add-assoc at 1 1)) (b .before .numeral .ensures) (b .set-byte2 .ensures) in
+    let r = byte-put _ (at + 2) _ _ (at + 3) _ (sym (add-assoc at 2 1)) (d .before .numeral2 .ensures) (d .set-byte3 .ensures) in
     told (sym (point-first _ (two-after _ (a .before .before .if1 .left) (d .before .before .before .if2 .left) (c .if3 .taken)))) (more p (more q r))
 
 add-set-byte-3 : tie.Need-add-set-byte-3
@@ -87,9 +87,9 @@ returns-4 c =
     let a = b .before .before .before .before .before in
     let at = a .before .before .before .before .args .at in
     let p = byte-put _ at _ _ (at + 1) _ refl refl (a .set-byte .ensures) in
-    let q = byte-put _ (at + 1) _ _ (at + 2) _ (omega arith) (b .before .numeral .ensures) (b .set-byte2 .ensures) in
-    let r = byte-put _ (at + 2) _ _ (at + 3) _ (omega arith) (d .before .numeral2 .ensures) (d .set-byte3 .ensures) in
-    let s = byte-put _ (at + 3) _ _ (at + 4) _ (omega arith) (e .before .numeral3 .ensures) (e .set-byte4 .ensures) in
+    let q = byte-put _ (at + 1) _ _ (at + 2) _ (sym (add-assoc at 1 1)) (b .before .numeral .ensures) (b .set-byte2 .ensures) in
+    let r = byte-put _ (at + 2) _ _ (at + 3) _ (sym (add-assoc at 2 1)) (d .before .numeral2 .ensures) (d .set-byte3 .ensures) in
+    let s = byte-put _ (at + 3) _ _ (at + 4) _ (sym (add-assoc at 3 1)) (e .before .numeral3 .ensures) (e .set-byte4 .ensures) in
     told (sym (point-first _ (three-after _ (a .before .before .if1 .left) (d .before .before .before .if2 .left) (e .before .before .before .if3 .left)))) (more p (more q (more r s)))
 
 pub put-fraction-spec : {M : Type 1} → statement M
