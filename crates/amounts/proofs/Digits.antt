@@ -13,8 +13,8 @@ use Rattle.lists.proofs.Cases.{bool-cases}
 use Rattle.pictures.specs.Picture.{digit}
 use Rattle.numbers.specs.Digits.{digits, numberFrom}
 use Rattle.numbers.proofs.Reading.{digit-range}
-use Rattle.amounts.specs.Texts.{numeral, wholeText}
-use Rattle.amounts.proofs.Wholes.{last, on, by-tens, whole-some}
+use Rattle.wholes.specs.Whole.{numeral, wholeText}
+use Rattle.wholes.proofs.Wholes.{last, on, by-tens, whole-some}
 
 unfoldable pub AllDigits : List ℕ → Type 0
 AllDigits [] = Unit {0}

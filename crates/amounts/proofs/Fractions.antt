@@ -11,7 +11,8 @@ use Rattle.lists.proofs.Cases.{eqb-cases}
 use Rattle.slices.specs.Text.{text}
 use Rattle.numbers.specs.Digits.{numberFrom}
 use Rattle.numbers.proofs.Reading.{digit-range}
-use Rattle.amounts.specs.Texts.{numeral, decimals, pointed, fractionText}
+use Rattle.wholes.specs.Whole.{numeral}
+use Rattle.amounts.specs.Texts.{decimals, pointed, fractionText}
 use Rattle.amounts.proofs.Digits.{AllDigits, numeral-digit}
 
 -- f thousandths have no digit after the point, one, two or three

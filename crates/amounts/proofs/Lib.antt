@@ -1,4 +1,3 @@
-pub mod Wholes
 pub mod Fractions
 pub mod Putting
 pub mod Unique

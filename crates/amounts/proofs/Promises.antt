@@ -31,9 +31,10 @@ use Rattle.numbers.specs.Amount.{minus, unsigned, fractionForm, unsignedForm, w
 use Rattle.numbers.specs.declared.Amount.the-variants.{Thousandths}
 use Rattle.numbers.specs.declared.Number.the-variants.{Is}
 use Rattle.numbers.proofs.Reading.{digit-range}
-use Rattle.amounts.specs.Texts.{wholeIn, wholeText, decimals, pointed, fractionText, unsignedText, amountText}
+use Rattle.wholes.specs.Whole.{wholeIn, wholeText}
+use Rattle.amounts.specs.Texts.{decimals, pointed, fractionText, unsignedText, amountText}
 use Rattle.amounts.specs.Shortest.{Shortest, wholeDigits, fractionDigits}
-use Rattle.amounts.proofs.Wholes.{whole-some, whole-few}
+use Rattle.wholes.proofs.Wholes.{whole-some, whole-few}
 use Rattle.amounts.proofs.Digits.{AllDigits, whole-digits, whole-says, whole-front, whole-leading, whole-only, whole-least}
 use Rattle.amounts.proofs.Fractions.{worth, worth-small, decimals-told, decimals-only, decimals-least, pointed-le}
 use Rattle.amounts.proofs.Shapes.{all-counted, only-all, only-split, shape, Parts, Shaped, shaped, minus-is, whole-is, fraction-is, value-is, amount-is}

@@ -6,7 +6,8 @@ use lib.IntN.{ℤ}
 use lib.ListN.{length}
 use lib.Seq.{sets}
 use Rattle.lists.proofs.Unique.{both}
-use Rattle.amounts.specs.Texts.{wholeText, amountText}
+use Rattle.wholes.specs.Whole.{wholeText}
+use Rattle.amounts.specs.Texts.{amountText}
 
 pub put-amount-one : (free : List ℕ) (amount : ℤ) {r r′ : ℕ} {b b′ : List ℕ} → (r ≡ length (amountText amount)) × (b ≡ sets free 0 (amountText amount))
     → (r′ ≡ length (amountText amount)) × (b′ ≡ sets free 0 (amountText amount)) → (r ≡ r′) × (b ≡ b′)

@@ -3,7 +3,8 @@ ghost use mathlib.Core.Path.{_≡_};
 ghost use Prim.Native.Nat.{_+_, _<_, _≤_};
 ghost use lib.ListN.{length, set};
 ghost use lib.Seq.{sets};
-ghost use Rattle.amounts.specs.Texts.{numeral, wholeText, fractionText, unsignedText, amountText};
+ghost use Rattle.wholes.specs.Whole.{numeral, wholeText};
+ghost use Rattle.amounts.specs.Texts.{fractionText, unsignedText, amountText};
 
 const MINUS: u8 = 0x2D;
 

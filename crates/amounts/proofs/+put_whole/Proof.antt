@@ -5,8 +5,8 @@ use native.Mathlib.Omega.{arith}
 use borrow.Author.Needs.{needs}
 use borrow.Fn.Kinds.{In}
 use borrow.Fn.PlainCycle.{Measures, is, falls, and}
-use Rattle.amounts.specs.Texts.{wholeText}
-use Rattle.amounts.proofs.Wholes.{last, on, whole-few}
+use Rattle.wholes.specs.Whole.{wholeText}
+use Rattle.wholes.proofs.Wholes.{last, on, whole-few}
 use Rattle.amounts.proofs.Putting.{taken, byte-put, told, more}
 use Rattle.amounts.proofs.put_whole.Reads as put-whole
 use Rattle.amounts.proofs.put_whole.Kinds as put-whole-kinds

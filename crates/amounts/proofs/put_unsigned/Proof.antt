@@ -3,8 +3,9 @@ use Prim.Native.Nat.{_/_, _%_}
 use mathlib.Core.Path.{refl}
 use native.Mathlib.Omega.{arith}
 use borrow.Author.Needs.{needs}
-use Rattle.amounts.specs.Texts.{wholeText, fractionText, unsignedText}
-use Rattle.amounts.proofs.Wholes.{whole-few}
+use Rattle.wholes.specs.Whole.{wholeText}
+use Rattle.amounts.specs.Texts.{fractionText, unsignedText}
+use Rattle.wholes.proofs.Wholes.{whole-few}
 use Rattle.amounts.proofs.Putting.{taken, told, more}
 use Rattle.amounts.proofs.put_unsigned.Statement.{statement}
 use Rattle.amounts.proofs.put_unsigned.Tie as tie

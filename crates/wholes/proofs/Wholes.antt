@@ -1,7 +1,7 @@
 -- Laws of the text of a whole number.
---     last, on      its two cases: one digit, or the text of a tenth and one digit more
+--     last-in, on-in, last, on   its two cases: one digit, or the text of a tenth and one digit more
 --     by-tens       what holds of a digit, and of n where it holds of a tenth of n, holds of every number
---     whole-some, whole-few   there is a digit, and below 10^k there are no more than k
+--     whole-in-few, whole-some, whole-few   no more digits than are allowed; there is one, and below 10^k there are no more than k
 -- Assumes nothing.
 use Prim.Native.Nat.{ℕ, zero, suc, _+_, _/_, _%_, _^_, _≤_, _<_}
 use mathlib.Core.Path.{_≡_, refl, sym, ap, _∙_}
@@ -12,14 +12,14 @@ use native.Mathlib.Omega.{arith}
 use lib.ListN.{length, length-append}
 use borrow.Author.Tests.{lt-ltb, le-ltb}
 use Rattle.lists.proofs.Cases.{ltb-cases}
-use Rattle.amounts.specs.Texts.{numeral, wholeIn, wholeText}
+use Rattle.wholes.specs.Whole.{numeral, wholeIn, wholeText}
 
-last-in : (k n : ℕ) → n < 10 → wholeIn k n ≡ numeral n ∷ []
+pub last-in : (k n : ℕ) → n < 10 → wholeIn k n ≡ numeral n ∷ []
 unfolding wholeIn
 last-in zero n h = refl
 last-in (suc k) n h = simp (lt-ltb n 10 h)
 
-on-in : (k n : ℕ) → 10 ≤ n → wholeIn (suc k) n ≡ wholeIn k (n / 10) ++ numeral (n % 10) ∷ []
+pub on-in : (k n : ℕ) → 10 ≤ n → wholeIn (suc k) n ≡ wholeIn k (n / 10) ++ numeral (n % 10) ∷ []
 unfolding wholeIn
 on-in k n h = simp (le-ltb n 10 h)
 
@@ -47,6 +47,15 @@ module _ (P : ℕ → Type 0) (one : (n : ℕ) → n < 10 → P n) (more : (n : 
       go : (k m : ℕ) → m ≤ k → P m
       go zero m h = one m (omega arith)
       go (suc k) m h = ⊎-elim (λ y. one m (y .0)) (λ y. more m (y .0) (go k (m / 10) (omega (arith, y .0)))) (ltb-cases m 10)
+
+pub whole-in-few : (k n : ℕ) → length (wholeIn k n) ≤ suc k
+unfolding wholeIn
+whole-in-few zero n = omega arith
+whole-in-few (suc k) n =
+    ⊎-elim
+    (λ y. let e = ap length (last-in (suc k) n (y .0)) in omega (arith, e))
+    (λ y. let e = ap length (on-in k n (y .0)) in omega (arith, e, length-append (wholeIn k (n / 10)) (numeral (n % 10) ∷ []), whole-in-few k (n / 10)))
+    (ltb-cases n 10)
 
 pub whole-longer : (n : ℕ) → 10 ≤ n → length (wholeText n) ≡ length (wholeText (n / 10)) + 1
 whole-longer n h = ap length (on n h) ∙ length-append (wholeText (n / 10)) (numeral (n % 10) ∷ [])
