@@ -3,4 +3,5 @@ pub mod Putting
 pub mod Unique
 pub mod Digits
 pub mod Shapes
+pub mod Plain
 pub mod Promises

@@ -3,13 +3,14 @@
 --     only-shortest, none-shorter  no other text of the amount is shortest, and none has fewer characters
 --     amount-length                it has at most 17
 --     position-back, only-position the same of a position
---     amount-said, position-said   the bytes say themselves: none needs a reference
+--     amount-said, position-said   the bytes say themselves, none needs a reference, and none is a space
+--     amount-in-value, position-in-value   so the document reader has them from a value
 --     amount-examples, least-example   some amounts
 -- Assumes nothing.
 use Prim.Native.Nat.{ℕ, zero, suc, _+_, _*_, _/_, _%_, _^_, _≤_, _<_}
 use Prim.Native.Char.{code}
 use mathlib.Core.Path.{_≡_, refl, sym, ap, _∙_}
-use mathlib.Core.List.{List, [], _∷_, _++_, append-nil, map}
+use mathlib.Core.List.{List, [], _∷_, _++_, map}
 use mathlib.Core.Bool.{Bool, true, false, cond}
 use mathlib.Core.Logic.{⊎-elim}
 use native.Mathlib.Omega.{arith}
@@ -17,26 +18,24 @@ use lib.Dec.{eqb}
 use lib.IntN.{ℤ, pos, negsuc, natAbs}
 use lib.ListN.{length, getD, length-append}
 use lib.Seq.{take-length}
-use borrow.Author.Tests.{le-leb, lt-ltb, ne-eqb, eqb-false}
+use borrow.Author.Tests.{ne-eqb, eqb-false}
 use Rattle.lists.proofs.Cases.{bool-cases, past-cond, never, zero-not-one}
-use Rattle.slices.specs.Bytes.{byte}
 use Rattle.slices.specs.Text.{text}
-use Rattle.characters.specs.Says.{saidBy, says, itself}
-use Rattle.characters.proofs.Units.{met-itself}
-use Rattle.characters.proofs.Saying.{says-char, says-none, said-by}
+use Rattle.characters.specs.Says.{says}
 use Rattle.pictures.specs.Picture.{digit}
+use Rattle.trims.specs.Trim.{dropped}
 use Rattle.numbers.specs.Digits.{digits, numberFrom, nothingLeft, onlyDigits}
 use Rattle.numbers.specs.Number.{numberForm, atMostNine, numberWithin, numberOf}
 use Rattle.numbers.specs.Amount.{minus, unsigned, fractionForm, unsignedForm, writtenAmount, filled, thousandths, signed, amountOf}
 use Rattle.numbers.specs.declared.Amount.the-variants.{Thousandths}
 use Rattle.numbers.specs.declared.Number.the-variants.{Is}
-use Rattle.numbers.proofs.Reading.{digit-range}
 use Rattle.wholes.specs.Whole.{wholeIn, wholeText}
 use Rattle.amounts.specs.Texts.{decimals, pointed, fractionText, unsignedText, amountText}
 use Rattle.amounts.specs.Shortest.{Shortest, wholeDigits, fractionDigits}
 use Rattle.wholes.proofs.Wholes.{whole-some, whole-few}
-use Rattle.amounts.proofs.Digits.{AllDigits, whole-digits, whole-says, whole-front, whole-leading, whole-only, whole-least}
+use Rattle.amounts.proofs.Digits.{whole-digits, whole-says, whole-front, whole-leading, whole-only, whole-least}
 use Rattle.amounts.proofs.Fractions.{worth, worth-small, decimals-told, decimals-only, decimals-least, pointed-le}
+use Rattle.amounts.proofs.Plain.{plain-said, plain-kept, digits-plain, amount-plain}
 use Rattle.amounts.proofs.Shapes.{all-counted, only-all, only-split, shape, Parts, Shaped, shaped, minus-is, whole-is, fraction-is, value-is, amount-is}
 
 -- ---- the text has the shape of an amount
@@ -197,43 +196,21 @@ only-position t n e = ⊎-elim (λ (y : numberForm 5 t ≡ true). yes y) (λ (y 
         let v : numberFrom 0 t ≡ n = cc in
         whole-only t (d .0) (d .1 .0) (λ z. absurd (other z)) ∙ ap wholeText v
 
--- ---- bytes and characters
+-- ---- as a value in a document
 
-digit-itself : (c : ℕ) → digit c ≡ true → itself c ≡ true
-unfolding itself
-digit-itself c e = let g = digit-range c e in rw (le-leb 0x27 c (omega arith), lt-ltb c 0x80 (omega arith))
+-- "references only where a byte needs one": none does, and what the bytes say is the text; and it has no space that a collapsed value would lose
+pub amount-said : (m : ℤ) → (says (amountText m) ≡ amountText m) × (dropped (amountText m) ≡ amountText m)
+amount-said m = let p = amount-plain m in (plain-said (amountText m) p, plain-kept (amountText m) p)
 
-itself-said : (c : ℕ) (l : List ℕ) → itself c ≡ true → says (c ∷ l) ≡ c ∷ says l
-unfolding saidBy byte
-itself-said c l e = says-char (c ∷ l) c 1 (omega arith) (said-by (c ∷ l) (omega arith) ∙ ap saidBy (met-itself (c ∷ l) e)) (omega arith)
+pub position-said : (n : ℕ) → (says (wholeText n) ≡ wholeText n) × (dropped (wholeText n) ≡ wholeText n)
+position-said n = let p = digits-plain (wholeText n) (whole-digits n) in (plain-said (wholeText n) p, plain-kept (wholeText n) p)
 
-digits-said : (w r : List ℕ) → AllDigits w → says (w ++ r) ≡ w ++ says r
-unfolding AllDigits
-digits-said [] r h = refl
-digits-said (c ∷ w) r h = itself-said c (w ++ r) (digit-itself c (h .0)) ∙ ap (λ (t : List ℕ). c ∷ t) (digits-said w r (h .1))
+-- so the document reader, which judges a value by what it says without the spaces at its ends, has the amount and the position from it
+pub amount-in-value : (m : ℤ) → natAbs m < 10 ^ 15 → amountOf (dropped (says (amountText m))) ≡ Thousandths m
+amount-in-value m h = let p = amount-said m in rw (p .0, p .1) (read-back m h)
 
-all-said : (w : List ℕ) → AllDigits w → says w ≡ w
-all-said w h = ap says (sym (append-nil w)) ∙ digits-said w [] h ∙ ap (λ (t : List ℕ). w ++ t) says-none ∙ append-nil w
-
-pointed-said : (f : List ℕ) → AllDigits f → says (pointed f) ≡ pointed f
-unfolding pointed itself
-pointed-said [] h = says-none
-pointed-said (c ∷ f) h = itself-said 0x2E (c ∷ f) refl ∙ ap (λ (t : List ℕ). 0x2E ∷ t) (all-said (c ∷ f) h)
-
-unsigned-said : (n : ℕ) → says (unsignedText n) ≡ unsignedText n
-unfolding unsignedText fractionText
-unsigned-said n =
-    let t = decimals-told (n % 1000) (omega arith) in
-    digits-said (wholeText (n / 1000)) (pointed (decimals (n % 1000))) (whole-digits (n / 1000)) ∙ rw (pointed-said (decimals (n % 1000)) (t .all))
-
--- "references only where a byte needs one": none does, and what the bytes say is the text
-pub amount-said : (m : ℤ) → says (amountText m) ≡ amountText m
-unfolding amountText itself
-amount-said (pos n) = unsigned-said n
-amount-said (negsuc n) = itself-said 0x2D (unsignedText (suc n)) refl ∙ ap (λ (t : List ℕ). 0x2D ∷ t) (unsigned-said (suc n))
-
-pub position-said : (n : ℕ) → says (wholeText n) ≡ wholeText n
-position-said n = all-said (wholeText n) (whole-digits n)
+pub position-in-value : (n : ℕ) → 1 ≤ n → n ≤ 99999 → numberOf (dropped (says (wholeText n))) 5 ≡ Is n
+position-in-value n l h = let p = position-said n in rw (p .0, p .1) (position-back n l h)
 
 -- ---- some amounts
 
