@@ -7,26 +7,18 @@ use native.Mathlib.Nat.{pow-succ'}
 use native.Mathlib.Omega.{arith}
 use lib.ListN.{length, take, drop, set, length-set}
 use lib.Seq.{drop-cons, lt-length-set, getD-set-same, drop-set-lt}
-use borrow.Author.Tests.{lt-ltb, le-ltb}
 use Rattle.lists.specs.Zeros.{zeros}
 use Rattle.lists.proofs.Loans.{rest-part}
-use Rattle.explanations.specs.Decimal.{decimalIn, decimal}
-
-on : (k n : ℕ) → 10 ≤ n → decimalIn (suc k) n ≡ decimalIn k (n / 10) ++ (48 + n % 10) ∷ []
-unfolding decimalIn
-on k n h = simp (le-ltb n 10 h)
-
-last : (k n : ℕ) → n < 10 → decimalIn k n ≡ (48 + n) ∷ []
-unfolding decimalIn
-last zero n h = refl
-last (suc k) n h = simp (lt-ltb n 10 h)
+use Rattle.wholes.specs.Whole.{wholeIn}
+use Rattle.wholes.proofs.Wholes.{last-in, on-in}
+use Rattle.explanations.specs.Decimal.{decimal}
 
 -- the digits after i are spelt, and `rest` is what stands before them
 pub record Spelt (n : ℕ) (digits : List ℕ) (i rest : ℕ) : Type 0 where
   pub ten : length digits ≡ 10
   pub most : i ≤ 9
   pub small : rest < 10 ^ suc i
-  pub all : decimalIn i rest ++ drop (suc i) digits ≡ decimal n
+  pub all : wholeIn i rest ++ drop (suc i) digits ≡ decimal n
 
 pub spelt-start : (n : ℕ) → n < 10 ^ 10 → Spelt n (zeros 10) 9 n
 spelt-start n h = record { ten = refl; most = omega arith; small = h; all = append-nil (decimal n) }
@@ -55,16 +47,16 @@ module _ (n : ℕ) (digits : List ℕ) where
         ten = length-set digits (suc k) v ∙ s .ten;
         most = omega (arith, s .most);
         small = omega arith;
-        all = ap (λ (t : List ℕ). decimalIn k (rest / 10) ++ t) (put-drop digits (suc k) v l)
-            ∙ sym (append-assoc (decimalIn k (rest / 10)) (v ∷ []) (drop (suc (suc k)) digits))
-            ∙ sym (ap (λ (t : List ℕ). t ++ drop (suc (suc k)) digits) (on k rest h))
+        all = ap (λ (t : List ℕ). wholeIn k (rest / 10) ++ t) (put-drop digits (suc k) v l)
+            ∙ sym (append-assoc (wholeIn k (rest / 10)) (v ∷ []) (drop (suc (suc k)) digits))
+            ∙ sym (ap (λ (t : List ℕ). t ++ drop (suc (suc k)) digits) (on-in k rest h))
             ∙ s .all;
       })
 
   spelt-end : (i rest : ℕ) → Spelt n digits i rest → rest < 10 → drop i (set digits i (48 + rest)) ≡ decimal n
   spelt-end i rest s h =
       put-drop digits i (48 + rest) (omega (arith, s .ten, s .most))
-      ∙ sym (ap (λ (t : List ℕ). t ++ drop (suc i) digits) (last i rest h)) ∙ s .all
+      ∙ sym (ap (λ (t : List ℕ). t ++ drop (suc i) digits) (last-in i rest h)) ∙ s .all
 
   -- `&digits[i..]`
   pub spelt-part : (i rest : ℕ) → Spelt n digits i rest → rest < 10 → take (10 - i) (drop i (set digits i (48 + rest))) ≡ decimal n

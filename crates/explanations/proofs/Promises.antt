@@ -11,7 +11,7 @@ use mathlib.Core.Path.{_≡_, refl, sym, ap, _∙_}
 use mathlib.Core.List.{List, [], _∷_, _++_, map, append-assoc}
 use mathlib.Core.Bool.{true}
 use mathlib.Core.Logic.{⊎-elim}
-use Prim.Native.Nat.{ℕ, zero, suc, _+_, _/_, _%_, _^_, _≤_, max}
+use Prim.Native.Nat.{ℕ, zero, suc, _+_, _^_, _≤_, max}
 use native.Mathlib.Omega.{arith}
 use lib.Dec.{eqb, ltb}
 use lib.ListN.{length, getD, length-append}
@@ -31,7 +31,9 @@ use Rattle.notes.specs.declared.Shape.the-variants.{Old, New}
 use Rattle.notes.specs.Note.{newMark, numbersFor, noteOf, tellsIn, AllBelow, IsNote}
 use Rattle.notes.specs.Reader.{noteIn, sixOf}
 use Rattle.notes.proofs.Promises.{fits-most, round-trip, accepts-exactly}
-use Rattle.explanations.specs.Decimal.{decimalIn, decimal, around}
+use Rattle.wholes.specs.Whole.{wholeIn}
+use Rattle.wholes.proofs.Wholes.{whole-in-few}
+use Rattle.explanations.specs.Decimal.{decimal, around}
 use Rattle.explanations.specs.Explanation.{refusalWords, headPart, wordsPart, refusalLine, placeLine, kindLines, kindLine, seriesPart, intervalsPart, depthLines, depthLine, explained, noteOn, meaning, explanation}
 use Rattle.explanations.proofs.Printed.{note-bytes, read-bytes, printed-back}
 
@@ -79,12 +81,12 @@ pub in-words : map (λ (k : ℕ). headPart k ++ wordsPart k) (0 ∷ 6 ∷ 10 ∷
     text "Refused: 6, a value is against its form or its fixed value" ∷
     text "Refused: 10, the note buffer has fewer than 16 bytes" ∷
     text "Refused: 11, an unknown refusal" ∷ []
-unfolding headPart wordsPart around decimalIn
+unfolding headPart wordsPart around wholeIn
 in-words = refl
 
 -- "three elements deep"; of a depth of 0 nothing is said
 pub in-depth : map depthLine (0 ∷ 1 ∷ 3 ∷ 13 ∷ []) ≡ [] ∷ text "Depth: one element deep.\n" ∷ text "Depth: three elements deep.\n" ∷ text "Depth: 13 elements deep.\n" ∷ []
-unfolding depthLine around decimalIn
+unfolding depthLine around wholeIn
 in-depth = refl
 
 -- ---- the six numbers decide
@@ -134,18 +136,9 @@ row-size [] i = omega arith
 row-size (t ∷ l) zero = omega arith
 row-size (t ∷ l) (suc i) = omega (arith, row-size l i)
 
-decimal-size : (k n : ℕ) → length (decimalIn k n) ≤ suc k
-unfolding decimalIn
-decimal-size zero n = omega arith
-decimal-size (suc k) n =
-    ⊎-elim
-    (λ y. rw (y .1) (omega arith))
-    (λ y. rw (y .1) (omega (arith, decimal-size k (n / 10), length-append (decimalIn k (n / 10)) ((48 + n % 10) ∷ []))))
-    (ltb-cases n 10)
-
 around-size : (x : List ℕ) (n : ℕ) (y : List ℕ) → length (around x n y) ≤ length x + length y + 10
 unfolding around
-around-size x n y = omega (arith, length-append x (decimal n ++ y), length-append (decimal n) y, decimal-size 9 n)
+around-size x n y = omega (arith, length-append x (decimal n ++ y), length-append (decimal n) y, whole-in-few 9 n)
 
 -- at most m characters
 abbrev Short : ℕ → List ℕ → Type 0

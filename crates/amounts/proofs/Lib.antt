@@ -1,0 +1,7 @@
+pub mod Fractions
+pub mod Putting
+pub mod Unique
+pub mod Digits
+pub mod Shapes
+pub mod Plain
+pub mod Promises
