@@ -38,6 +38,9 @@ needed = (refl, refl, refl, refl, refl, refl)
 abbrev Few : List ℕ → Type 0
 Few l = length l ≤ 6
 
+abbrev Some : List ℕ → Type 0
+Some l = 1 ≤ length l
+
 byte-most : (b : ℕ) → length (escapedByte b) ≤ 6
 unfolding escapedByte
 byte-most b =
@@ -53,7 +56,23 @@ unfolding escaped
 escaped-most [] = omega arith
 escaped-most (b ∷ v) = omega (arith, length-append (escapedByte b) (escaped v), byte-most b, escaped-most v)
 
-escaped-none : escaped [] ≡ []
+-- and each takes one
+byte-some : (b : ℕ) → 1 ≤ length (escapedByte b)
+unfolding escapedByte
+byte-some b =
+    by-cond Some (eqb b 0x26) (omega arith)
+    (by-cond Some (eqb b 0x3C) (omega arith)
+    (by-cond Some (eqb b 0x22) (omega arith)
+    (by-cond Some (eqb b 0x09) (omega arith)
+    (by-cond Some (eqb b 0x0A) (omega arith)
+    (by-cond Some (eqb b 0x0D) (omega arith) (omega arith))))))
+
+pub escaped-least : (v : List ℕ) → length v ≤ length (escaped v)
+unfolding escaped
+escaped-least [] = omega arith
+escaped-least (b ∷ v) = omega (arith, length-append (escapedByte b) (escaped v), byte-some b, escaped-least v)
+
+pub escaped-none : escaped [] ≡ []
 unfolding escaped
 escaped-none = refl
 

@@ -1,2 +1,6 @@
 pub mod Putting
 pub mod Escaping
+pub mod Spelling
+pub mod Texts
+pub mod Standing
+pub mod Promises
