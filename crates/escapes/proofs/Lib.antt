@@ -3,4 +3,5 @@ pub mod Escaping
 pub mod Spelling
 pub mod Texts
 pub mod Standing
+pub mod Unescaping
 pub mod Promises

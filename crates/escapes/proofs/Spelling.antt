@@ -204,6 +204,7 @@ module _ (a b c d : ℕ) where
       let z : 0x80 + k % 64 ≡ c = omega (arith, s .least, s .most) in
       let many : 0x800 ≤ k = ⊎-elim (λ e. omega (arith, e .0, s .after-E0 (e .0), s .most)) (λ e. omega (arith, e .0)) (eqb-cases a 0xE0) in
       (omega arith, rw (le-ltb k 0x80 (omega arith), le-ltb k 0x800 many, lt-ltb k 0x10000 (omega arith), x, y, z), three-range l h s t e)
+
   four-most : 0xF0 ≤ a → a ≤ 0xF4 → Second a b → a % 8 * 262144 + b % 64 * 4096 + c % 64 * 64 + d % 64 ≤ 0x10FFFF
   four-most l h s =
       ⊎-elim
