@@ -4,4 +4,5 @@ pub mod Spelling
 pub mod Texts
 pub mod Standing
 pub mod Unescaping
+pub mod Values
 pub mod Promises
