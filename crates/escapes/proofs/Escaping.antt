@@ -2,7 +2,6 @@
 use Prim.Native.Nat.{ℕ, _+_, _-_, _*_, _≤_, _<_, min}
 use mathlib.Core.Path.{_≡_, refl, ap, sym, _∙_}
 use mathlib.Core.List.{List, [], _∷_, _++_, append-assoc}
-use mathlib.Core.Logic.{⊎-elim}
 use native.Mathlib.Omega.{arith}
 use lib.Dec.{eqb}
 use lib.ListN.{length, drop, getD, length-append, drop-of-length-le}
@@ -12,7 +11,7 @@ use borrow.Rule.Slice.PartMut.{midOf, putMid}
 use Rattle.lists.proofs.Cases.{by-cond}
 use Rattle.slices.specs.Text.{text}
 use Rattle.escapes.specs.Escaped.{escapedByte, escaped}
-use Rattle.escapes.proofs.Putting.{Put, next-byte, put-piece, put-end}
+use Rattle.escapes.proofs.Putting.{Put, next-byte, put-piece}
 
 -- a byte that needs no reference
 pub record Plain (b : ℕ) : Type 0 where
@@ -41,7 +40,7 @@ Few l = length l ≤ 6
 abbrev Some : List ℕ → Type 0
 Some l = 1 ≤ length l
 
-byte-most : (b : ℕ) → length (escapedByte b) ≤ 6
+pub byte-most : (b : ℕ) → length (escapedByte b) ≤ 6
 unfolding escapedByte
 byte-most b =
     by-cond Few (eqb b 0x26) (omega arith)
@@ -89,10 +88,12 @@ escaped-append (b ∷ v) w = ap (λ (l : List ℕ). escapedByte b ++ l) (escaped
 escaped-next : (v : List ℕ) (i : ℕ) → i < length v → escaped (drop i v) ≡ escapedByte (getD v i 0) ++ escaped (drop (i + 1) v)
 escaped-next v i h = ap escaped (next-byte v i h) ∙ escaped-cons (getD v i 0) (drop (i + 1) v)
 
-pub escaped-more : (v b₀ b : List ℕ) (at i : ℕ) → Put (escaped v) b₀ b at (escaped (drop i v)) → i < length v → (from k : ℕ) (l : List ℕ)
-    → from ≡ min at (length b) → k ≡ length (escapedByte (getD v i 0)) → l ≡ sets (midOf from (length b - from) b) 0 (escapedByte (getD v i 0))
-    → Put (escaped v) b₀ (putMid from (length b - from) b l) (at + k) (escaped (drop (i + 1) v))
-escaped-more v b₀ b at i p h from k l ef ek el = put-piece p (escapedByte (getD v i 0)) (escaped-next v i h) ef ek el
+pub escaped-more : (v b₀ b : List ℕ) (at i : ℕ) → Put (escaped v) b₀ b at (escaped (drop i v)) → i < length v → at ≤ length b → (k : ℕ) (l : List ℕ)
+    → k ≡ length (escapedByte (getD v i 0)) → l ≡ sets (midOf at (length b - at) b) 0 (escapedByte (getD v i 0))
+    → Put (escaped v) b₀ (putMid at (length b - at) b l) (at + k) (escaped (drop (i + 1) v))
+escaped-more v b₀ b at i p h r k l ek el =
+    let e : at ≡ min at (length b) = omega arith in
+    put-piece p (escapedByte (getD v i 0)) (escaped-next v i h) e ek el
 
-pub escaped-end : (v b₀ b : List ℕ) (at i : ℕ) → Put (escaped v) b₀ b at (escaped (drop i v)) → length v ≤ i → (at ≡ length (escaped v)) × (b ≡ sets b₀ 0 (escaped v))
-escaped-end v b₀ b at i p h = put-end p (ap escaped (drop-of-length-le v h) ∙ escaped-none)
+pub escaped-over : (v : List ℕ) (i : ℕ) → length v ≤ i → escaped (drop i v) ≡ []
+escaped-over v i h = ap escaped (drop-of-length-le v h) ∙ escaped-none

@@ -6,3 +6,5 @@ pub mod Standing
 pub mod Unescaping
 pub mod Values
 pub mod Promises
+pub mod Examples
+pub mod Unique

@@ -71,3 +71,10 @@ module _ {w b₀ b : List ℕ} {at : ℕ} {rest : List ℕ} (p : Put w b₀ b at
 
   pub put-end : rest ≡ [] → (at ≡ length w) × (b ≡ sets b₀ 0 w)
   put-end e = (omega (arith, p .long, ap length e), sym (ap (sets b at) e) ∙ p .all)
+
+  -- told as one more than there is room for, where it is more
+  pub put-full : length b < at → (length b + 1 ≡ min (length w) (length b₀ + 1)) × (b ≡ sets b₀ 0 w)
+  put-full h = (omega (arith, p .same, p .long), sym (sets-out rest b at (omega arith)) ∙ p .all)
+
+  pub put-whole : rest ≡ [] → at ≤ length b → (at ≡ min (length w) (length b₀ + 1)) × (b ≡ sets b₀ 0 w)
+  put-whole e h = let r = put-end e in (omega (arith, r .0, p .same), r .1)

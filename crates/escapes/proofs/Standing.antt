@@ -1,12 +1,11 @@
 -- An escaped text, character by character: each is met as a reference that names it, or as itself where it may stand between double quotes.
 -- Assumes nothing.
-use Prim.Native.Nat.{ℕ, _+_, _/_, _%_, _≤_, _<_}
-use mathlib.Core.Path.{_≡_, refl, sym, ap, _∙_}
+use Prim.Native.Nat.{ℕ, _+_, _≤_, _<_}
+use mathlib.Core.Path.{_≡_, refl, ap, _∙_}
 use mathlib.Core.List.{List, [], _∷_, _++_, append-nil, append-assoc}
-use mathlib.Core.Bool.{true, false}
+use mathlib.Core.Bool.{true}
 use mathlib.Core.Logic.{⊎-elim}
 use native.Mathlib.Omega.{arith}
-use lib.Dec.{eqb}
 use lib.ListN.{length, length-append}
 use borrow.Author.Tests.{ne-eqb}
 use Rattle.lists.proofs.Cases.{eqb-cases, ltb-cases}
@@ -16,13 +15,11 @@ use Rattle.slices.specs.Run.{run}
 use Rattle.slices.specs.Same.{same, begins}
 use Rattle.slices.specs.Text.{text}
 use Rattle.slices.specs.Walk.{go, stop, walk}
-use Rattle.characters.specs.Utf8.{charAt}
-use Rattle.characters.specs.References.{within, xmlChar, decimalDigit, refDigit, base, digitValue, numberBy, charBy, numberedTo, numberedAt, namedAt, referenceAt}
-use Rattle.characters.specs.Says.{Met, referred, standing, met, charOf, says}
+use Rattle.characters.specs.References.{xmlChar, decimalDigit, refDigit, base, digitValue, numberBy, charBy, numberedTo, numberedAt, namedAt, referenceAt}
+use Rattle.characters.specs.Says.{referred, standing, met, charOf, says}
 use Rattle.characters.specs.declared.Char.the-variants.{Is}
 use Rattle.characters.proofs.Saying.{says-none}
-use Rattle.attributes.specs.Attribute.{fit, standingNext, referredNext, valueNext, valueOver, value, plain}
-use Rattle.attributes.specs.declared.Value.{Value}
+use Rattle.attributes.specs.Attribute.{fit, standingNext, referredNext, valueNext, valueOver, plain}
 use Rattle.attributes.specs.declared.Value.the-variants.{Long}
 use Rattle.attributes.proofs.Values.{met-other, fit-other, plain-step}
 use Rattle.escapes.specs.Escaped.{escapedByte, escaped}

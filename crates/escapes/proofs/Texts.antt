@@ -1,6 +1,6 @@
 -- A text of XML characters is the spelling of its characters, and the spelling of XML characters is a text of them. Assumes nothing.
-use Prim.Native.Nat.{ℕ, zero, suc, pred, _≤_}
-use mathlib.Core.Path.{_≡_, refl, sym, ap, _∙_}
+use Prim.Native.Nat.{ℕ, zero, suc, _≤_}
+use mathlib.Core.Path.{_≡_, refl, ap, _∙_}
 use mathlib.Core.List.{List, [], _∷_, _++_}
 use mathlib.Core.Bool.{Bool, true}
 use native.Mathlib.Omega.{arith}

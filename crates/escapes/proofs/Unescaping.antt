@@ -2,7 +2,7 @@
 -- Assumes nothing.
 use Prim.Native.Nat.{ℕ, zero, suc, pred, _+_, _-_, _≤_, _<_, min}
 use mathlib.Core.Path.{_≡_, refl, sym, ap, _∙_}
-use mathlib.Core.List.{List, [], _∷_, _++_}
+use mathlib.Core.List.{List, [], _∷_}
 use mathlib.Core.Bool.{true, false}
 use mathlib.Core.Logic.{⊎-elim}
 use native.Mathlib.Omega.{arith}
@@ -11,13 +11,13 @@ use lib.Seq.{sets}
 use borrow.Rule.Slice.PartMut.{midOf, putMid}
 use Rattle.lists.proofs.Cases.{bool-cases, zero-not-one}
 use Rattle.lists.proofs.Loans.{rest-part}
-use Rattle.characters.specs.References.{within, xmlChar, numberBy, charBy, referenceAt}
+use Rattle.characters.specs.References.{within, xmlChar, charBy, referenceAt}
 use Rattle.characters.specs.Says.{met, charOf, saidAt, saysAfter, says}
 use Rattle.characters.specs.declared.Char.the-variants.{Is, NoChar}
 use Rattle.characters.specs.declared.Said.{Said}
 use Rattle.characters.specs.declared.Said.the-variants.{Says, Over}
 use Rattle.characters.proofs.Low.{char-inside}
-use Rattle.characters.proofs.Units.{Numbered, Named, Referred, hex, dec, amp, lt, gt, quot, apos, referred-is, Unit′, stands, refers, unit-is}
+use Rattle.characters.proofs.Units.{Referred, hex, dec, amp, lt, gt, quot, apos, referred-is, Unit′, stands, refers, unit-is}
 use Rattle.characters.proofs.Saying.{said-char, said-over, said-end, said-not-over, Uttered, unit, stray, uttered, said-some-bytes, said-inside}
 use Rattle.escapes.specs.Spelled.{utf8, spelled, unescaped}
 use Rattle.escapes.proofs.Putting.{Put, put-piece, put-end}

@@ -5,7 +5,6 @@ use mathlib.Core.Bool.{cond}
 use lib.Dec.{ltb}
 use Rattle.characters.specs.Utf8.{charAt}
 use Rattle.characters.specs.Says.{says}
-use Rattle.characters.specs.declared.Char.{Char}
 use Rattle.characters.specs.declared.Char.the-variants.{Is, NoChar}
 
 -- RFC 3629: a character below 80 is its own byte, one below 800 has two bytes, one below 10000 three, any other four; six bits to each byte after the first

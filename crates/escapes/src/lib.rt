@@ -59,19 +59,23 @@ fn put_escaped_byte(free: &mut [u8], b: u8) -> usize
     }
 }
 
-// Puts a text as it stands between double quotes, as far as there are bytes, and answers how many bytes that is.
-// Ruled out: a quote, `<` or `&` left as it is; a reference for any other character than tab, LF and CR; a length that counts only what found room.
+// Puts a text as it stands between double quotes, as far as there are bytes, and answers how many bytes that is, or one more than there is room for.
+// Ruled out: a quote, `<` or `&` left as it is; a reference for any other character than tab, LF and CR; an answer that fits where the text does not.
 pub fn put_escaped(free: &mut [u8], v: &[u8]) -> usize
-    requires { ⌜ length (now v) ≤ 4294967296 ⌝ }
-    ensures answer { λ r. ⌜ r ≡ length (escaped (now (v .entry))) ⌝ }
+    ensures answer { λ r. ⌜ r ≡ min (length (escaped (now (v .entry)))) (length (now (free .entry)) + 1) ⌝ }
     ensures buffer { λ _. ⌜ now (free .exit) ≡ sets (now (free .entry)) 0 (escaped (now (v .entry))) ⌝ }
 {
     let mut at: usize = 0;
     let mut i: usize = 0;
     while i < v.len() {
-        let from = free_from(at, free.len());
-        at += put_escaped_byte(&mut free[from..], v[i]);
+        if free.len() < at {
+            return free.len() + 1;
+        }
+        at += put_escaped_byte(&mut free[at..], v[i]);
         i += 1;
+    }
+    if free.len() < at {
+        return free.len() + 1;
     }
     at
 }

@@ -2,17 +2,13 @@
 -- Assumes nothing.
 use Prim.Native.Nat.{_-_}
 use native.Mathlib.Omega.{arith}
-use lib.ListN.{length, drop}
+use lib.ListN.{length, drop, getD}
 use borrow.Author.Needs.{needs}
 use Rattle.escapes.specs.Escaped.{escaped}
-use Rattle.escapes.proofs.Putting.{Put, put-start, put-most}
-use Rattle.escapes.proofs.Escaping.{escaped-most, escaped-more, escaped-end}
+use Rattle.escapes.proofs.Putting.{Put, put-start, put-full, put-whole}
+use Rattle.escapes.proofs.Escaping.{byte-most, escaped-more, escaped-over}
 use Rattle.escapes.proofs.put_escaped.Statement.{statement}
 use Rattle.escapes.proofs.put_escaped.Tie as tie
-use Rattle.escapes.proofs.put_escaped.Reads as reads
-use Rattle.escapes.proofs.put_escaped.Lts as lts
-use Rattle.escapes.proofs.free_from.Reads as free-from-reads
-use Rattle.escapes.proofs.put_escaped_byte.Reads as put-escaped-byte-reads
 
 abbrev Inv-loop : tie.InvT-loop
 Inv-loop free₀ v at₀ i₀ free at i = Put (escaped v) free₀ free at (escaped (drop i v))
@@ -23,14 +19,20 @@ abbrev μ-loop : tie.MeasureT-loop
 loop-holds : tie.Need-loop-holds Inv-loop μ-loop
 loop-holds c = put-start _ _
 
-free-from-requires : tie.Need-free-from-requires Inv-loop μ-loop
-free-from-requires c κs = search needs
+add-result : tie.Need-add-result Inv-loop μ-loop
+add-result c = omega arith
+
+same-length : tie.Need-same-length Inv-loop μ-loop
+same-length c = c .before .before .loop .inv .same
+
+returns : tie.Need-returns Inv-loop μ-loop
+returns c = put-full (c .before .before .loop .inv) (c .if1 .taken)
 
 sub-put-escaped-byte : tie.Need-sub-put-escaped-byte Inv-loop μ-loop
-sub-put-escaped-byte c = omega (arith, c .free-from .ensures)
+sub-put-escaped-byte c = omega arith
 
 part-put-escaped-byte-start : tie.Need-part-put-escaped-byte-start Inv-loop μ-loop
-part-put-escaped-byte-start c = omega (arith, c .free-from .ensures)
+part-put-escaped-byte-start c = omega arith
 
 part-put-escaped-byte-end : tie.Need-part-put-escaped-byte-end Inv-loop μ-loop
 part-put-escaped-byte-end c = search needs
@@ -42,11 +44,7 @@ put-escaped-byte-requires : tie.Need-put-escaped-byte-requires Inv-loop μ-loop
 put-escaped-byte-requires c κs = search needs
 
 add-at : tie.Need-add-at Inv-loop μ-loop
-add-at c =
-    let w =
-    escaped-more _ _ _ _ _ (c .before .before .before .before .before .before .before .loop .inv) (c .before .before .before .before .before .before .loop-test .taken) _ _ _
-    (c .before .before .before .before .before .free-from .ensures) (c .before .before .put-escaped-byte .ensures .0) (c .before .before .put-escaped-byte .ensures .1) in
-    omega (arith, put-most w, escaped-most (c .before .before .before .before .before .before .before .before .before .before .args .v .now), c .before .before .before .before .before .before .before .before .before .before .pre)
+add-at c = omega (arith, c .before .before .before .before .before .if1 .left, c .before .before .put-escaped-byte .ensures .0, byte-most (getD (c .before .before .before .before .before .before .before .before .before .before .args .v .now) (c .before .before .before .before .before .before .before .loop .i) 0))
 
 add-i : tie.Need-add-i Inv-loop μ-loop
 add-i c = omega arith
@@ -56,14 +54,22 @@ loop-less c = omega arith
 
 loop-again : tie.Need-loop-again Inv-loop μ-loop
 loop-again c =
-    escaped-more _ _ _ _ _ (c .before .before .before .before .before .before .before .loop .inv) (c .before .before .before .before .before .before .loop-test .taken) _ _ _
-    (c .before .before .before .before .before .free-from .ensures) (c .before .before .put-escaped-byte .ensures .0) (c .before .before .put-escaped-byte .ensures .1)
+    escaped-more _ _ _ _ _ (c .before .before .before .before .before .before .before .loop .inv) (c .before .before .before .before .before .before .loop-test .taken) (c .before .before .before .before .before .if1 .left) _ _ (c .before .before .put-escaped-byte .ensures .0) (c .before .before .put-escaped-byte .ensures .1)
 
-same-length : tie.Need-same-length Inv-loop μ-loop
-same-length c = c .before .loop .inv .same
+add-result-2 : tie.Need-add-result-2 Inv-loop μ-loop
+add-result-2 c = omega arith
 
-returns : tie.Need-returns Inv-loop μ-loop
-returns c = escaped-end _ _ _ _ _ (c .before .loop .inv) (c .loop-test .left)
+same-length-2 : tie.Need-same-length-2 Inv-loop μ-loop
+same-length-2 c = c .before .before .loop .inv .same
+
+returns-2 : tie.Need-returns-2 Inv-loop μ-loop
+returns-2 c = put-full (c .before .before .loop .inv) (c .if2 .taken)
+
+same-length-3 : tie.Need-same-length-3 Inv-loop μ-loop
+same-length-3 c = c .before .before .loop .inv .same
+
+returns-3 : tie.Need-returns-3 Inv-loop μ-loop
+returns-3 c = put-whole (c .before .before .loop .inv) (escaped-over _ _ (c .before .loop-test .left)) (c .if2 .left)
 
 pub put-escaped-spec : {M : Type 1} → statement M
 put-escaped-spec =
@@ -72,7 +78,9 @@ put-escaped-spec =
     Inv-loop
     μ-loop
     loop-holds
-    free-from-requires
+    add-result
+    same-length
+    returns
     sub-put-escaped-byte
     part-put-escaped-byte-start
     part-put-escaped-byte-end
@@ -82,5 +90,8 @@ put-escaped-spec =
     add-i
     loop-less
     loop-again
-    same-length
-    returns)
+    add-result-2
+    same-length-2
+    returns-2
+    same-length-3
+    returns-3)

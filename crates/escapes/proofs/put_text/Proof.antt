@@ -7,9 +7,6 @@ use borrow.Author.Needs.{needs}
 use Rattle.escapes.proofs.Putting.{Put, put-start, next-byte, put-byte, put-end}
 use Rattle.escapes.proofs.put_text.Statement.{statement}
 use Rattle.escapes.proofs.put_text.Tie as tie
-use Rattle.escapes.proofs.put_text.Reads as reads
-use Rattle.escapes.proofs.put_text.Lts as lts
-use Rattle.escapes.proofs.set_byte.Reads as set-byte-reads
 
 abbrev Inv-loop : tie.InvT-loop
 Inv-loop free₀ t i₀ free i = Put t free₀ free i (drop i t)

@@ -9,11 +9,6 @@ use Rattle.escapes.proofs.Putting.{Put, put-start, put-most}
 use Rattle.escapes.proofs.Unescaping.{unescaped-most, unescaped-below, unescaped-more, unescaped-over, unescaped-end}
 use Rattle.escapes.proofs.put_unescaped.Statement.{statement}
 use Rattle.escapes.proofs.put_unescaped.Tie as tie
-use Rattle.escapes.proofs.put_unescaped.Reads as reads
-use Rattle.escapes.proofs.put_unescaped.Lts as lts
-use Rattle.characters.proofs.said_at.Reads as said-at-reads
-use Rattle.escapes.proofs.free_from.Reads as free-from-reads
-use Rattle.escapes.proofs.put_utf8.Reads as put-utf8-reads
 
 abbrev Inv-loop : tie.InvT-loop
 Inv-loop free₀ v at₀ i₀ free at i = Put (unescaped v) free₀ free at (unescaped (drop i v))

@@ -3,10 +3,6 @@ use borrow.Author.Needs.{needs}
 use Rattle.escapes.proofs.Spelling.{utf8-one, utf8-two, utf8-three, utf8-four}
 use Rattle.escapes.proofs.put_utf8.Statement.{statement}
 use Rattle.escapes.proofs.put_utf8.Tie as tie
-use Rattle.escapes.proofs.put_utf8.Reads as reads
-use Rattle.escapes.proofs.put_utf8.Lts as lts
-use Rattle.escapes.proofs.later_byte.Reads as later-byte-reads
-use Rattle.escapes.proofs.put_text.Reads as put-text-reads
 
 cast-t8 : tie.Need-cast-t8
 cast-t8 c = search needs
