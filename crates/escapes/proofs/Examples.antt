@@ -18,17 +18,17 @@ pub six : escaped (0x26 ∷ 0x3C ∷ 0x22 ∷ 0x09 ∷ 0x0A ∷ 0x0D ∷ []) ≡
 unfolding escaped escapedByte
 six = refl
 
--- "`'`, `>` and characters from 7F on stay as they are": here 7F, `ß` and U+10000
+-- `'`, `>` and characters from 7F on stay as they are: here 7F, `ß` and U+10000
 pub others : escaped (text "'>" ++ 0x7F ∷ 0xC3 ∷ 0x9F ∷ 0xF0 ∷ 0x90 ∷ 0x80 ∷ 0x80 ∷ []) ≡ text "'>" ++ 0x7F ∷ 0xC3 ∷ 0x9F ∷ 0xF0 ∷ 0x90 ∷ 0x80 ∷ 0x80 ∷ []
 unfolding escaped escapedByte
 others = refl
 
--- "`A&#48;1` is seven characters"
+-- as a text, `A&#48;1` is seven characters
 pub literal : (escaped (text "A&#48;1") ≡ text "A&amp;#48;1") × (length (charsOf (text "A&#48;1")) ≡ 7)
 unfolding escaped escapedByte charsOf charsAfter charAt seqLen single control byte
 literal = (refl, refl)
 
--- and as a value of a document it says three, of three bytes; `&#x20AC;` says one, of three
+-- as a value of a document it says three, of a byte each; `&#x20AC;` says one, of three bytes
 pub meant : (unescaped (text "A&#48;1") ≡ text "A01") × (unescaped (text "&#x20AC;") ≡ 0xE2 ∷ 0x82 ∷ 0xAC ∷ [])
 unfolding unescaped spelled utf8 says saysAfter saidAt saidBy charOf met charAt seqLen single control byte referenceAt namedAt numberedAt numberedTo begins same run refDigit decimalDigit hexDigit partOf numberBy base digitValue charBy xmlChar within
 meant = (refl, refl)

@@ -24,7 +24,7 @@ use Rattle.escapes.proofs.Standing.{escaped-says, escaped-value}
 use Rattle.escapes.proofs.Values.{value-xml}
 
 module _ (t : List ℕ) (legal : allChars t ≡ true) where
-  -- "The text is literal: `A&#48;1` is seven characters."
+  -- "a lent text of the unescaped header values and identifications": what is written says what the text has, byte for byte
   pub says-escaped : says (escaped t) ≡ charsOf t
   says-escaped = ap (λ (s : List ℕ). says (escaped s)) (sym (text-spelled t legal)) ∙ escaped-says (charsOf t) (text-xml t legal)
 
@@ -37,6 +37,7 @@ module _ (t : List ℕ) (legal : allChars t ≡ true) where
       ∙ ap Long (zero-add (length (escaped (spelled (charsOf t)))))
       ∙ ap (λ (s : List ℕ). Long (length (escaped s))) (text-spelled t legal)
 
+  -- and what is written can be read
   pub unescaped-escaped : unescaped (escaped t) ≡ t
   unfolding unescaped
   unescaped-escaped = ap spelled says-escaped ∙ text-spelled t legal
@@ -49,7 +50,7 @@ module _ (q : ℕ) (x : List ℕ) (m : ℕ) (quotes : quote q ≡ true) (whole :
   xml : Xml (says (take m x))
   xml = value-xml q (let r = quote-range q quotes in omega (arith, r .1)) x m whole
 
-  -- "proved to give what the value says"
+  -- an unescaped value has what the value says
   pub unescaped-chars : charsOf (unescaped (take m x)) ≡ says (take m x)
   unfolding unescaped
   unescaped-chars = spelled-chars (says (take m x)) xml
@@ -58,6 +59,6 @@ module _ (q : ℕ) (x : List ℕ) (m : ℕ) (quotes : quote q ≡ true) (whole :
   unfolding unescaped
   unescaped-legal = spelled-all (says (take m x)) xml
 
-  -- "so that what was read can be written"
+  -- so that what was read can be written: it "gives back the same .. texts"
   pub says-again : says (escaped (unescaped (take m x))) ≡ says (take m x)
   says-again = says-escaped (unescaped (take m x)) unescaped-legal ∙ unescaped-chars

@@ -1,4 +1,5 @@
--- K6: "references only where a byte needs one (`&amp;`, `&lt;`, `&quot;`, `&#9;`, `&#10;`, `&#13;`)": a text as it is written between double quotes.
+-- K6: "references only where a byte needs one (`&amp;`, `&lt;`, `&quot;`, `&#9;`, `&#10;`, `&#13;`)": a text as it is written between
+-- double quotes. It is "unescaped", so that each of its bytes means itself: `A&#48;1` is seven characters.
 use Prim.Native.Nat.{ℕ}
 use Prim.Native.Char.{code}
 use mathlib.Core.List.{List, [], _∷_, _++_}
@@ -6,6 +7,7 @@ use mathlib.Core.Bool.{cond}
 use lib.Dec.{eqb}
 use Rattle.slices.specs.Text.{text}
 
+-- any other byte, `'`, `>` and those from 7F on among them, stays as it is
 unfoldable pub escapedByte : ℕ → List ℕ
 escapedByte b =
     cond (eqb b (code "&")) (text "&amp;")

@@ -19,11 +19,11 @@ unfoldable pub spelled : List ℕ → List ℕ
 spelled [] = []
 spelled (c ∷ l) = utf8 c ++ spelled l
 
--- "unescapes a value of a document": the bytes of what it says. A byte that says no character is 0.
+-- a value of a document as a text of "unescaped header values and identifications" has it: the bytes of what it says; a byte that says no character is 0
 unfoldable pub unescaped : List ℕ → List ℕ
 unescaped v = spelled (says v)
 
--- "The text is literal": the characters of a text, in which `&` stands for itself, after k bytes of the last one
+-- the characters of such a text, in which `&` stands for itself, after k bytes of the last one; a byte that belongs to none is 0
 unfoldable pub charsAfter : ℕ → List ℕ → List ℕ
 charsAfter k [] = []
 charsAfter (suc k) (b ∷ t) = charsAfter k t
