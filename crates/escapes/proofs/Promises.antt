@@ -6,13 +6,16 @@
 --     unescaped-chars    the characters of an unescaped value are those that the value says
 --     unescaped-legal    and are XML characters in UTF-8
 --     says-again         escaped again, they are said again
+--     a-value            every text of XML characters in UTF-8 is a readable value, unescaped
+--     values-alone       and no other text is
 use Prim.Native.Nat.{ℕ}
-use mathlib.Core.Path.{_≡_, sym, ap, _∙_}
-use mathlib.Core.List.{List, _∷_, _++_}
+use mathlib.Core.Path.{_≡_, refl, sym, ap, _∙_}
+use mathlib.Core.List.{List, [], _∷_, _++_}
 use mathlib.Core.Bool.{true}
 use native.Mathlib.Nat.{zero-add}
 use native.Mathlib.Omega.{arith}
 use lib.ListN.{length, take}
+use lib.Seq.{take-append-seam}
 use Rattle.characters.specs.Says.{allChars, says}
 use Rattle.attributes.specs.Attribute.{quote, value}
 use Rattle.attributes.specs.declared.Value.the-variants.{Long}
@@ -62,3 +65,28 @@ module _ (q : ℕ) (x : List ℕ) (m : ℕ) (quotes : quote q ≡ true) (whole :
   -- so that what was read can be written: it "gives back the same .. texts"
   pub says-again : says (escaped (unescaped (take m x))) ≡ says (take m x)
   says-again = says-escaped (unescaped (take m x)) unescaped-legal ∙ unescaped-chars
+
+-- the text t is a readable value, unescaped: of `size` bytes at the front of `from`, up to the quote `mark`
+pub record Unescapes (t : List ℕ) : Type 0 where
+  pub mark : ℕ
+  pub from : List ℕ
+  pub size : ℕ
+  pub quotes : quote mark ≡ true
+  pub whole : value mark from ≡ Long size
+  pub text : unescaped (take size from) ≡ t
+
+-- "refuses exactly when no document .. would be accepted": of a text, as far as its characters go
+pub a-value : (t : List ℕ) → allChars t ≡ true → Unescapes t
+unfolding quote
+a-value t legal =
+    record {
+      mark = 0x22;
+      from = escaped t ++ 0x22 ∷ [];
+      size = length (escaped t);
+      quotes = refl;
+      whole = escaped-whole t legal [];
+      text = ap unescaped (take-append-seam (escaped t) (0x22 ∷ [])) ∙ unescaped-escaped t legal;
+    }
+
+pub values-alone : {t : List ℕ} → Unescapes t → allChars t ≡ true
+values-alone u = ap allChars (sym (u .text)) ∙ unescaped-legal (u .mark) (u .from) (u .size) (u .quotes) (u .whole)

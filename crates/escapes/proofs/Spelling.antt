@@ -264,39 +264,39 @@ module _ (s : List ℕ) {c n : ℕ} (e : charAt s ≡ Is c n) where
 
 -- ---- from the character to bytes: its spelling is read as this character, whatever follows it
 
-module _ (a b c d : ℕ) (r : List ℕ) where
-  second-in : 0x80 ≤ b → b ≤ 0xBF → (a ≡ 0xE0 → 0xA0 ≤ b) → (a ≡ 0xF0 → 0x90 ≤ b) → (a ≡ 0xED → b ≤ 0x9F) → (a ≡ 0xF4 → b ≤ 0x8F) → second a b ≡ true
-  unfolding second low high
-  second-in l m f g h k =
-      let x : low a ≤ b =
-      by-test (λ (n : ℕ). n ≤ b) (eqb a 0xE0) (λ e. f (eqb-true _ _ e)) (λ n. by-test (λ (n : ℕ). n ≤ b) (eqb a 0xF0) (λ e. g (eqb-true _ _ e)) (λ n. l)) in
-      let y : b ≤ high a =
-      by-test (λ (n : ℕ). b ≤ n) (eqb a 0xED) (λ e. h (eqb-true _ _ e)) (λ n. by-test (λ (n : ℕ). b ≤ n) (eqb a 0xF4) (λ e. k (eqb-true _ _ e)) (λ n. m)) in
-      rw (le-leb (low a) b x, le-leb b (high a) y)
+second-in : (a b : ℕ) → 0x80 ≤ b → b ≤ 0xBF → (a ≡ 0xE0 → 0xA0 ≤ b) → (a ≡ 0xF0 → 0x90 ≤ b) → (a ≡ 0xED → b ≤ 0x9F) → (a ≡ 0xF4 → b ≤ 0x8F) → second a b ≡ true
+unfolding second low high
+second-in a b l m f g h k =
+    let x : low a ≤ b =
+    by-test (λ (n : ℕ). n ≤ b) (eqb a 0xE0) (λ e. f (eqb-true _ _ e)) (λ n. by-test (λ (n : ℕ). n ≤ b) (eqb a 0xF0) (λ e. g (eqb-true _ _ e)) (λ n. l)) in
+    let y : b ≤ high a =
+    by-test (λ (n : ℕ). b ≤ n) (eqb a 0xED) (λ e. h (eqb-true _ _ e)) (λ n. by-test (λ (n : ℕ). b ≤ n) (eqb a 0xF4) (λ e. k (eqb-true _ _ e)) (λ n. m)) in
+    rw (le-leb (low a) b x, le-leb b (high a) y)
 
-  later-in : (x : ℕ) → laterByte (0x80 + x % 64) ≡ true
-  unfolding laterByte
-  later-in x = rw (le-leb 0x80 (0x80 + x % 64) (omega arith), le-leb (0x80 + x % 64) 0xBF (omega arith))
+later-in : (x : ℕ) → laterByte (0x80 + x % 64) ≡ true
+unfolding laterByte
+later-in x = rw (le-leb 0x80 (0x80 + x % 64) (omega arith), le-leb (0x80 + x % 64) 0xBF (omega arith))
 
-  two-at : 0xC2 ≤ a → a ≤ 0xDF → charAt (a ∷ b ∷ r) ≡ double a b
-  unfolding charAt seqLen byte
-  two-at l h = rw (lt-leb a 0x7F (omega arith), lt-leb a 0xC1 l, le-leb a 0xDF h)
+-- only FFFE and FFFF are none
+nonchar-none : (a b c : ℕ) → (a ≡ 0xEF → b ≡ 0xBF → c < 0xBE) → nonchar a b c ≡ false
+unfolding nonchar
+nonchar-none a b c f =
+    by-test (λ (t : Bool). t ≡ false) (eqb a 0xEF)
+    (λ e. by-test (λ (t : Bool). t ≡ false) (eqb b 0xBF) (λ g. lt-leb 0xBE c (f (eqb-true _ _ e) (eqb-true _ _ g))) (λ g. refl))
+    (λ e. refl)
 
-  three-at : 0xE0 ≤ a → a ≤ 0xEF → charAt (a ∷ b ∷ c ∷ r) ≡ triple a b c
-  unfolding charAt seqLen byte
-  three-at l h = rw (lt-leb a 0x7F (omega arith), lt-leb a 0xC1 (omega arith), lt-leb a 0xDF l, le-leb a 0xEF h)
+-- by the lead byte
+two-at : (a b : ℕ) (r : List ℕ) → 0xC2 ≤ a → a ≤ 0xDF → charAt (a ∷ b ∷ r) ≡ double a b
+unfolding charAt seqLen byte
+two-at a b r l h = rw (lt-leb a 0x7F (omega arith), lt-leb a 0xC1 l, le-leb a 0xDF h)
 
-  four-at : 0xF0 ≤ a → a ≤ 0xF4 → charAt (a ∷ b ∷ c ∷ d ∷ r) ≡ fourfold a b c d
-  unfolding charAt seqLen byte
-  four-at l h = rw (lt-leb a 0x7F (omega arith), lt-leb a 0xC1 (omega arith), lt-leb a 0xDF (omega arith), lt-leb a 0xEF l, le-leb a 0xF4 h)
+three-at : (a b c : ℕ) (r : List ℕ) → 0xE0 ≤ a → a ≤ 0xEF → charAt (a ∷ b ∷ c ∷ r) ≡ triple a b c
+unfolding charAt seqLen byte
+three-at a b c r l h = rw (lt-leb a 0x7F (omega arith), lt-leb a 0xC1 (omega arith), lt-leb a 0xDF l, le-leb a 0xEF h)
 
-  -- only FFFE and FFFF are none
-  nonchar-none : (a ≡ 0xEF → b ≡ 0xBF → c < 0xBE) → nonchar a b c ≡ false
-  unfolding nonchar
-  nonchar-none f =
-      by-test (λ (t : Bool). t ≡ false) (eqb a 0xEF)
-      (λ e. by-test (λ (t : Bool). t ≡ false) (eqb b 0xBF) (λ g. lt-leb 0xBE c (f (eqb-true _ _ e) (eqb-true _ _ g))) (λ g. refl))
-      (λ e. refl)
+four-at : (a b c d : ℕ) (r : List ℕ) → 0xF0 ≤ a → a ≤ 0xF4 → charAt (a ∷ b ∷ c ∷ d ∷ r) ≡ fourfold a b c d
+unfolding charAt seqLen byte
+four-at a b c d r l h = rw (lt-leb a 0x7F (omega arith), lt-leb a 0xC1 (omega arith), lt-leb a 0xDF (omega arith), lt-leb a 0xEF l, le-leb a 0xF4 h)
 
 module _ (c : ℕ) where
   pub utf8-one : c < 0x80 → utf8 c ≡ c ∷ []
@@ -328,6 +328,22 @@ module _ (c : ℕ) where
       (λ y. ⊎-elim (λ z. two (y .0) (z .0)) (λ z. ⊎-elim (λ u. three (z .0) (u .0)) (λ u. four (u .0)) (ltb-cases c 0x10000)) (ltb-cases c 0x800))
       (ltb-cases c 0x80)
 
+  -- what each byte has of the number, and their sum
+  four-sum : c ≤ 0x10FFFF → (0xF0 + c / 262144) % 8 * 262144 + (0x80 + c / 4096 % 64) % 64 * 4096 + (0x80 + c / 64 % 64) % 64 * 64 + (0x80 + c % 64) % 64 ≡ c
+  four-sum h =
+      let w : (0xF0 + c / 262144) % 8 ≡ c / 262144 = omega arith in
+      let x : (0x80 + c / 4096 % 64) % 64 ≡ c / 4096 % 64 = omega arith in
+      let y : (0x80 + c / 64 % 64) % 64 ≡ c / 64 % 64 = omega arith in
+      let z : (0x80 + c % 64) % 64 ≡ c % 64 = omega arith in
+      rw (w, x, y, z) parts
+    where
+      parts : c / 262144 * 262144 + c / 4096 % 64 * 4096 + c / 64 % 64 * 64 + c % 64 ≡ c
+      parts =
+          let e : c / 4096 ≡ c / 262144 * 64 + c / 4096 % 64 = omega arith in
+          let f : c / 64 ≡ c / 4096 * 64 + c / 64 % 64 = omega arith in
+          let g : c ≡ c / 64 * 64 + c % 64 = omega arith in
+          omega arith
+
   module _ (r : List ℕ) where
     abbrev Read : List ℕ → Type 0
     Read l = charAt (l ++ r) ≡ Is c (length l)
@@ -342,9 +358,9 @@ module _ (c : ℕ) where
         let a = 0xC0 + c / 64 in
         let b = 0x80 + c % 64 in
         let s : second a b ≡ true =
-        second-in a b 0 0 r (omega arith) (omega arith) (λ e. omega arith) (λ e. omega arith) (λ e. omega arith) (λ e. omega arith) in
+        second-in a b (omega arith) (omega arith) (λ e. omega arith) (λ e. omega arith) (λ e. omega arith) (λ e. omega arith) in
         let k : a % 32 * 64 + b % 64 ≡ c = omega arith in
-        two-at a b 0 0 r (omega arith) (omega arith) ∙ rw (s, k)
+        two-at a b r (omega arith) (omega arith) ∙ rw (s, k)
 
     read-three : 0x800 ≤ c → c < 0x10000 → (c ≤ 0xD7FF) ⊎ ((0xE000 ≤ c) × (c ≤ 0xFFFD)) → Read ((0xE0 + c / 4096) ∷ (0x80 + c / 64 % 64) ∷ (0x80 + c % 64) ∷ [])
     unfolding triple
@@ -353,27 +369,11 @@ module _ (c : ℕ) where
         let b = 0x80 + c / 64 % 64 in
         let d = 0x80 + c % 64 in
         let s : second a b ≡ true =
-        second-in a b 0 0 r (omega arith) (omega arith) (λ e. omega arith) (λ e. omega arith)
+        second-in a b (omega arith) (omega arith) (λ e. omega arith) (λ e. omega arith)
         (λ e. ⊎-elim (λ y. omega (arith, y)) (λ y. omega (arith, y)) x) (λ e. omega arith) in
-        let n : nonchar a b d ≡ false = nonchar-none a b d 0 r (λ e f. ⊎-elim (λ y. omega (arith, y)) (λ y. omega (arith, y)) x) in
+        let n : nonchar a b d ≡ false = nonchar-none a b d (λ e f. ⊎-elim (λ y. omega (arith, y)) (λ y. omega (arith, y)) x) in
         let k : a % 16 * 4096 + b % 64 * 64 + d % 64 ≡ c = omega arith in
-        three-at a b d 0 r (omega arith) (omega arith) ∙ rw (s, later-in 0 0 0 0 r c, n, k)
-
-    -- what each byte has of the number, and their sum
-    four-sum : c ≤ 0x10FFFF → (0xF0 + c / 262144) % 8 * 262144 + (0x80 + c / 4096 % 64) % 64 * 4096 + (0x80 + c / 64 % 64) % 64 * 64 + (0x80 + c % 64) % 64 ≡ c
-    four-sum h =
-        let w : (0xF0 + c / 262144) % 8 ≡ c / 262144 = omega arith in
-        let x : (0x80 + c / 4096 % 64) % 64 ≡ c / 4096 % 64 = omega arith in
-        let y : (0x80 + c / 64 % 64) % 64 ≡ c / 64 % 64 = omega arith in
-        let z : (0x80 + c % 64) % 64 ≡ c % 64 = omega arith in
-        rw (w, x, y, z) parts
-      where
-        parts : c / 262144 * 262144 + c / 4096 % 64 * 4096 + c / 64 % 64 * 64 + c % 64 ≡ c
-        parts =
-            let e : c / 4096 ≡ c / 262144 * 64 + c / 4096 % 64 = omega arith in
-            let f : c / 64 ≡ c / 4096 * 64 + c / 64 % 64 = omega arith in
-            let g : c ≡ c / 64 * 64 + c % 64 = omega arith in
-            omega arith
+        three-at a b d r (omega arith) (omega arith) ∙ rw (s, later-in c, n, k)
 
     read-four : 0x10000 ≤ c → c ≤ 0x10FFFF → Read ((0xF0 + c / 262144) ∷ (0x80 + c / 4096 % 64) ∷ (0x80 + c / 64 % 64) ∷ (0x80 + c % 64) ∷ [])
     unfolding fourfold
@@ -383,9 +383,9 @@ module _ (c : ℕ) where
         let d = 0x80 + c / 64 % 64 in
         let e = 0x80 + c % 64 in
         let s : second a b ≡ true =
-        second-in a b 0 0 r (omega arith) (omega arith) (λ e. omega arith) (λ e. omega arith) (λ e. omega arith) (λ e. omega arith) in
+        second-in a b (omega arith) (omega arith) (λ e. omega arith) (λ e. omega arith) (λ e. omega arith) (λ e. omega arith) in
         let k : a % 8 * 262144 + b % 64 * 4096 + d % 64 * 64 + e % 64 ≡ c = four-sum h in
-        four-at a b d e r (omega arith) (omega arith) ∙ rw (s, later-in 0 0 0 0 r (c / 64), later-in 0 0 0 0 r c, k)
+        four-at a b d e r (omega arith) (omega arith) ∙ rw (s, later-in (c / 64), later-in c, k)
 
     pub utf8-read : xmlChar c ≡ true → charAt (utf8 c ++ r) ≡ Is c (length (utf8 c))
     utf8-read e = by size (xml-range c e)
