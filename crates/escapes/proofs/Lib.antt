@@ -5,6 +5,7 @@ pub mod Texts
 pub mod Standing
 pub mod Unescaping
 pub mod Values
+pub mod Attributes
 pub mod Promises
 pub mod Examples
 pub mod Unique

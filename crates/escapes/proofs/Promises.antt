@@ -1,6 +1,7 @@
 -- What is promised of escaped texts and unescaped values. Assumes nothing.
 --     says-escaped       an escaped text says its characters, `&` for itself
 --     escaped-whole      between double quotes it is read up to its end
+--     written-attribute  so that an attribute written ` name="text"` is read as that attribute
 --     unescaped-escaped  unescaped again it is the text
 --     escaped-one        two texts that are escaped alike are one
 --     unescaped-chars    the characters of an unescaped value are those that the value says
@@ -8,7 +9,7 @@
 --     says-again         escaped again, they are said again
 --     a-value            every text of XML characters in UTF-8 is a readable value, unescaped
 --     values-alone       and no other text is
-use Prim.Native.Nat.{ℕ}
+use Prim.Native.Nat.{ℕ, _+_}
 use mathlib.Core.Path.{_≡_, refl, sym, ap, _∙_}
 use mathlib.Core.List.{List, [], _∷_, _++_}
 use mathlib.Core.Bool.{true}
@@ -16,8 +17,11 @@ use native.Mathlib.Nat.{zero-add}
 use native.Mathlib.Omega.{arith}
 use lib.ListN.{length, take}
 use lib.Seq.{take-append-seam}
+use Rattle.slices.specs.Run.{run}
 use Rattle.characters.specs.Says.{allChars, says}
-use Rattle.attributes.specs.Attribute.{quote, value}
+use Rattle.attributes.specs.Names.{nameStart, nameByte}
+use Rattle.attributes.specs.Attribute.{quote, value, attributeEnd, piece}
+use Rattle.attributes.specs.declared.Piece.the-variants.{Attribute}
 use Rattle.attributes.specs.declared.Value.the-variants.{Long}
 use Rattle.attributes.proofs.Values.{quote-range}
 use Rattle.escapes.specs.Escaped.{escaped}
@@ -25,9 +29,10 @@ use Rattle.escapes.specs.Spelled.{spelled, unescaped, charsOf}
 use Rattle.escapes.proofs.Texts.{Xml, spelled-chars, spelled-all, text-xml, text-spelled}
 use Rattle.escapes.proofs.Standing.{escaped-says, escaped-value}
 use Rattle.escapes.proofs.Values.{value-xml}
+use Rattle.escapes.proofs.Attributes.{named-piece}
 
 module _ (t : List ℕ) (legal : allChars t ≡ true) where
-  -- "a lent text of the unescaped header values and identifications": what is written says what the text has, byte for byte
+  -- "a lent text of the unescaped header values and identifications": what is written says the characters of the text
   pub says-escaped : says (escaped t) ≡ charsOf t
   says-escaped = ap (λ (s : List ℕ). says (escaped s)) (sym (text-spelled t legal)) ∙ escaped-says (charsOf t) (text-xml t legal)
 
@@ -39,6 +44,14 @@ module _ (t : List ℕ) (legal : allChars t ≡ true) where
       ∙ escaped-value (charsOf t) r 0 (text-xml t legal)
       ∙ ap Long (zero-add (length (escaped (spelled (charsOf t)))))
       ∙ ap (λ (s : List ℕ). Long (length (escaped s))) (text-spelled t legal)
+
+  -- behind b and n, the bytes of a name
+  pub written-attribute : (b : ℕ) (n r : List ℕ) → nameStart b ≡ true → run nameByte (b ∷ n) ≡ length (b ∷ n)
+      → piece (0x20 ∷ b ∷ n ++ 0x3D ∷ 0x22 ∷ (escaped t ++ 0x22 ∷ r))
+      ≡ Attribute 1 (length (b ∷ n)) (length (b ∷ n) + 3) (length (escaped t)) (length (b ∷ n) + 3 + length (escaped t) + 1)
+  unfolding attributeEnd
+  written-attribute b n r starts named =
+      named-piece b n (escaped t ++ 0x22 ∷ r) starts named ∙ ap (attributeEnd 1 (length (b ∷ n)) (length (b ∷ n) + 3)) (escaped-whole r)
 
   -- and what is written can be read
   pub unescaped-escaped : unescaped (escaped t) ≡ t
