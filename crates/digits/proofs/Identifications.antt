@@ -24,12 +24,13 @@ use Rattle.characters.proofs.Saying.{said-some}
 use Rattle.attributes.specs.Attribute.{quote, fit, standingNext, valueNext, valueOver, value}
 use Rattle.attributes.specs.declared.Value.the-variants.{Long}
 use Rattle.attributes.proofs.Values.{met-other, quote-range, fit-other}
+use Rattle.escapes.specs.Spelled.{spelled}
+use Rattle.escapes.proofs.Spelling.{char-spelt}
 use Rattle.forms.specs.Forms.{identification}
 use Rattle.rules.specs.Rules.{formRefusal, codeNo, judge}
 use Rattle.rules.specs.declared.Held.{Held}
 use Rattle.digits.specs.Unseen.{Unseen}
 use Rattle.digits.specs.Identifications.{idByte, Clean, PutFor}
-use Rattle.digits.proofs.Spelling.{spelt, char-spelt}
 
 -- ---- a value that may stand between any quotes
 
@@ -130,15 +131,15 @@ module _ (q : ℕ) (quotes : quote q ≡ true) where
 
 -- ---- what such a value says tells its bytes
 
-clean-after : (v : List ℕ) (k : ℕ) → charsFrom k v ≡ true → run idByte v ≡ length v → spelt (saysAfter k v) ≡ drop k v
-unfolding walk charNext saysAfter saidBy spelt byte
+clean-after : (v : List ℕ) (k : ℕ) → charsFrom k v ≡ true → run idByte v ≡ length v → spelled (saysAfter k v) ≡ drop k v
+unfolding walk charNext saysAfter saidBy spelled byte
 clean-after [] zero h r = refl
 clean-after [] (suc k) h r = refl
 clean-after (b ∷ v) (suc k) h r = clean-after v k h (rest-bytes b v r .1)
 clean-after (b ∷ v) zero h r = by (charAt (b ∷ v)) refl (clean-after v)
   where
-    by : (x : Char) → charAt (b ∷ v) ≡ x → ((k : ℕ) → charsFrom k v ≡ true → run idByte v ≡ length v → spelt (saysAfter k v) ≡ drop k v)
-        → spelt (saysAfter zero (b ∷ v)) ≡ b ∷ v
+    by : (x : Char) → charAt (b ∷ v) ≡ x → ((k : ℕ) → charsFrom k v ≡ true → run idByte v ≡ length v → spelled (saysAfter k v) ≡ drop k v)
+        → spelled (saysAfter zero (b ∷ v)) ≡ b ∷ v
     by NoChar g f = never (rw (walk, g) at h)
     by (Is c zero) g f = let z = char-size (b ∷ v) g in absurd (omega arith)
     by (Is c (suc n)) g f =
@@ -147,13 +148,13 @@ clean-after (b ∷ v) zero h r = by (charAt (b ∷ v)) refl (clean-after v)
         let left : charsFrom n v ≡ true = rw (walk, g) at h in
         rw (saysAfter, first) (rw (← char-spelt (b ∷ v) g, f n left (own .1)) (take-append-drop (suc n) (b ∷ v)))
 
-clean-spelt : (v : List ℕ) → Clean v → spelt (says v) ≡ v
+clean-spelt : (v : List ℕ) → Clean v → spelled (says v) ≡ v
 unfolding says allChars
 clean-spelt v c = clean-after v 0 (c .legal) (c .bytes)
 
 -- "two identifications are equal when their meanings are": and of these, when their bytes are
 pub says-one : {a b : List ℕ} → Clean a → Clean b → says a ≡ says b → a ≡ b
-says-one {a} {b} c d e = sym (clean-spelt a c) ∙ ap spelt e ∙ clean-spelt b d
+says-one {a} {b} c d e = sym (clean-spelt a c) ∙ ap spelled e ∙ clean-spelt b d
 
 -- ---- the second use of `Unseen`
 

@@ -9,5 +9,4 @@ pub mod Places
 pub mod Tests
 pub mod Chars
 pub mod Values
-pub mod Spelling
 pub mod Identifications

@@ -22,7 +22,8 @@ use Rattle.characters.proofs.Units.{unit-some}
 use Rattle.attributes.specs.Attribute.{quote, fit, standingNext, valueNext, valueOver, value, plain}
 use Rattle.attributes.specs.declared.Value.the-variants.{Long}
 use Rattle.attributes.proofs.Values.{met-amp, met-other, quote-range, plain-step}
-use Rattle.digits.proofs.Near.{met-front, valueFrom, Next, ended, passed, value-next, value-from, value-near}
+use Rattle.escapes.proofs.Values.{Next, ended, passed, value-next, value-from}
+use Rattle.digits.proofs.Near.{met-front, valueFrom, value-near}
 use Rattle.likeness.specs.Alike.{Quoted, Without}
 
 small : (q : ℕ) → quote q ≡ true → q < 0x80

@@ -1,0 +1,11 @@
+pub mod Putting
+pub mod Escaping
+pub mod Spelling
+pub mod Texts
+pub mod Standing
+pub mod Unescaping
+pub mod Values
+pub mod Attributes
+pub mod Promises
+pub mod Examples
+pub mod Unique
