@@ -10,7 +10,7 @@ use native.Mathlib.Omega.{arith}
 use lib.ListN.{length, getD, length-append, List·getD-append}
 use borrow.Author.Tests.{le-leb}
 use Rattle.lists.proofs.Cases.{bool-cases}
-use Rattle.pictures.specs.Picture.{digit}
+use Rattle.characters.specs.References.{digit}
 use Rattle.numbers.specs.Digits.{digits, numberFrom}
 use Rattle.numbers.proofs.Reading.{digit-range}
 use Rattle.wholes.specs.Whole.{numeral, wholeText}

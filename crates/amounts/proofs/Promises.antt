@@ -22,7 +22,7 @@ use borrow.Author.Tests.{ne-eqb, eqb-false}
 use Rattle.lists.proofs.Cases.{bool-cases, past-cond, never, zero-not-one}
 use Rattle.slices.specs.Text.{text}
 use Rattle.characters.specs.Says.{says}
-use Rattle.pictures.specs.Picture.{digit}
+use Rattle.characters.specs.References.{digit}
 use Rattle.trims.specs.Trim.{dropped}
 use Rattle.numbers.specs.Digits.{digits, numberFrom, nothingLeft, onlyDigits}
 use Rattle.numbers.specs.Number.{numberForm, atMostNine, numberWithin, numberOf}

@@ -12,7 +12,7 @@ use lib.ListN.{length, take, drop}
 use lib.Seq.{take-at, drop-at, take-length, drop-length}
 use borrow.Author.Tests.{ne-eqb, eqb-true, eqb-false}
 use Rattle.lists.proofs.Cases.{bool-cases, past-cond, both-true, never}
-use Rattle.pictures.specs.Picture.{digit}
+use Rattle.characters.specs.References.{digit}
 use Rattle.numbers.specs.Digits.{digits, numberFrom, nothingLeft, onlyDigits}
 use Rattle.numbers.specs.Amount.{minus, unsigned, fractionForm, unsignedForm, writtenAmount, filled, thousandths, signed, amountOf}
 use Rattle.numbers.specs.declared.Amount.the-variants.{Thousandths}

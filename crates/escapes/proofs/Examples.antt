@@ -8,7 +8,7 @@ use Rattle.slices.specs.Run.{run}
 use Rattle.slices.specs.Same.{same, begins}
 use Rattle.slices.specs.Text.{text}
 use Rattle.characters.specs.Utf8.{seqLen, control, single, charAt}
-use Rattle.characters.specs.References.{within, xmlChar, decimalDigit, hexDigit, refDigit, base, digitValue, numberBy, charBy, numberedTo, numberedAt, namedAt, referenceAt}
+use Rattle.characters.specs.References.{within, xmlChar, digit, hexDigit, refDigit, base, digitValue, numberBy, charBy, numberedTo, numberedAt, namedAt, referenceAt}
 use Rattle.characters.specs.Says.{met, charOf, saidBy, saidAt, saysAfter, says}
 use Rattle.escapes.specs.Escaped.{escapedByte, escaped}
 use Rattle.escapes.specs.Spelled.{utf8, spelled, unescaped, charsAfter, charsOf}
@@ -30,5 +30,5 @@ literal = (refl, refl)
 
 -- as a value of a document it says three, of a byte each; `&#x20AC;` says one, of three bytes
 pub meant : (unescaped (text "A&#48;1") ≡ text "A01") × (unescaped (text "&#x20AC;") ≡ 0xE2 ∷ 0x82 ∷ 0xAC ∷ [])
-unfolding unescaped spelled utf8 says saysAfter saidAt saidBy charOf met charAt seqLen single control byte referenceAt namedAt numberedAt numberedTo begins same run refDigit decimalDigit hexDigit partOf numberBy base digitValue charBy xmlChar within
+unfolding unescaped spelled utf8 says saysAfter saidAt saidBy charOf met charAt seqLen single control byte referenceAt namedAt numberedAt numberedTo begins same run refDigit digit hexDigit partOf numberBy base digitValue charBy xmlChar within
 meant = (refl, refl)

@@ -15,7 +15,7 @@ use Rattle.slices.specs.Run.{run}
 use Rattle.slices.specs.Same.{same, begins}
 use Rattle.slices.specs.Text.{text}
 use Rattle.slices.specs.Walk.{go, stop, walk}
-use Rattle.characters.specs.References.{xmlChar, decimalDigit, refDigit, base, digitValue, numberBy, charBy, numberedTo, numberedAt, namedAt, referenceAt}
+use Rattle.characters.specs.References.{xmlChar, digit, refDigit, base, digitValue, numberBy, charBy, numberedTo, numberedAt, namedAt, referenceAt}
 use Rattle.characters.specs.Says.{referred, standing, met, charOf, says}
 use Rattle.characters.specs.declared.Char.the-variants.{Is}
 use Rattle.characters.proofs.Saying.{says-none}
@@ -49,15 +49,15 @@ module _ (s : List ℕ) where
   quot = refers refl
 
   nine : Stands 0x9 (text "&#9;") s
-  unfolding met byte referenceAt begins same numberedAt numberedTo run refDigit decimalDigit partOf numberBy base digitValue charBy xmlChar
+  unfolding met byte referenceAt begins same numberedAt numberedTo run refDigit digit partOf numberBy base digitValue charBy xmlChar
   nine = refers refl
 
   ten : Stands 0xA (text "&#10;") s
-  unfolding met byte referenceAt begins same numberedAt numberedTo run refDigit decimalDigit partOf numberBy base digitValue charBy xmlChar
+  unfolding met byte referenceAt begins same numberedAt numberedTo run refDigit digit partOf numberBy base digitValue charBy xmlChar
   ten = refers refl
 
   thirteen : Stands 0xD (text "&#13;") s
-  unfolding met byte referenceAt begins same numberedAt numberedTo run refDigit decimalDigit partOf numberBy base digitValue charBy xmlChar
+  unfolding met byte referenceAt begins same numberedAt numberedTo run refDigit digit partOf numberBy base digitValue charBy xmlChar
   thirteen = refers refl
 
 -- ---- any other
