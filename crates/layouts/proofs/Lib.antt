@@ -1,1 +1,3 @@
 pub mod Tags
+pub mod Names
+pub mod Items

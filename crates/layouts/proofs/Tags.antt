@@ -37,39 +37,40 @@ pub record Opener (o name : List ℕ) (n : ℕ) : Type 0 where
   pub reads : (u : List ℕ) → piece (o ++ u) ≡ attributeEnd 1 n (n + 3) (value 0x22 u)
   pub names : (u : List ℕ) → partOf (o ++ u) 1 n ≡ name
   pub long : length o ≡ n + 3
+  pub spaced : (u : List ℕ) → o ++ u ≡ 0x20 ∷ drop 1 (o ++ u)
 
-opens-v : Opener (text " v=\"") (text "v") 1
+pub opens-v : Opener (text " v=\"") (text "v") 1
 unfolding piece pieceAfter run white attribute nameStart attributeName nameByte opening openingFrom attributeQuote quote byte partOf
-opens-v = record { reads = λ u. refl; names = λ u. refl; long = refl }
+opens-v = record { reads = λ u. refl; names = λ u. refl; long = refl; spaced = λ u. refl }
 
-opens-scheme : Opener (text " codingScheme=\"") (text "codingScheme") 12
+pub opens-scheme : Opener (text " codingScheme=\"") (text "codingScheme") 12
 unfolding piece pieceAfter run white attribute nameStart attributeName nameByte opening openingFrom attributeQuote quote byte partOf
-opens-scheme = record { reads = λ u. refl; names = λ u. refl; long = refl }
+opens-scheme = record { reads = λ u. refl; names = λ u. refl; long = refl; spaced = λ u. refl }
 
-opens-version : Opener (text " DtdVersion=\"") (text "DtdVersion") 10
+pub opens-version : Opener (text " DtdVersion=\"") (text "DtdVersion") 10
 unfolding piece pieceAfter run white attribute nameStart attributeName nameByte opening openingFrom attributeQuote quote byte partOf
-opens-version = record { reads = λ u. refl; names = λ u. refl; long = refl }
+opens-version = record { reads = λ u. refl; names = λ u. refl; long = refl; spaced = λ u. refl }
 
-opens-release : Opener (text " DtdRelease=\"") (text "DtdRelease") 10
+pub opens-release : Opener (text " DtdRelease=\"") (text "DtdRelease") 10
 unfolding piece pieceAfter run white attribute nameStart attributeName nameByte opening openingFrom attributeQuote quote byte partOf
-opens-release = record { reads = λ u. refl; names = λ u. refl; long = refl }
+opens-release = record { reads = λ u. refl; names = λ u. refl; long = refl; spaced = λ u. refl }
 
-opens-message : Opener (text " DtdBDEWNachrichtenVersion=\"") (text "DtdBDEWNachrichtenVersion") 25
+pub opens-message : Opener (text " DtdBDEWNachrichtenVersion=\"") (text "DtdBDEWNachrichtenVersion") 25
 unfolding piece pieceAfter run white attribute nameStart attributeName nameByte opening openingFrom attributeQuote quote byte partOf
-opens-message = record { reads = λ u. refl; names = λ u. refl; long = refl }
+opens-message = record { reads = λ u. refl; names = λ u. refl; long = refl; spaced = λ u. refl }
 
 -- ---- the attributes, one after the other
 
 -- where the value of an attribute stands that begins at i, with a name of n bytes
-abbrev spanAt : ℕ → ℕ → AttributeValue → Span
+abbrev pub spanAt : ℕ → ℕ → AttributeValue → Span
 spanAt i n Absent = absent
 spanAt i n (Given b) = record { start = i + (n + 3); len = length b }
 
-abbrev withGiven : List ℕ → ℕ → ℕ → AttributeValue → List Attr → List Attr
+abbrev pub withGiven : List ℕ → ℕ → ℕ → AttributeValue → List Attr → List Attr
 withGiven name i n Absent more = more
 withGiven name i n (Given b) more = record { name = name; value = record { start = i + (n + 3); len = length b } } ∷ more
 
-abbrev ontoGiven : List ℕ → ℕ → ℕ → AttributeValue → Ends → Ends
+abbrev pub ontoGiven : List ℕ → ℕ → ℕ → AttributeValue → Ends → Ends
 ontoGiven name i n Absent x = x
 ontoGiven name i n (Given b) x = onto (record { name = name; value = record { start = i + (n + 3); len = length b } }) x
 
@@ -80,7 +81,7 @@ quoted-text o b r = append-assoc o (b ++ (0x22 ∷ [])) r ∙ ap (λ (l : List �
 pub passes : (s : List ℕ) (i : ℕ) (x r : List ℕ) → drop i s ≡ x ++ r → drop (i + length x) s ≡ r
 passes s i x r e = sym (drop-drop (length x) i s) ∙ ap (drop (length x)) e ∙ drop-at x r _ refl
 
-some-left : (s : List ℕ) (i n : ℕ) → length (drop i s) ≡ n → 0 < n → i < length s
+pub some-left : (s : List ℕ) (i n : ℕ) → length (drop i s) ≡ n → 0 < n → i < length s
 some-left s i n e h = omega (arith, e, length-drop i s)
 
 module _ {o name : List ℕ} {n : ℕ} (w : Opener o name n) (s : List ℕ) (i : ℕ) where
@@ -110,7 +111,7 @@ module _ {o name : List ℕ} {n : ℕ} (w : Opener o name n) (s : List ℕ) (i :
       next : i + (n + 3 + length b + 1) ≡ i + length (o ++ (b ++ (0x22 ∷ [])))
       next = let a = length-append o (b ++ (0x22 ∷ [])) in let c = length-append b (0x22 ∷ []) in let l = w .long in omega (arith, a, c, l)
 
-  given-said : (a : AttributeValue) (r : List ℕ) → drop i s ≡ attributeText o a ++ r → valueGiven (spanAt i n a) s ≡ a
+  pub given-said : (a : AttributeValue) (r : List ℕ) → drop i s ≡ attributeText o a ++ r → valueGiven (spanAt i n a) s ≡ a
   unfolding attributeText valueGiven there absent partOf
   given-said Absent r e = refl
   given-said (Given b) r e =
@@ -119,22 +120,22 @@ module _ {o name : List ℕ} {n : ℕ} (w : Opener o name n) (s : List ℕ) (i :
 
 -- the places of the five, from i on
 module _ (a : TagSaid) (i : ℕ) where
-  abbrev at-release : ℕ
+  abbrev pub at-release : ℕ
   at-release = i + length (attributeText (text " DtdVersion=\"") (a .dtd .version))
 
-  abbrev at-message : ℕ
+  abbrev pub at-message : ℕ
   at-message = at-release + length (attributeText (text " DtdRelease=\"") (a .dtd .release))
 
-  abbrev at-v : ℕ
+  abbrev pub at-v : ℕ
   at-v = at-message + length (attributeText (text " DtdBDEWNachrichtenVersion=\"") (a .dtd .message))
 
-  abbrev at-scheme : ℕ
+  abbrev pub at-scheme : ℕ
   at-scheme = at-v + length (attributeText (text " v=\"") (a .v))
 
-  abbrev at-close : ℕ
+  abbrev pub at-close : ℕ
   at-close = at-scheme + length (attributeText (text " codingScheme=\"") (a .scheme))
 
-  abbrev attributesAt : List Attr
+  abbrev pub attributesAt : List Attr
   attributesAt =
       withGiven (text "DtdVersion") i 10 (a .dtd .version)
       (withGiven (text "DtdRelease") at-release 10 (a .dtd .release)
@@ -142,7 +143,7 @@ module _ (a : TagSaid) (i : ℕ) where
       (withGiven (text "v") at-v 1 (a .v)
       (withGiven (text "codingScheme") at-scheme 12 (a .scheme) []))))
 
-  attributes-long : at-close ≡ i + length (attributesText a)
+  pub attributes-long : at-close ≡ i + length (attributesText a)
   unfolding attributesText
   attributes-long =
       let x1 = attributeText (text " DtdVersion=\"") (a .dtd .version) in
@@ -202,7 +203,7 @@ standing a s i r e =
     }
 
 module _ (a : TagSaid) (s : List ℕ) (i : ℕ) (r : List ℕ) (st : Stand a s i r) where
-  attributes-read : TagWritable a → {empty : Bool} {e : ℕ} → ends s (at-close a i) ≡ closed [] empty e → ends s i ≡ closed (attributesAt a i) empty e
+  pub attributes-read : TagWritable a → {empty : Bool} {e : ℕ} → ends s (at-close a i) ≡ closed [] empty e → ends s i ≡ closed (attributesAt a i) empty e
   attributes-read w z =
       let g5 =
       given-read opens-scheme s (at-scheme a i) (a .scheme) r (w .scheme) (st .scheme)
@@ -236,7 +237,7 @@ unfolding twice
 twice-other name i k Absent more e t = t
 twice-other name i k (Given b) more e t = rw e t
 
-none-twice : (a : TagSaid) (i : ℕ) → twice (attributesAt a i) ≡ false
+pub none-twice : (a : TagSaid) (i : ℕ) → twice (attributesAt a i) ≡ false
 unfolding same named twice
 none-twice a i =
     let scheme : List Attr = withGiven (text "codingScheme") (at-scheme a i) 12 (a .scheme) [] in
@@ -257,11 +258,11 @@ none-twice a i =
 
 -- ---- what is kept of them
 
-abbrev known : Span → Span → Span → Span → Span → ℕ → Known
+abbrev pub known : Span → Span → Span → Span → Span → ℕ → Known
 known v coding version release message many =
     record { v = v; coding = coding; dtd = record { version = version; release = release; message = message }; others = false; passable = true; many = many }
 
-abbrev counted : AttributeValue → ℕ → ℕ
+abbrev pub counted : AttributeValue → ℕ → ℕ
 counted Absent k = k
 counted (Given b) k = upToTwo k
 
@@ -297,7 +298,7 @@ pub record Keeps (a : TagSaid) (i : ℕ) (k : Known) : Type 0 where
   pub kept : k ≡ known (spanAt (at-v a i) 1 (a .v)) (spanAt (at-scheme a i) 12 (a .scheme)) (spanAt i 10 (a .dtd .version)) (spanAt (at-release a i) 10 (a .dtd .release))
       (spanAt (at-message a i) 25 (a .dtd .message)) n
 
-all-kept : (a : TagSaid) (i : ℕ) → Keeps a i (keptOf noneKnown (attributesAt a i))
+pub all-kept : (a : TagSaid) (i : ℕ) → Keeps a i (keptOf noneKnown (attributesAt a i))
 unfolding noneKnown noDtd keptOf
 all-kept a i =
     record {
