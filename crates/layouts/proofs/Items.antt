@@ -91,7 +91,7 @@ closes-start =
 
 -- ---- a name at the front
 
-start-range : (c : ℕ) → nameStart c ≡ true → 0x41 ≤ c
+pub start-range : (c : ℕ) → nameStart c ≡ true → 0x41 ≤ c
 unfolding nameStart
 start-range c e =
     ⊎-elim
