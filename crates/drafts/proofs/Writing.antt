@@ -128,11 +128,19 @@ module _ (d : Draft) (rows : List ℕ) (t : Table rows) where
   intervals-writable j zero = tt
   intervals-writable j (suc n) =
       let q = roleRow intervalRole rows in
-      let b = bare-row (getD rows q 0) (t .interval) in
-      (b .0, bare-writable, (λ z. absurd (b .1 z)),
-      (has-name (getD rows (suc q) 0) (t .position), number-writable _ (numeric-quotable _ (numeric-whole (getD (d .positions) j 0))), (λ z. refl), tt,
-      (has-name (getD rows (suc (suc q)) 0) (t .amount), number-writable _ (numeric-quotable _ (numeric-amount (getD (d .amounts) j (pos 0)))), (λ z. refl), tt, tt)),
-      intervals-writable (suc j) n)
+      let b = bare-row (getD rows q 0) (t .interval) in (
+        b .0,
+        bare-writable,
+        (λ z. absurd (b .1 z)),
+        (
+          has-name (getD rows (suc q) 0) (t .position),
+          number-writable _ (numeric-quotable _ (numeric-whole (getD (d .positions) j 0))),
+          (λ z. refl),
+          tt,
+          (has-name (getD rows (suc (suc q)) 0) (t .amount), number-writable _ (numeric-quotable _ (numeric-amount (getD (d .amounts) j (pos 0)))), (λ z. refl), tt, tt),
+        ),
+        intervals-writable (suc j) n,
+      )
 
   module _ (fits : (j : ℕ) → j < headerPairs + seriesPairs * d .count → pairFits d j ≡ true) where
     -- the pairs of series i are among them
@@ -143,12 +151,15 @@ module _ (d : Draft) (rows : List ℕ) (t : Table rows) where
     unfolding periodTree singlesIn pairFor Writable
     period-writable i h =
         let p = roleRow periodRole rows in
-        let b = bare-row (getD rows p 0) (t .period) in
-        (b .0, bare-writable, (λ z. absurd (b .1 z)),
-        singles-writable d rows (headerPairs + seriesPairs) (seriesPairs * i) (series-fit i h) _
-        (intervals-writable (fieldAt (d .series) i FirstRow) (fieldAt (d .series) i Count))
-        (drop (suc p) rows) (suc p) (firstPair rows (suc p)) refl (t .period-pairs),
-        tt)
+        let b = bare-row (getD rows p 0) (t .period) in (
+          b .0,
+          bare-writable,
+          (λ z. absurd (b .1 z)),
+          singles-writable d rows (headerPairs + seriesPairs) (seriesPairs * i) (series-fit i h) _
+              (intervals-writable (fieldAt (d .series) i FirstRow) (fieldAt (d .series) i Count))
+              (drop (suc p) rows) (suc p) (firstPair rows (suc p)) refl (t .period-pairs),
+          tt,
+        )
 
     series-writable : (i n : ℕ) → i + n ≤ d .count → Writable rows (seriesFrom d rows i n)
     unfolding seriesFrom singlesIn pairFor Writable
@@ -156,10 +167,13 @@ module _ (d : Draft) (rows : List ℕ) (t : Table rows) where
     series-writable i (suc n) h =
         let s = roleRow seriesRole rows in
         let b = bare-row (getD rows s 0) (t .series) in
-        let l : i < d .count = omega arith in
-        (b .0, bare-writable, (λ z. absurd (b .1 z)),
-        singles-writable d rows (headerPairs + seriesPairs) (seriesPairs * i) (series-fit i l) _ (period-writable i l) (drop (suc s) rows) (suc s) (firstPair rows (suc s)) refl (t .series-pairs),
-        series-writable (suc i) n (omega arith))
+        let l : i < d .count = omega arith in (
+          b .0,
+          bare-writable,
+          (λ z. absurd (b .1 z)),
+          singles-writable d rows (headerPairs + seriesPairs) (seriesPairs * i) (series-fit i l) _ (period-writable i l) (drop (suc s) rows) (suc s) (firstPair rows (suc s)) refl (t .series-pairs),
+          series-writable (suc i) n (omega arith),
+        )
 
 root-writable : (d : Draft) → pairFits d 0 ≡ true → pairFits d 1 ≡ true → pairFits d 2 ≡ true → TagWritable (rootTag d)
 unfolding rootTag QuotableIn
@@ -172,10 +186,13 @@ draft-writable d l =
     let rows = rowsOf (d .kind) in
     let t = table (d .kind) (l .kind) in
     let fits : (j : ℕ) → j < headerPairs + seriesPairs * d .count → pairFits d j ≡ true = λ j h. l .values j (omega arith) in
-    let b = bare-row (getD rows 1 0) (t .root) in
-    (b .0, root-writable d (fits 0 (omega arith)) (fits 1 (omega arith)) (fits 2 (omega arith)), (λ z. absurd (b .1 z)),
-    singles-writable d rows headerPairs (seriesPairs * 0) (λ j h. fits j (omega arith)) _ (series-writable d rows t fits 0 (d .count) (omega arith)) (drop 2 rows) 2 (firstPair rows 2) refl (t .header-pairs),
-    tt)
+    let b = bare-row (getD rows 1 0) (t .root) in (
+      b .0,
+      root-writable d (fits 0 (omega arith)) (fits 1 (omega arith)) (fits 2 (omega arith)),
+      (λ z. absurd (b .1 z)),
+      singles-writable d rows headerPairs (seriesPairs * 0) (λ j h. fits j (omega arith)) _ (series-writable d rows t fits 0 (d .count) (omega arith)) (drop 2 rows) 2 (firstPair rows 2) refl (t .header-pairs),
+      tt,
+    )
 
 -- "The layout is fixed": the document of a draft spells its content
 pub draft-spells : (d : Draft) → Lent d → Spells (layoutOf (rowsOf (d .kind)) (draftContent d)) (d .kind) (draftContent d)
