@@ -7,7 +7,7 @@ use native.Mathlib.Omega.{arith}
 use lib.ListN.{length, take, drop, length-drop, length-take, drop-of-length-le, take-append-drop}
 use lib.Seq.{drop-cons, drop-drop, length-take-le, take-take, take-append-le, drop-append-le}
 use borrow.Author.Tests.{le-ltb}
-use Rattle.lists.proofs.Cases.{ltb-cases, by-cond}
+use Rattle.lists.proofs.Cases.{bool-cases, ltb-cases, by-cond, never}
 use Rattle.slices.specs.Bytes.{byte}
 use Rattle.slices.specs.Walk.{walk}
 use Rattle.slices.specs.Same.{here, firstAt}
@@ -18,10 +18,9 @@ use Rattle.prolog.specs.declared.Begin.{Begin}
 use Rattle.prolog.specs.declared.Begin.the-variants.{From, Misdeclared}
 use Rattle.prolog.proofs.Promises.{refused-declaration}
 use Rattle.items.specs.Text.{textTo, textItem}
-use Rattle.items.specs.Item.{item, itemRefusal, itemEnd}
+use Rattle.items.specs.Item.{item, isReadable, itemEnd}
 use Rattle.items.specs.declared.Item.{Item}
 use Rattle.items.specs.declared.Item.the-variants.{Start, Empty, End, Text, Comment, Unreadable}
-use Rattle.items.proofs.Promises.{refused-two}
 use Rattle.notes.specs.declared.Shape.{Shape}
 use Rattle.states.specs.Moves.{begun}
 use Rattle.states.specs.declared.State.{State}
@@ -207,7 +206,7 @@ module _ (x : List ℕ) (t : Tables) (k p : ℕ) (bx : begin x ≡ From k) (plac
 
   -- the first item, where p is behind it
   passed-by : (l : List ℕ) → k + length l ≡ length x → k < p → readItems x (roomIn t) (itemsAfter 0 k l) begun t .found .place ≡ p
-      → (itemRefusal (item k l) ≡ 0) × (k + itemEnd (item k l) ≤ p)
+      → (isReadable (item k l) ≡ true) × (k + itemEnd (item k l) ≤ p)
   unfolding itemsAfter readItems refusedAt
   passed-by [] e low z = absurd (omega (arith, z, ended-place (rowsOf (begun .kind)) (length x) begun))
   passed-by (b ∷ l) e low z = by (stepOf x (t .series) (roomIn t) (placed k (b ∷ l)) begun) refl
@@ -215,14 +214,14 @@ module _ (x : List ℕ) (t : Tables) (k p : ℕ) (bx : begin x ≡ From k) (plac
       rest : List Placed
       rest = itemsAfter (pred (itemEnd (item k (b ∷ l)))) (suc k) l
 
-      by : (o : Step) → stepOf x (t .series) (roomIn t) (placed k (b ∷ l)) begun ≡ o → (itemRefusal (item k (b ∷ l)) ≡ 0) × (k + itemEnd (item k (b ∷ l)) ≤ p)
+      by : (o : Step) → stepOf x (t .series) (roomIn t) (placed k (b ∷ l)) begun ≡ o → (isReadable (item k (b ∷ l)) ≡ true) × (k + itemEnd (item k (b ∷ l)) ≤ p)
       by (Refused n) o =
           let f : k ≡ p = sym (ap (λ (u : Out). u .found .place) (read-stop x (roomIn t) (placed k (b ∷ l)) rest begun t n o)) ∙ z in absurd (omega arith)
       by (Next st′ e′) o =
           let low = moved-behind x (roomIn t) k b l begun t st′ e′ e o in
           (moved-read x (t .series) (roomIn t) (placed k (b ∷ l)) begun st′ e′ o, omega (arith, low .1, z))
 
-  first-passed : k < p → (itemRefusal (item k (drop k x)) ≡ 0) × (k + itemEnd (item k (drop k x)) ≤ p)
+  first-passed : k < p → (isReadable (item k (drop k x)) ≡ true) × (k + itemEnd (item k (drop k x)) ≤ p)
   first-passed low = passed-by (drop k x) long low place
 
   -- y shares the p bytes before it
@@ -272,17 +271,17 @@ module _ (x y : List ℕ) (room : Room) (p : ℕ) (st : State) (t : Tables) (row
 -- every item has a byte, and none goes on behind the end
 sized : (before : ℕ) (s : List ℕ) → 0 < length s → (0 < itemEnd (item before s)) × (itemEnd (item before s) ≤ length s)
 sized before s some =
-    ⊎-elim (λ r. let w = item-whole before s r in (w .some, w .inside)) (λ r. by (item before s) r) (refused-two (item before s))
+    ⊎-elim (λ r. let w = item-whole before s r in (w .some, w .inside)) (λ r. by (item before s) r) (bool-cases (isReadable (item before s)))
   where
-    by : (i : Item) → itemRefusal i ≡ 2 → (0 < itemEnd i) × (itemEnd i ≤ length s)
-    by (Start t) r = absurd (omega (arith, r))
-    by (Empty t) r = absurd (omega (arith, r))
-    by (End n e) r = absurd (omega (arith, r))
-    by (Text w e) r = absurd (omega (arith, r))
-    by (Comment e) r = absurd (omega (arith, r))
+    by : (i : Item) → isReadable i ≡ false → (0 < itemEnd i) × (itemEnd i ≤ length s)
+    by (Start t) r = never (sym r)
+    by (Empty t) r = never (sym r)
+    by (End n e) r = never (sym r)
+    by (Text w e) r = never (sym r)
+    by (Comment e) r = never (sym r)
     by (Unreadable p) r = (omega arith, omega arith)
 
-none-read : (before : ℕ) → itemRefusal (item before []) ≡ 2
+none-read : (before : ℕ) → isReadable (item before []) ≡ false
 unfolding item byte textItem textTo firstAt walk here
 none-read before = refl
 
@@ -343,7 +342,7 @@ module _ (x : List ℕ) (ns np na : ℕ) where
           by (From k) e = from-same k e (eb ∙ e) same
           by (Misdeclared q) e = rw (eb ∙ e, e)
 
-      module _ (read : itemRefusal (item p (drop p x)) ≡ 0) where
+      module _ (read : isReadable (item p (drop p x)) ≡ true) where
         begin-here : (k : ℕ) → begin x ≡ From k → k ≡ p → begin y ≡ From k
         begin-here k e z = rw z (begin-front x y p (rw z at e) read bytes)
 
@@ -363,10 +362,10 @@ module _ (x : List ℕ) (ns np na : ℕ) where
           let same = item-near p (drop p x) (drop p y) behind (rw (drop-drop (itemEnd (item p (drop p x))) p y) h) in
           by (begin x) refl read same
         where
-          by : (b : Begin) → begin x ≡ b → itemRefusal (item p (drop p x)) ≡ 0 → item p (drop p y) ≡ item p (drop p x) → readInto y t ≡ readInto x t
+          by : (b : Begin) → begin x ≡ b → isReadable (item p (drop p x)) ≡ true → item p (drop p y) ≡ item p (drop p x) → readInto y t ≡ readInto x t
           by (From k) e read same = from-same k e (begin-again read k e) same
           by (Misdeclared q) e read same =
-              let d = rw (misdeclared-place q e) at (refused-declaration x q e) in absurd (omega (arith, read, xml-unread p (drop p x) d))
+              let d = rw (misdeclared-place q e) at (refused-declaration x q e) in never (sym (xml-unread p (drop p x) d) ∙ read)
 
     -- ---- x cut at p
 
@@ -441,8 +440,8 @@ module _ (x : List ℕ) (ns np na : ℕ) (shape : Shape) (nb : ℕ) (lx : length
         before =
             ⊎-elim (λ l. l .0)
             (λ l.
-            let none : itemRefusal faulty ≡ 2 = rw (drop-of-length-le x {i = p} (l .0)) (none-read p) in
-            absurd (omega (arith, ends-read faulty _ h, none)))
+            let none : isReadable faulty ≡ false = rw (drop-of-length-le x {i = p} (l .0)) (none-read p) in
+            never (sym none ∙ ends-read faulty _ h))
             (ltb-cases p (length x))
 
     -- or the same item stands there, and the items of both begin at one place

@@ -11,7 +11,7 @@ use Rattle.structure.specs.Rows.{startOf}
 use Rattle.structure.specs.declared.Due.{Due}
 use Rattle.structure.specs.declared.Due.the-variants.{Row, NotDue}
 use Rattle.guideline.specs.Rows.{rowsOf}
-use Rattle.items.specs.Item.{itemRefusal}
+use Rattle.items.specs.Item.{isReadable}
 use Rattle.items.specs.Parts.{spanOf}
 use Rattle.items.specs.declared.Tag.{Tag}
 use Rattle.items.specs.declared.Item.{Item}
@@ -69,11 +69,11 @@ module _ (s s′ : List ℕ) where
   quoted-same (Unreadable q) p = refl
 
 -- an item that moved the state can be read
-pub moved-read : (doc table : List ℕ) (room : Room) (p : Placed) (st st′ : State) (e : Entry) → stepOf doc table room p st ≡ Next st′ e → itemRefusal (p .item) ≡ 0
+pub moved-read : (doc table : List ℕ) (room : Room) (p : Placed) (st st′ : State) (e : Entry) → stepOf doc table room p st ≡ Next st′ e → isReadable (p .item) ≡ true
 unfolding stepOf withoutUsed step moved
 moved-read doc table room p st st′ e q = by (p .item) refl
   where
-    by : (i : Item) → p .item ≡ i → itemRefusal i ≡ 0
+    by : (i : Item) → p .item ≡ i → isReadable i ≡ true
     by (Start t) z = refl
     by (Empty t) z = refl
     by (End n k) z = refl

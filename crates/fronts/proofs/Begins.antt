@@ -7,7 +7,7 @@ use mathlib.Core.Logic.{_⊎_, inl, inr, ⊎-elim}
 use native.Mathlib.Omega.{arith}
 use lib.ListN.{length, take, drop, length-take, length-drop, drop-of-length-le, take-append-drop}
 use lib.Seq.{take-take}
-use Rattle.lists.proofs.Cases.{bool-cases, ltb-cases, zero-not-one}
+use Rattle.lists.proofs.Cases.{bool-cases, ltb-cases, never, zero-not-one}
 use Rattle.slices.specs.Bytes.{byte}
 use Rattle.slices.specs.Run.{run}
 use Rattle.slices.specs.Walk.{walk}
@@ -22,7 +22,7 @@ use Rattle.prolog.specs.declared.Begin.{Begin}
 use Rattle.prolog.specs.declared.Begin.the-variants.{From, Misdeclared}
 use Rattle.prolog.proofs.Promises.{mark-three, refused-at}
 use Rattle.items.specs.Text.{textTo, textItem}
-use Rattle.items.specs.Item.{startTag, item, itemRefusal, itemEnd}
+use Rattle.items.specs.Item.{startTag, item, isReadable, itemEnd}
 use Rattle.items.specs.declared.Item.{Item}
 use Rattle.items.specs.declared.Item.the-variants.{Start, Empty, End, Text, Comment, Unreadable}
 use Rattle.digits.proofs.Begins.{declaration-same, after-same}
@@ -31,19 +31,19 @@ use Rattle.fronts.proofs.Shares.{shared-front, shared-long, shared-less
 use Rattle.fronts.proofs.Items.{item-near, item-whole}
 
 -- where nothing follows, every item ends
-none-ends : (x : Item) → itemRefusal x ≡ 0 → EndsBefore x []
+none-ends : (x : Item) → isReadable x ≡ true → EndsBefore x []
 unfolding EndsBefore TextEnds
 none-ends (Start t) e = tt
 none-ends (Empty t) e = tt
 none-ends (End n k) e = tt
 none-ends (Text w k) e = tt
 none-ends (Comment k) e = tt
-none-ends (Unreadable p) e = absurd (omega (arith, e))
+none-ends (Unreadable p) e = never e
 
 -- ---- a text t of which no part is an item that can be read: it does not stand at the front of one
 
-module _ (t : List ℕ) (unread : (before n : ℕ) → n < length t → itemRefusal (item before (take n t)) ≡ 2) (before : ℕ) (s y : List ℕ) where
-  at-least : itemRefusal (item before s) ≡ 0 → take (itemEnd (item before s)) y ≡ take (itemEnd (item before s)) s → begins t y ≡ true → length t ≤ itemEnd (item before s)
+module _ (t : List ℕ) (unread : (before n : ℕ) → n < length t → isReadable (item before (take n t)) ≡ false) (before : ℕ) (s y : List ℕ) where
+  at-least : isReadable (item before s) ≡ true → take (itemEnd (item before s)) y ≡ take (itemEnd (item before s)) s → begins t y ≡ true → length t ≤ itemEnd (item before s)
   at-least r q b =
       let e = itemEnd (item before s) in
       ⊎-elim
@@ -51,12 +51,12 @@ module _ (t : List ℕ) (unread : (before n : ℕ) → n < length t → itemRefu
       let z : take e t ≡ take e s = ap (take e) (sym (begins-take t y b)) ∙ take-take e (length t) y (omega (arith, l .0)) ∙ q in
       let over : drop e (take e t) ≡ [] = drop-of-length-le (take e t) {i = e} (omega (arith, length-take e t)) in
       let one = item-near before s (take e t) (take-take e e t (omega arith) ∙ z) (rw over (none-ends (item before s) r)) in
-      absurd (omega (arith, unread before e (l .0), ap itemRefusal one, r)))
+      never (sym (unread before e (l .0)) ∙ ap isReadable one ∙ r))
       (λ l. l .0)
       (ltb-cases e (length t))
 
-module _ (t : List ℕ) (unread : (before n : ℕ) → n < length t → itemRefusal (item before (take n t)) ≡ 2) (before : ℕ) (s y : List ℕ) where
-  begins-same : itemRefusal (item before s) ≡ 0 → take (itemEnd (item before s)) y ≡ take (itemEnd (item before s)) s → begins t y ≡ begins t s
+module _ (t : List ℕ) (unread : (before n : ℕ) → n < length t → isReadable (item before (take n t)) ≡ false) (before : ℕ) (s y : List ℕ) where
+  begins-same : isReadable (item before s) ≡ true → take (itemEnd (item before s)) y ≡ take (itemEnd (item before s)) s → begins t y ≡ begins t s
   begins-same r q =
       ⊎-elim
       (λ b. shared (at-least t unread before s y r q b))
@@ -69,14 +69,14 @@ module _ (t : List ℕ) (unread : (before n : ℕ) → n < length t → itemRefu
 abbrev mark : List ℕ
 mark = 0xEF ∷ 0xBB ∷ 0xBF ∷ []
 
-unread-mark : (before n : ℕ) → n < length mark → itemRefusal (item before (take n mark)) ≡ 2
+unread-mark : (before n : ℕ) → n < length mark → isReadable (item before (take n mark)) ≡ false
 unfolding item byte textItem textTo firstAt walk begins same seek here run white allChars charNext charsOver charAt seqLen triple second low high laterByte
 unread-mark before zero l = refl
 unread-mark before (suc zero) l = refl
 unread-mark before (suc (suc zero)) l = refl
 unread-mark before (suc (suc (suc n))) l = absurd (omega arith)
 
-unread-declaration : (before n : ℕ) → n < length (text "<?xml") → itemRefusal (item before (take n (text "<?xml"))) ≡ 2
+unread-declaration : (before n : ℕ) → n < length (text "<?xml") → isReadable (item before (take n (text "<?xml"))) ≡ false
 unfolding item byte textItem textTo firstAt walk begins same seek here startTag nameStart
 unread-declaration before zero l = refl
 unread-declaration before (suc zero) l = refl
@@ -88,10 +88,10 @@ unread-declaration before (suc (suc (suc (suc (suc n))))) l = absurd (omega arit
 -- ---- where the items begin
 
 -- a declaration is no item that can be read
-pub xml-unread : (before : ℕ) (s : List ℕ) → begins (text "<?xml") s ≡ true → itemRefusal (item before s) ≡ 2
+pub xml-unread : (before : ℕ) (s : List ℕ) → begins (text "<?xml") s ≡ true → isReadable (item before s) ≡ false
 unfolding item byte startTag nameStart
 xml-unread before s b =
-    ap (λ (l : List ℕ). itemRefusal (item before l)) (sym (take-append-drop 5 s) ∙ ap (λ (l : List ℕ). l ++ drop 5 s) (begins-take (text "<?xml") s b))
+    ap (λ (l : List ℕ). isReadable (item before l)) (sym (take-append-drop 5 s) ∙ ap (λ (l : List ℕ). l ++ drop 5 s) (begins-take (text "<?xml") s b))
 
 abbrev xml : List ℕ
 xml = text "<?xml"
@@ -157,7 +157,7 @@ module _ (x y : List ℕ) (k : ℕ) where
 
   module _ (q : begin x ≡ From k) where
     -- y begins with the first item of x, which can be read
-    pub begin-front : itemRefusal (item k (drop k x)) ≡ 0 → take (k + itemEnd (item k (drop k x))) y ≡ take (k + itemEnd (item k (drop k x))) x → begin y ≡ From k
+    pub begin-front : isReadable (item k (drop k x)) ≡ true → take (k + itemEnd (item k (drop k x))) y ≡ take (k + itemEnd (item k (drop k x))) x → begin y ≡ From k
     begin-front r e =
         let n = itemEnd (item k (drop k x)) in
         let m = markLen x in
@@ -173,7 +173,7 @@ module _ (x y : List ℕ) (k : ℕ) where
         (b .from) in
         begin-with em ex (shared-less x y k (k + n) (omega arith) e) q
       where
-        first : (k : ℕ) → k ≡ 0 → itemRefusal (item k (drop k x)) ≡ 0 → take (k + itemEnd (item k (drop k x))) y ≡ take (k + itemEnd (item k (drop k x))) x
+        first : (k : ℕ) → k ≡ 0 → isReadable (item k (drop k x)) ≡ true → take (k + itemEnd (item k (drop k x))) y ≡ take (k + itemEnd (item k (drop k x))) x
             → begins mark y ≡ begins mark x
         first zero z r e = begins-same mark unread-mark 0 x y r (shared-less x y (itemEnd (item 0 x)) (0 + itemEnd (item 0 x)) (omega arith) e)
         first (suc k) z r e = absurd (omega arith)

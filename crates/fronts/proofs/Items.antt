@@ -9,7 +9,7 @@ use lib.Dec.{eqb, ltb}
 use lib.ListN.{length, take, drop, length-drop}
 use lib.Seq.{take-at, drop-at}
 use borrow.Author.Tests.{eqb-true}
-use Rattle.lists.proofs.Cases.{bool-cases, eqb-cases, ltb-cases, by-cond}
+use Rattle.lists.proofs.Cases.{bool-cases, eqb-cases, ltb-cases, by-cond, never}
 use Rattle.slices.specs.Bytes.{byte}
 use Rattle.slices.specs.Part.{partOf}
 use Rattle.slices.specs.Run.{run}
@@ -25,7 +25,7 @@ use Rattle.tags.specs.Known.{noneKnown}
 use Rattle.tags.specs.Tail.{Attr, Ends, closed, torn, ends, keptOf, twice}
 use Rattle.items.specs.Comment.{commentTo, comment}
 use Rattle.items.specs.Text.{textTo, textItem}
-use Rattle.items.specs.Item.{tagOf, tagItem, startTag, endTag, endName, endClose, commentItem, commentTag, item, itemRefusal, itemEnd}
+use Rattle.items.specs.Item.{tagOf, tagItem, startTag, endTag, endName, endClose, commentItem, commentTag, item, isReadable, itemEnd}
 use Rattle.items.specs.declared.Tag.{Tag}
 use Rattle.items.specs.declared.Item.{Item}
 use Rattle.items.specs.declared.Item.the-variants.{Start, Empty, End, Text, Comment, Unreadable}
@@ -48,10 +48,10 @@ pub record Whole (x : Item) (s : List ℕ) : Type 0 where
 
 module _ (before : ℕ) (s : List ℕ) where
   abbrev Read : Item → Type 0
-  Read x = itemRefusal x ≡ 0 → Whole x s
+  Read x = isReadable x ≡ true → Whole x s
 
   torn-read : Read (Unreadable before)
-  torn-read e = absurd (omega (arith, e))
+  torn-read e = never e
 
   tag-read : (n : ℕ) (x : Ends) → ends s (1 + n) ≡ x → Read (tagItem before n x)
   unfolding ends tagItem tagOf EndsBefore
@@ -116,7 +116,7 @@ module _ (before : ℕ) (s : List ℕ) where
             ends = upto-ends s;
           }
 
-  pub item-whole : itemRefusal (item before s) ≡ 0 → Whole (item before s) s
+  pub item-whole : isReadable (item before s) ≡ true → Whole (item before s) s
   unfolding item
   item-whole =
       by-cond Read (eqb (byte s 0) 0x3C)
@@ -136,7 +136,7 @@ record Held (s s′ : List ℕ) (x : Item) : Type 0 where
   front : Front s s′ (itemEnd x)
   ends : EndsBefore x (drop (itemEnd x) s′)
 
-pub ends-read : (x : Item) (q : List ℕ) → EndsBefore x q → itemRefusal x ≡ 0
+pub ends-read : (x : Item) (q : List ℕ) → EndsBefore x q → isReadable x ≡ true
 unfolding EndsBefore
 ends-read (Start t) q h = refl
 ends-read (Empty t) q h = refl
@@ -336,7 +336,7 @@ Says (Unreadable p) s s′ = Unit {0}
 
 module _ (before : ℕ) (s s′ : List ℕ) where
   -- parts that end where the item does, or before
-  part-said : (i : Item) → item before s ≡ i → itemRefusal i ≡ 0 → take (itemEnd i) s′ ≡ take (itemEnd i) s → (at n : ℕ) → at + n ≤ itemEnd i → partOf s at n ≡ partOf s′ at n
+  part-said : (i : Item) → item before s ≡ i → isReadable i ≡ true → take (itemEnd i) s′ ≡ take (itemEnd i) s → (at n : ℕ) → at + n ≤ itemEnd i → partOf s at n ≡ partOf s′ at n
   part-said i is r q at n h =
       let w : Whole i s = rw is at (item-whole before s (rw is r)) in
       sym (part-front s s′ (itemEnd i) (w .inside) (shared-long s s′ (itemEnd i) q (w .inside)) (shared-front s s′ (itemEnd i) q) at n h)

@@ -20,7 +20,7 @@ use Rattle.elements.specs.Names.{elementNo}
 use Rattle.tags.specs.Tail.{Ends, closed, torn, ends, twice}
 use Rattle.items.specs.Comment.{commentTo, comment}
 use Rattle.items.specs.Text.{textTo, textItem}
-use Rattle.items.specs.Item.{tagItem, startTag, endTag, endName, endClose, commentItem, commentTag, item, itemRefusal, itemEnd}
+use Rattle.items.specs.Item.{tagItem, startTag, endTag, endName, endClose, commentItem, commentTag, item, isReadable, itemEnd}
 use Rattle.items.specs.declared.Tag.{Tag}
 use Rattle.items.specs.declared.Item.{Item}
 use Rattle.items.specs.declared.Item.the-variants.{Start, Empty, End, Text, Comment, Unreadable}
@@ -136,7 +136,7 @@ text-or (Text w e) a = inl refl
 text-or (Comment e) a = inr (λ q. tt)
 text-or (Unreadable p) a = never a
 
-readable : (i : Item) → allowed i ≡ true → itemRefusal i ≡ 0
+readable : (i : Item) → allowed i ≡ true → isReadable i ≡ true
 unfolding allowed
 readable (Start t) a = refl
 readable (Empty t) a = refl

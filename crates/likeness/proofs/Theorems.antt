@@ -9,7 +9,7 @@ use lib.ListN.{length, drop, length-append, length-drop, List·getD-append}
 use lib.Seq.{drop-append-le}
 use Rattle.slices.specs.Bytes.{byte}
 use Rattle.attributes.specs.Attribute.{quote}
-use Rattle.items.specs.Item.{item, itemRefusal, itemEnd}
+use Rattle.items.specs.Item.{item, isReadable, itemEnd}
 use Rattle.items.specs.declared.Item.{Item}
 use Rattle.items.specs.declared.Item.the-variants.{Comment}
 use Rattle.prolog.specs.declared.Begin.the-variants.{From}
@@ -126,7 +126,7 @@ comment-more : (c r : List ℕ) → IsComment c → SayAlike r (c ++ r)
 unfolding EndsBefore signsBy allowed
 comment-more c r e a =
     let i : item 0 (c ++ []) ≡ Comment (length c) = ap (item 0) (append-nil c) ∙ e in
-    let some : 0 < length c = rw e at (item-whole 0 c (ap itemRefusal e) .some) in
+    let some : 0 < length c = rw e at (item-whole 0 c (ap isReadable e) .some) in
     let ends : EndsBefore (item 0 (c ++ [])) r = rw i tt in
     let j = item-front 0 c [] r (ap itemEnd i) ends ∙ i in
     (stands-next c r some (ap itemEnd j) (ap allowed j) a, sym (signs-next c r some (ap itemEnd j) ∙ ap (λ (x : Item). signsBy x (c ++ r) ++ signsIn r) j))
