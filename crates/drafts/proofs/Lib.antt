@@ -1,3 +1,4 @@
 pub mod Quoted
 pub mod Rows
 pub mod Writing
+pub mod Elements

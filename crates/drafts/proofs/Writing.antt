@@ -83,7 +83,7 @@ number-writable t q = record { version = tt; release = tt; message = tt; v = q; 
 
 -- ---- elements
 
-row-there : (rows : List ℕ) (q w : ℕ) (ws : List ℕ) → w ∷ ws ≡ drop q rows → (getD rows q 0 ≡ w) × (ws ≡ drop (suc q) rows)
+pub row-there : (rows : List ℕ) (q w : ℕ) (ws : List ℕ) → w ∷ ws ≡ drop q rows → (getD rows q 0 ≡ w) × (ws ≡ drop (suc q) rows)
 row-there [] zero w ws e = absurd (let z = ap length e in omega (arith, z))
 row-there [] (suc q) w ws e = absurd (let z = ap length e in omega (arith, z))
 row-there (x ∷ rows) zero w ws e = (cc, cc)
