@@ -21,7 +21,8 @@ use Rattle.views.specs.Layout.{valuesOf}
 use Rattle.trees.specs.Trees.{Trees, none, element}
 use Rattle.contents.specs.Said.{TagSaid}
 use Rattle.contents.specs.Legal.{hasRole, those, inEach}
-use Rattle.amounts.specs.Texts.{wholeText, amountText}
+use Rattle.wholes.specs.Whole.{wholeText}
+use Rattle.amounts.specs.Texts.{amountText}
 use Rattle.drafts.specs.Draft.{Draft, singleTag, isSaid, rootTag, bareTag, numberTag, singles, intervalsFrom, roleRow, pairFor, singlesIn, periodTree, seriesFrom, draftContent}
 use Rattle.drafts.proofs.Writing.{row-there}
 
