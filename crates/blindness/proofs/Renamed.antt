@@ -6,10 +6,8 @@ use mathlib.Core.List.{List, [], _∷_}
 use mathlib.Core.Bool.{Bool, true, false, cond}
 use mathlib.Core.Logic.{_⊎_, inl, inr, ⊎-elim}
 use native.Mathlib.Omega.{arith}
-use lib.Dec.{eqb}
 use lib.ListN.{length, drop, getD}
-use borrow.Author.Tests.{eq-eqb}
-use Rattle.lists.proofs.Cases.{bool-cases, eqb-cases, never, zero-not-one}
+use Rattle.lists.proofs.Cases.{bool-cases, never, zero-not-one}
 use Rattle.slices.specs.Part.{partOf}
 use Rattle.slices.specs.Same.{same}
 use Rattle.slices.proofs.Sames.{same-self, same-equal}

@@ -81,19 +81,23 @@ module _ (before : ℕ) (s : List ℕ) where
       (by-cond (Placed before s) (eqb (byte s 1) 0x21) comment-placed start-placed))
       (text-placed (firstAt (text "<") s) refl)
 
--- "An item is either one of five kinds or a refusal with its place": "2: the item is unreadable", at the index of its first byte
+-- "An item is either one of five kinds or a refusal with its place": it is readable and not refused with 2, or it is refused with "2: the item is unreadable", at the index of its
+-- first byte
 pub kind-or-refused : (before : ℕ) (s : List ℕ)
-    → (isReadable (item before s) ≡ true) ⊎ ((item before s ≡ Unreadable before) × (itemRefusal (item before s) ≡ 2))
+    → ((isReadable (item before s) ≡ true) × (itemRefusal (item before s) ≡ 2 → ⊥))
+    ⊎ ((isReadable (item before s) ≡ false) × (item before s ≡ Unreadable before) × (itemRefusal (item before s) ≡ 2))
 unfolding Placed
 kind-or-refused before s = go (item before s) (item-placed before s)
   where
-    go : (x : Item) → Placed before s x → (isReadable x ≡ true) ⊎ ((x ≡ Unreadable before) × (itemRefusal x ≡ 2))
-    go (Start t) h = inl refl
-    go (Empty t) h = inl refl
-    go (End n e) h = inl refl
-    go (Text w e) h = inl refl
-    go (Comment e) h = inl refl
-    go (Unreadable p) h = inr (ap (λ (q : ℕ). Unreadable q) h, refl)
+    go : (x : Item) → Placed before s x
+        → ((isReadable x ≡ true) × (itemRefusal x ≡ 2 → ⊥)) ⊎ ((isReadable x ≡ false) × (x ≡ Unreadable before) × (itemRefusal x ≡ 2))
+    go (Start t) h = inl (refl, λ e. omega (arith, e))
+    go (Empty t) h = inl (refl, λ e. omega (arith, e))
+    go (End n l) h = inl (refl, λ e. omega (arith, e))
+    go (Text true l) h = inl (refl, λ e. omega (arith, e))
+    go (Text false l) h = inl (refl, λ e. omega (arith, e))
+    go (Comment l) h = inl (refl, λ e. omega (arith, e))
+    go (Unreadable p) h = inr (refl, ap (λ (q : ℕ). Unreadable q) h, refl)
 
 -- "text with other XML characters is refusal 3": what is refused with 3 by itself is a text up to the next `<`, and not all of its bytes are white space
 pub other-text-refused : (before : ℕ) (s : List ℕ) → itemRefusal (item before s) ≡ 3

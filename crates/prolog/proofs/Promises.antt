@@ -95,12 +95,13 @@ module _ (doc : List ℕ) (p : ℕ) (e : begin doc ≡ Misdeclared p) where
 -- "An XML declaration may stand before the first item .. with anything else in it, it is an unreadable item.": nothing is refused, or it is refused with 2, at the
 -- declaration that stands right after the mark
 pub first-or-refused : (doc : List ℕ)
-    → (beginRefusal (begin doc) ≡ 0)
+    → ((n : ℕ) × (begin doc ≡ From n) × (beginRefusal (begin doc) ≡ 0))
     ⊎ ((begin doc ≡ Misdeclared (markLen doc)) × (beginRefusal (begin doc) ≡ 2) × (begins (text "<?xml") (drop (markLen doc) doc) ≡ true))
 first-or-refused doc = go (begin doc) refl
   where
     go : (x : Begin) → begin doc ≡ x
-        → (beginRefusal x ≡ 0) ⊎ ((x ≡ Misdeclared (markLen doc)) × (beginRefusal x ≡ 2) × (begins (text "<?xml") (drop (markLen doc) doc) ≡ true))
-    go (From n) e = inl refl
+        → ((n : ℕ) × (x ≡ From n) × (beginRefusal x ≡ 0))
+        ⊎ ((x ≡ Misdeclared (markLen doc)) × (beginRefusal x ≡ 2) × (begins (text "<?xml") (drop (markLen doc) doc) ≡ true))
+    go (From n) e = inl (n, refl, refl)
     go (Misdeclared p) e =
         let q = refused-at doc p e in inr (ap (λ (n : ℕ). Misdeclared n) q, refl, rw q at (refused-declaration doc p e))

@@ -3,7 +3,7 @@ use Prim.Native.Nat.{ℕ}
 use mathlib.Core.Path.{_≡_, refl, sym, ap, _∙_}
 use mathlib.Core.List.{List}
 use mathlib.Core.Bool.{Bool, true}
-use mathlib.Core.Logic.{_⊎_, inl, inr, ⊎-elim}
+use mathlib.Core.Logic.{inl, inr, ⊎-elim}
 use native.Mathlib.Omega.{arith}
 use lib.Dec.{eqb}
 use lib.IntN.{ℤ, pos, negsuc}
@@ -16,7 +16,7 @@ use Rattle.reader.specs.Answer.{Outcome, readOf}
 use Rattle.blindness.specs.Readable.{QtyDigit, DifferInQty}
 use Rattle.blindness.specs.Blind.{OwnDigitsDiffer}
 use Rattle.blindness.proofs.Blind.{blind}
-use Rattle.promises.specs.Sheet.{sheet, sheetOutcome, dearerSheet, dearerOutcome}
+use Rattle.promises.specs.Sheet.{sheet, dearerSheet}
 use Rattle.promises.proofs.Digits.{alongside, along, qty-digit}
 use Rattle.promises.proofs.Examples.{qtyPlace, qty-place, sheet-read, dearer-read}
 

@@ -1,19 +1,18 @@
 -- Demand 2 is met by the reader, and by none of 01's fakes: each is told from the reader by the sheet of two series, or by the empty document. Assumes nothing.
 use Prim.Native.Nat.{ℕ}
-use mathlib.Core.Path.{_≡_, refl, sym, ap, _∙_}
-use mathlib.Core.List.{List, []}
+use mathlib.Core.Path.{_≡_, sym, ap, _∙_}
+use mathlib.Core.List.{[]}
 use native.Mathlib.Omega.{arith}
 use lib.ListN.{getD}
-use Rattle.guideline.specs.Rows.{rowsOf}
 use Rattle.series.specs.Row.{fieldAt}
 use Rattle.series.specs.declared.Field.the-variants.{Count}
 use Rattle.notes.specs.declared.Shape.the-variants.{Old}
-use Rattle.reader.specs.Reading.{Tables, blank, refusedAt}
-use Rattle.reader.specs.Answer.{Outcome, noted, told, answerOf, readOf}
+use Rattle.reader.specs.Reading.{blank, refusedAt}
+use Rattle.reader.specs.Answer.{Outcome, noted, told, answerOf}
 use Rattle.contents.specs.Shown.{Tells}
 use Rattle.contents.proofs.Theorems.{accepted-legal, legal-accepted}
-use Rattle.promises.specs.Sheet.{sheet, sheetOutcome}
-use Rattle.promises.specs.Fakes.{Reader, Promised, theReader, refusesEverything, oneAnswer, doesNothing, firstRow, firstSeriesOnly, inventsCounts}
+use Rattle.promises.specs.Sheet.{sheet}
+use Rattle.promises.specs.Fakes.{Reader, Promised, theReader, refusesEverything, oneAnswer, doesNothing, firstRowAlone, firstSeriesOnly, inventsCounts}
 use Rattle.promises.proofs.Answers.{counts-told}
 use Rattle.promises.proofs.Examples.{nothing-read, sheet-read, sheet-content, sheet-short}
 
@@ -60,7 +59,7 @@ pretending-fails p =
     let m = told-of theReader reader-meets .series in
     let fake = told-of firstSeriesOnly p .tables .series 1 (omega (arith, n, m)) .count in
     let real = told-of theReader reader-meets .tables .series 1 (omega (arith, n, m)) .count in
-    let none = ap (λ (o : Outcome). fieldAt (firstRow 25 (o .tables) .series) 1 Count) sheet-read in
+    let none = ap (λ (o : Outcome). fieldAt (firstRowAlone 25 (o .tables) .series) 1 Count) sheet-read in
     let two = ap (λ (o : Outcome). fieldAt (o .tables .series) 1 Count) sheet-read in
     let e : _≡_ {A = ℕ} 0 2 = sym none ∙ fake ∙ sym real ∙ two in
     omega (arith, e)

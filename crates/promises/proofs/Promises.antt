@@ -16,6 +16,12 @@ use Rattle.notes.specs.Reader.{noteIn}
 use Rattle.notes.specs.declared.Shape.the-variants.{Old}
 use Rattle.notes.specs.declared.NoteRead.the-variants.{Taken}
 use Rattle.notes.specs.declared.Shape.{Shape}
+use Rattle.items.specs.Item.{itemRefusal}
+use Rattle.items.specs.declared.Item.{Item}
+use Rattle.states.specs.Moves.{step}
+use Rattle.states.specs.declared.State.{State}
+use Rattle.states.specs.declared.Room.{Room}
+use Rattle.states.specs.declared.Step.the-variants.{Refused}
 use Rattle.reader.specs.Reading.{blank, roomOf}
 use Rattle.reader.specs.Answer.{Outcome, readOf, Permitted}
 use Rattle.reader.specs.declared.Answer.{Answer}
@@ -55,6 +61,7 @@ use Rattle.promises.specs.Items.{before, starts, kindIn, intervalElement
 use Rattle.promises.specs.Examples.{examples, allPass}
 use Rattle.promises.specs.Day.{shortDay, dayOutcome}
 use Rattle.promises.specs.Sheet.{sheet, sheetOutcome, dearerSheet, dearerOutcome, renamedSheet, twiceSheet, twiceAnswer, brokenSheet, longerSheet, numberAndPlace, constraintSheet, constraintOutcome, withdrawnSheet, withdrawnOutcome}
+use Rattle.promises.proofs.Refusals.{refused-anywhere}
 use Rattle.promises.proofs.Answers.{ten-is, ten-only, long-is, long-only, refusal-clears, refusal-known, place-within, place-told, accepted-whole, counts-within, cells-past, rows-kept, counts-told, note-told, open-told}
 use Rattle.promises.proofs.Faces.{two-calls, two-replies, renamed-runs, renamed-calls, renamed-replies}
 use Rattle.promises.proofs.Examples.{examples-pass, day-read, day-content, sheet-read, sheet-content, dearer-read, twice-read, constraint-read, withdrawn-read, constraint-content, withdrawn-content, threefold, three-at-once, twice-first, sheet-faultless, broken-read, cut-read, ends-needed, roots-refused}
@@ -202,6 +209,10 @@ reader-promised = reader-meets
 -- only the first series and pretends after it (demand 2 on rows), one that invents counts (demand 2 on the note).": none of them meets it
 pub fakes-rejected : (Promised refusesEverything → ⊥) × (Promised oneAnswer → ⊥) × (Promised doesNothing → ⊥) × (Promised firstSeriesOnly → ⊥) × (Promised inventsCounts → ⊥)
 fakes-rejected = (refusing-fails, answering-fails, idling-fails, pretending-fails, inventing-fails)
+
+-- "2: the item is unreadable"; "3: .. other text": what an item is refused with by itself, it is refused with in every state
+pub refused-by-itself : (x : State) (i : Item) (s : List ℕ) (room : Room) → (itemRefusal i ≡ 0 → ⊥) → step x i s room ≡ Refused (itemRefusal i)
+refused-by-itself = refused-anywhere
 
 -- there are documents of both sorts, and an item with three faults at once
 pub a-first-fault : FirstIn twiceSheet 25 4 4 9 926 × NoneIn sheet 25 4 4 × (HasFault threefold 3 × HasFault threefold 5 × HasFault threefold 6)

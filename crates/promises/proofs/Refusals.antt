@@ -23,13 +23,17 @@ use Rattle.guideline.specs.Kinds.{kindAt, hasEnough}
 use Rattle.rules.specs.Rules.{unless, formRefusal, periodFits, judgePeriodBy, judgePeriod, judgeIntervalBy, judgeInterval, positionFits, judgePositionBy, judgePosition, judge}
 use Rattle.rules.specs.declared.Held.{Held}
 use Rattle.rules.specs.declared.Judged.{Judged}
+use Rattle.items.specs.Item.{itemRefusal}
+use Rattle.items.specs.declared.Item.{Item}
+use Rattle.items.specs.declared.Item.the-variants.{Start, Empty, End, Text, Comment, Unreadable}
 use Rattle.items.specs.declared.Tag.{Tag}
 use Rattle.slices.specs.declared.Span.{Span}
 use Rattle.states.specs.Attributes.{attributesFit, saidIn, schemeRefusal, least, alsoScheme, dtdFixed, judgeTag}
-use Rattle.states.specs.Moves.{heldOf, cutShort, tooMany, noRoom, halfOriginals, againstOthers, besideOthers, valuesJudged, judgedAt, startJudged, countRefusal, lackRefusal, endRefusal}
+use Rattle.states.specs.Moves.{heldOf, cutShort, tooMany, noRoom, halfOriginals, againstOthers, besideOthers, valuesJudged, judgedAt, startJudged, countRefusal, lackRefusal, endRefusal, moved, step}
 use Rattle.states.specs.Constraints.{lacking}
 use Rattle.states.specs.declared.State.{State}
 use Rattle.states.specs.declared.Room.{Room}
+use Rattle.states.specs.declared.Step.the-variants.{Refused}
 
 -- 0, which is none, or 2 to 9
 abbrev pub given : ℕ → Bool
@@ -131,3 +135,15 @@ end-given x rows r =
     (by-cond Given (hasEnough (x .kind) n) (by-cond Given (kindAt (x .kind) .full) (by-cond Given (eqb n (x .quarters)) refl refl) refl) refl)
     (by-cond Given (eqb (roleOf (getD rows r 0)) 1)
     (by-cond Given (kindAt (x .kind) .constrained) (by-cond Given (lacking (x .seen) (x .series)) refl refl) refl) refl)
+
+-- ---- an item that is refused by itself: other text, and what is unreadable
+
+pub refused-anywhere : (x : State) (i : Item) (s : List ℕ) (room : Room) → (itemRefusal i ≡ 0 → ⊥) → step x i s room ≡ Refused (itemRefusal i)
+unfolding step moved
+refused-anywhere x (Start t) s room h = absurd (h refl)
+refused-anywhere x (Empty t) s room h = absurd (h refl)
+refused-anywhere x (End n e) s room h = absurd (h refl)
+refused-anywhere x (Text true e) s room h = absurd (h refl)
+refused-anywhere x (Text false e) s room h = refl
+refused-anywhere x (Comment e) s room h = absurd (h refl)
+refused-anywhere x (Unreadable p) s room h = refl

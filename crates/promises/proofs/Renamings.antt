@@ -1,14 +1,14 @@
 -- The sheet with other identifications: by a rule that is one-to-one, so that the promise has an instance; and by one that is not. Assumes nothing.
-use Prim.Native.Nat.{ℕ, zero, suc, _+_}
+use Prim.Native.Nat.{ℕ, _+_}
 use mathlib.Core.Path.{_≡_, refl, sym, _∙_}
 use mathlib.Core.List.{List, [], _∷_}
 use mathlib.Core.Bool.{Bool, true, false, cond}
 use mathlib.Core.Logic.{_⊎_, inl, inr, ⊎-elim}
 use native.Mathlib.Omega.{arith}
-use lib.Dec.{eqb, leb, ltb}
+use lib.Dec.{leb, ltb}
 use lib.ListN.{length}
 use borrow.Author.Tests.{leb-true, ltb-true}
-use Rattle.lists.proofs.Cases.{bool-cases, both-true, eqb-cases, never}
+use Rattle.lists.proofs.Cases.{bool-cases, both-true, never}
 use Rattle.slices.specs.Bytes.{byte}
 use Rattle.slices.specs.Part.{partOf}
 use Rattle.slices.specs.Run.{run}

@@ -53,11 +53,11 @@ abbrev pub doesNothing : Reader
 doesNothing doc ns np na shape nb = withTables (readOf doc ns np na shape nb) (blank ns np na)
 
 -- "one that fills only the first series and pretends after it"
-abbrev pub firstRow : ℕ → Tables → Tables
-firstRow ns t = tab (padded ns (take (cellsOf 1) (t .series))) (t .positions) (t .amounts)
+abbrev pub firstRowAlone : ℕ → Tables → Tables
+firstRowAlone ns t = tab (padded ns (take (cellsOf 1) (t .series))) (t .positions) (t .amounts)
 
 abbrev pub firstSeriesOnly : Reader
-firstSeriesOnly doc ns np na shape nb = withTables (readOf doc ns np na shape nb) (firstRow ns (readOf doc ns np na shape nb .tables))
+firstSeriesOnly doc ns np na shape nb = withTables (readOf doc ns np na shape nb) (firstRowAlone ns (readOf doc ns np na shape nb .tables))
 
 -- "one that invents counts": a series more than there are
 abbrev pub oneMoreSeries : Outcome → Outcome
