@@ -24,7 +24,7 @@ use Rattle.attributes.specs.declared.Value.the-variants.{Long, Broken}
 use Rattle.attributes.proofs.Values.{met-amp, met-other}
 
 -- what stands first in a value is read from its own bytes alone
-met-front : (s s′ : List ℕ) {c n : ℕ} → charOf (met s) ≡ Is c n → n ≤ length s′ → Front s s′ n → met s′ ≡ met s
+pub met-front : (s s′ : List ℕ) {c n : ℕ} → charOf (met s) ≡ Is c n → n ≤ length s′ → Front s s′ n → met s′ ≡ met s
 met-front s s′ {c} {n} e l h = let first = h 0 (omega (arith, unit-some s e)) in by (unit-is s e) first
   where
     by : Unit′ s c n → byte s 0 ≡ byte s′ 0 → met s′ ≡ met s
@@ -37,15 +37,15 @@ not-long : (m : ℕ) → Broken ≡ Long m → ⊥
 not-long m e = zero-not-one (cc)
 
 module _ (q : ℕ) (small : q < 0x80) where
-  abbrev valueFrom : ℕ → ℕ → List ℕ → Value
+  abbrev pub valueFrom : ℕ → ℕ → List ℕ → Value
   valueFrom at k x = walk met (valueNext q) valueOver at k x
 
   -- what the next unit makes of a value of m bytes
-  data Next (at c : ℕ) (x : List ℕ) (m : ℕ) : Type 0 where
+  pub data Next (at c : ℕ) (x : List ℕ) (m : ℕ) : Type 0 where
     ended : charOf (met (c ∷ x)) ≡ Is q 1 → c ≡ q → valueNext q at (met (c ∷ x)) ≡ stop (Long at) → at ≡ m → Next at c x m
     passed : (d n : ℕ) → charOf (met (c ∷ x)) ≡ Is d n → valueNext q at (met (c ∷ x)) ≡ go n (at + n) → valueFrom (at + n) (pred n) x ≡ Long m → Next at c x m
 
-  value-next : (at c : ℕ) (x : List ℕ) (m : ℕ) → valueFrom at 0 (c ∷ x) ≡ Long m → Next at c x m
+  pub value-next : (at c : ℕ) (x : List ℕ) (m : ℕ) → valueFrom at 0 (c ∷ x) ≡ Long m → Next at c x m
   unfolding walk valueNext referredNext standingNext byte
   value-next at c x m e = ⊎-elim (λ y. refers-to (y .0) (referenceAt (c ∷ x)) refl) (λ y. stands-as (y .0) (charAt (c ∷ x)) refl) (eqb-cases c 0x26)
     where
@@ -69,7 +69,7 @@ module _ (q : ℕ) (small : q < 0x80) where
           (λ (t : fit d ≡ false). let f : Broken ≡ Long m = rw (walk, w, g, t) at e in absurd (not-long m f))
           (bool-cases (fit d))
 
-  value-from : (x : List ℕ) (k at m : ℕ) → valueFrom at k x ≡ Long m → at ≤ m
+  pub value-from : (x : List ℕ) (k at m : ℕ) → valueFrom at k x ≡ Long m → at ≤ m
   unfolding walk valueOver
   value-from [] k at m e = absurd (not-long m e)
   value-from (c ∷ x) (suc k) at m e = value-from x k at m e

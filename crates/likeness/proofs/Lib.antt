@@ -1,0 +1,10 @@
+pub mod Runs
+pub mod Shifts
+pub mod Whites
+pub mod Values
+pub mod Begins
+pub mod Replaced
+pub mod Written
+pub mod Noted
+pub mod Tags
+pub mod Theorems
