@@ -8,3 +8,4 @@ pub mod Written
 pub mod Noted
 pub mod Tags
 pub mod Theorems
+pub mod Examples

@@ -68,6 +68,7 @@ use Rattle.contents.specs.Said.{TagSaid}
 use Rattle.contents.specs.Spelled.{Spells}
 use Rattle.contents.specs.Legal.{Legal, HasRoom}
 use Rattle.contents.proofs.Theorems.{accepted-legal}
+use Rattle.likeness.proofs.Examples.{emptyRoot, closedRoot}
 use Rattle.promises.proofs.Answers.{accepted-whole}
 
 -- where the two identifications of the sheet stand
@@ -93,6 +94,7 @@ computed : (allPass examples ≡ true) × (readOf sheet 25 4 4 Old 16 ≡ sheetO
     × ((numberAndPlace (readOf (take 926 twiceSheet) 25 4 4 Old 16) ≡ (3, 926)) × (numberAndPlace (readOf longerSheet 25 4 4 Old 16) ≡ (3, 1387)))
     × ((numberAndPlace (readOf (text "<a") 0 0 0 Old 16) ≡ (2, 0)) × (numberAndPlace (readOf (text "<a>") 0 0 0 Old 16) ≡ (3, 0)))
     × ((numberAndPlace (readOf (text "a") 0 0 0 Old 16) ≡ (3, 0)) × (numberAndPlace (readOf (text "a&") 0 0 0 Old 16) ≡ (2, 0)))
+    × ((numberAndPlace (readOf emptyRoot 0 0 0 Old 16) ≡ (3, 0)) × (numberAndPlace (readOf closedRoot 0 0 0 Old 16) ≡ (5, 0)))
 unfolding byte run same begins walk seqLen control single charAt met charOf saidBy saidAt saysAfter says nameStart nameByte white quote fit standingNext valueNext valueOver
     value openingFrom opening attributeEnd attributeQuote attributeName attribute pieceAfter piece partOf absent passedOver dtdName noDtd withDtd noneKnown anotherKnown
     notedKnown onto endsAfter ends keptOf named twice endClose endName endTag tagOf tagItem startTag item markLen beginAfter begin capital
@@ -125,6 +127,7 @@ computed = (
   (refl, refl),
   (refl, refl),
   (refl, refl),
+  (refl, refl),
 )
 
 -- "P1 to P12 form a single table with a single proved statement."
@@ -150,6 +153,10 @@ withdrawn-read = computed .5
 -- an item with several faults
 pub three-at-once : HasFault threefold 3 × HasFault threefold 5 × HasFault threefold 6
 three-at-once = computed .6
+
+-- an empty tag, and a start tag with its end
+pub roots-refused : (numberAndPlace (readOf emptyRoot 0 0 0 Old 16) ≡ (3, 0)) × (numberAndPlace (readOf closedRoot 0 0 0 Old 16) ≡ (5, 0))
+roots-refused = computed .12
 
 -- a document with a first fault, and one without any
 pub twice-first : FirstIn twiceSheet 25 4 4 9 926

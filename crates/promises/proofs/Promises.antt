@@ -3,13 +3,14 @@
 -- citation; above it stands the sentence that it means. Assumes nothing.
 use Prim.Native.Nat.{ℕ, _+_, _≤_, _<_}
 use mathlib.Core.Path.{_≡_}
-use mathlib.Core.List.{List}
+use mathlib.Core.List.{List, _∷_, _++_}
 use mathlib.Core.Logic.{_⊎_}
-use mathlib.Core.Bool.{true}
+use mathlib.Core.Bool.{Bool, true, false}
 use lib.IntN.{ℤ, pos}
 use lib.ListN.{length, take, drop, getD}
 use Rattle.slices.specs.Text.{text}
 use Rattle.lists.specs.Zeros.{zeros, padded}
+use Rattle.attributes.specs.Attribute.{quote}
 use Rattle.notes.specs.Note.{noteOf, tellsIn}
 use Rattle.notes.specs.Reader.{noteIn}
 use Rattle.notes.specs.declared.Shape.the-variants.{Old}
@@ -39,6 +40,9 @@ use Rattle.contents.specs.Spelled.{Spells, SpellAlike}
 use Rattle.contents.specs.Legal.{Legal, HasRoom}
 use Rattle.contents.specs.Shown.{Tells, SameButPlaces}
 use Rattle.contents.proofs.Theorems.{accepted-legal, legal-accepted, one-content, nothing-but-places}
+use Rattle.likeness.specs.Alike.{BetweenItems, White, IsComment, SayAlike, Written, WrittenTag, tagBytes, endBytes, Quoted, Without, WellTag, SameTag, withAttributes, inQuotes}
+use Rattle.likeness.proofs.Theorems.{replaced, alike-back, alike-on, white-between, comment-between, tag-otherwise, other-quotes, other-order, empty-or-both}
+use Rattle.likeness.proofs.Examples.{senderTag, senderOtherwise, tags-spelt, sender-between, some-white, a-comment, tags-well, same-sender, quotes-free, emptyRoot, closedRoot, roots-alike}
 use Rattle.promises.specs.Answers.{noteTold, countIn, longest, atOnce}
 use Rattle.promises.specs.Rows.{ZeroPast, InRoom, Sized}
 use Rattle.guideline.specs.Kinds.{seriesElement}
@@ -47,7 +51,7 @@ use Rattle.promises.specs.Examples.{examples, allPass}
 use Rattle.promises.specs.Sheet.{sheet, sheetOutcome, renamedSheet, twiceSheet, twiceAnswer, brokenSheet, longerSheet, numberAndPlace, constraintSheet, constraintOutcome, withdrawnSheet, withdrawnOutcome}
 use Rattle.promises.proofs.Answers.{ten-is, ten-only, long-is, long-only, refusal-clears, refusal-known, place-within, place-told, accepted-whole, counts-within, cells-past, rows-kept, counts-told, note-told, open-told}
 use Rattle.promises.proofs.Faces.{two-calls, two-replies, renamed-runs, renamed-calls, renamed-replies}
-use Rattle.promises.proofs.Examples.{examples-pass, sheet-read, sheet-content, twice-read, constraint-read, withdrawn-read, constraint-content, withdrawn-content, threefold, three-at-once, twice-first, sheet-faultless, broken-read, cut-read, ends-needed}
+use Rattle.promises.proofs.Examples.{examples-pass, sheet-read, sheet-content, twice-read, constraint-read, withdrawn-read, constraint-content, withdrawn-content, threefold, three-at-once, twice-first, sheet-faultless, broken-read, cut-read, ends-needed, roots-refused}
 use Rattle.promises.proofs.Renamings.{sheet-renamed, renamed-read, sheet-twice}
 
 -- "P1 to P12 form a single table with a single proved statement."
@@ -203,6 +207,61 @@ content-alone = one-content
 pub places-alone : (x y : List ℕ) (ns np na : ℕ) (shape : Shape) (nb : ℕ) → 16 ≤ nb → length x ≤ 1048576 → length y ≤ 1048576 → SpellAlike x y
     → readOf x ns np na shape nb .answer .refusal ≡ 0 → SameButPlaces x (readOf x ns np na shape nb) y (readOf y ns np na shape nb)
 places-alone = nothing-but-places
+
+-- What makes documents alike. Whatever stands behind a place between the items of a document, other bytes may stand there whose tags say the same
+pub alike-by-parts : (a l m : List ℕ) → BetweenItems (a ++ l) (length a) → SayAlike l m → SpellAlike (a ++ l) (a ++ m)
+alike-by-parts = replaced
+
+-- likeness goes both ways, and on: what is said here of one change holds of many, and of those taken back
+pub alike-both-ways : (x y : List ℕ) → SpellAlike x y → SpellAlike y x
+alike-both-ways = alike-back
+
+pub alike-by-steps : (x y z : List ℕ) → SpellAlike x y → SpellAlike y z → SpellAlike x z
+alike-by-steps = alike-on
+
+-- white text between two items, before the first or behind the last; beside a white text the two are one
+pub alike-by-white : (a r : List ℕ) → BetweenItems (a ++ r) (length a) → (w : List ℕ) → White w → SpellAlike (a ++ r) (a ++ (w ++ r))
+alike-by-white = white-between
+
+-- a readable comment there
+pub alike-by-comment : (a r : List ℕ) → BetweenItems (a ++ r) (length a) → (c : List ℕ) → IsComment c → SpellAlike (a ++ r) (a ++ (c ++ r))
+alike-by-comment = comment-between
+
+-- "An empty tag is a start and an end in one item."
+pub alike-by-empty : (a r : List ℕ) (t : WrittenTag) (w : List ℕ) → WellTag t → White w → BetweenItems (a ++ (tagBytes t true ++ r)) (length a)
+    → SpellAlike (a ++ (tagBytes t true ++ r)) (a ++ (tagBytes t false ++ (endBytes (t .name) w ++ r)))
+alike-by-empty = empty-or-both
+
+-- white space in a tag, where there may be some: before an attribute, around its `=`, before `>` or `/>`; and in one step other quotes and another order too
+pub alike-by-tag : (a r : List ℕ) (empty : Bool) (s t : WrittenTag) → WellTag s → WellTag t → SameTag s t → BetweenItems (a ++ (tagBytes s empty ++ r)) (length a)
+    → SpellAlike (a ++ (tagBytes s empty ++ r)) (a ++ (tagBytes t empty ++ r))
+alike-by-tag = tag-otherwise
+
+-- the value of the attribute w "with single or double quotes", where it holds none of the new ones
+pub alike-by-quotes : (a r : List ℕ) (empty : Bool) (t : WrittenTag) → WellTag t → BetweenItems (a ++ (tagBytes t empty ++ r)) (length a)
+    → (before : List Written) (w : Written) (more : List Written) (q : ℕ) → t .attributes ≡ before ++ (w ∷ more) → quote q ≡ true → Without q (w .value)
+    → SpellAlike (a ++ (tagBytes t empty ++ r)) (a ++ (tagBytes (withAttributes t (before ++ (inQuotes q w ∷ more))) empty ++ r))
+alike-by-quotes = other-quotes
+
+-- two neighbouring attributes in the other order
+pub alike-by-order : (a r : List ℕ) (empty : Bool) (t : WrittenTag) → WellTag t → BetweenItems (a ++ (tagBytes t empty ++ r)) (length a)
+    → (before : List Written) (v w : Written) (more : List Written) → t .attributes ≡ before ++ (v ∷ w ∷ more)
+    → SpellAlike (a ++ (tagBytes t empty ++ r)) (a ++ (tagBytes (withAttributes t (before ++ (w ∷ v ∷ more))) empty ++ r))
+alike-by-order = other-order
+
+-- a tag in a document, white space and a comment to put before it, the same tag written otherwise, and a value that may and one that may not change its quotes
+pub alike-ways : BetweenItems (text "<Kostenblatt>" ++ (tagBytes senderTag true ++ text "</Kostenblatt>")) 13
+    × (tagBytes senderTag true ≡ text "<SenderIdentification v=\"1\" codingScheme = 'A10'/>")
+    × White (text " \n\t") × IsComment (text "<!-- sent by -->")
+    × (WellTag senderTag × WellTag senderOtherwise × SameTag senderTag senderOtherwise) × (tagBytes senderOtherwise true ≡ text "<SenderIdentification codingScheme = \"A10\" v='1' />")
+    × (Without 0x22 (text "A10") × Quoted 0x22 (text "A'0") × (Quoted 0x27 (text "A'0") → ⊥))
+alike-ways = (sender-between, tags-spelt .0, some-white, a-comment, (tags-well .0, tags-well .1, same-sender), tags-spelt .1, quotes-free)
+
+-- Refusals of documents that are alike may differ: `<Kostenblatt/>` is over too early, and lacks an attribute; of `<Kostenblatt></Kostenblatt>` the start tag has the
+-- second fault alone
+pub alike-refused-otherwise : SpellAlike emptyRoot closedRoot
+    × ((numberAndPlace (readOf emptyRoot 0 0 0 Old 16) ≡ (3, 0)) × (numberAndPlace (readOf closedRoot 0 0 0 Old 16) ≡ (5, 0)))
+alike-refused-otherwise = (roots-alike, roots-refused)
 
 -- "Two documents of equal length that differ only in digits of readable Qty values get the same answer, place, counts and note, and the same cells but for
 -- the amounts of accepted intervals whose own digits differ."; "Demand 3 covers the new note, with the same shape picked for both documents." Of two runs of the code
