@@ -7,5 +7,6 @@ pub mod Replaced
 pub mod Written
 pub mod Noted
 pub mod Tags
+pub mod Shapes
 pub mod Theorems
 pub mod Examples

@@ -30,6 +30,8 @@ use Rattle.blindness.specs.Renamed.{IdsReplaced, Renamed}
 use Rattle.blindness.proofs.Outcomes.{two-runs}
 use Rattle.prolog.specs.Prolog.{begin}
 use Rattle.items.specs.Item.{item, itemEnd}
+use Rattle.items.specs.declared.Tag.{Tag}
+use Rattle.items.specs.declared.Item.the-variants.{Start, Empty}
 use Rattle.fronts.specs.Front.{EndsBefore}
 use Rattle.faults.specs.Faults.{HasFault, FirstIn, NoneIn}
 use Rattle.faults.proofs.First.{first-named, first-refused, faultless-accepted, accepted-faultless}
@@ -42,6 +44,7 @@ use Rattle.contents.specs.Shown.{Tells, SameButPlaces}
 use Rattle.contents.proofs.Theorems.{accepted-legal, legal-accepted, one-content, nothing-but-places}
 use Rattle.likeness.specs.Alike.{BetweenItems, White, IsComment, SayAlike, Written, WrittenTag, tagBytes, endBytes, Quoted, Without, WellTag, SameTag, withAttributes, inQuotes}
 use Rattle.likeness.proofs.Theorems.{replaced, alike-back, alike-on, white-between, comment-between, tag-otherwise, other-quotes, other-order, empty-or-both}
+use Rattle.likeness.proofs.Shapes.{start-written, empty-written}
 use Rattle.likeness.proofs.Examples.{senderTag, senderOtherwise, tags-spelt, sender-between, some-white, a-comment, tags-well, same-sender, quotes-free, emptyRoot, closedRoot, roots-alike}
 use Rattle.promises.specs.Answers.{noteTold, countIn, longest, atOnce}
 use Rattle.promises.specs.Rows.{ZeroPast, InRoom, Sized}
@@ -248,6 +251,13 @@ pub alike-by-order : (a r : List ℕ) (empty : Bool) (t : WrittenTag) → WellTa
     → (before : List Written) (v w : Written) (more : List Written) → t .attributes ≡ before ++ (v ∷ w ∷ more)
     → SpellAlike (a ++ (tagBytes t empty ++ r)) (a ++ (tagBytes (withAttributes t (before ++ (w ∷ v ∷ more))) empty ++ r))
 alike-by-order = other-order
+
+-- these leave no tag out: every start tag that can be read, and every empty tag, is a tag as it is written
+pub start-tags-written : (before : ℕ) (s : List ℕ) (t : Tag) → item before s ≡ Start t → (w : WrittenTag) × WellTag w × (r : List ℕ) × (s ≡ tagBytes w false ++ r)
+start-tags-written = start-written
+
+pub empty-tags-written : (before : ℕ) (s : List ℕ) (t : Tag) → item before s ≡ Empty t → (w : WrittenTag) × WellTag w × (r : List ℕ) × (s ≡ tagBytes w true ++ r)
+empty-tags-written = empty-written
 
 -- a tag in a document, white space and a comment to put before it, the same tag written otherwise, and a value that may and one that may not change its quotes
 pub alike-ways : BetweenItems (text "<Kostenblatt>" ++ (tagBytes senderTag true ++ text "</Kostenblatt>")) 13
