@@ -8,5 +8,7 @@ pub mod Written
 pub mod Noted
 pub mod Tags
 pub mod Shapes
+pub mod Refused
+pub mod Numbers
 pub mod Theorems
 pub mod Examples
