@@ -25,14 +25,16 @@ use Rattle.reader.specs.Answer.{readOf}
 use Rattle.faults.proofs.First.{refusal-is}
 use Rattle.contents.specs.Spelled.{signsBy, signsOf, allowed, SpellAlike}
 use Rattle.likeness.specs.Alike.{Between, BetweenItems, White, IsComment, SayAlike, Written, WrittenTag, tagBytes, endBytes, Without, WellWritten, AllWell, WellTag, SameAttributes, none, next, exchanged, SameTag, withAttributes, inQuotes}
-use Rattle.likeness.proofs.Shifts.{item-like, signs-shift, allowed-shift, signsIn, StandIn, signs-next, stands-next}
+use Rattle.likeness.proofs.Shifts.{item-like, signs-shift, allowed-shift, signsIn, StandIn, signs-next, next-stands, stands-next}
 use Rattle.likeness.proofs.Whites.{whites-more}
 use Rattle.likeness.proofs.Replaced.{between-from, Whole, whole-from, whole-stands, kept}
 use Rattle.likeness.proofs.Begins.{begin-on}
 use Rattle.likeness.proofs.Values.{quoted-other}
-use Rattle.likeness.proofs.Refused.{Pairs, right, same-number, views-none}
+use Rattle.likeness.proofs.Refused.{Pairs, right, both, same-number, views-none}
 use Rattle.likeness.proofs.Numbers.{moved-pairs, whites-right, next-at, front-pairs}
-use Rattle.likeness.proofs.Tags.{tag-alike, empty-alike}
+use Rattle.likeness.proofs.Noted.{same-twice}
+use Rattle.likeness.proofs.Tags.{tag-some, stands-once, tag-alike, empty-alike}
+use Rattle.likeness.proofs.Otherwise.{tags-together, tag-ends}
 
 -- ---- the law
 
@@ -216,6 +218,26 @@ module _ (a r : List ℕ) (empty : Bool) where
   pub tag-otherwise : (s t : WrittenTag) → WellTag s → WellTag t → SameTag s t → BetweenItems (a ++ (tagBytes s empty ++ r)) (length a)
       → SpellAlike (a ++ (tagBytes s empty ++ r)) (a ++ (tagBytes t empty ++ r))
   tag-otherwise s t p q same h = replaced a (tagBytes s empty ++ r) (tagBytes t empty ++ r) h (tag-alike s t empty r p q same)
+
+  -- and the number of a refusal stays
+  pub tag-refused : (s t : WrittenTag) → WellTag s → WellTag t → SameTag s t → BetweenItems (a ++ (tagBytes s empty ++ r)) (length a)
+      → (ns np na : ℕ) (shape : Shape) (nb : ℕ) → 16 ≤ nb → length (a ++ (tagBytes s empty ++ r)) ≤ 1048576 → length (a ++ (tagBytes t empty ++ r)) ≤ 1048576
+      → readOf (a ++ (tagBytes s empty ++ r)) ns np na shape nb .answer .refusal ≡ readOf (a ++ (tagBytes t empty ++ r)) ns np na shape nb .answer .refusal
+  tag-refused s t p q same h =
+      let u = tagBytes s empty in
+      let v = tagBytes t empty in
+      let st = behind a (u ++ r) h in
+      let once = stands-once s p empty r st in
+      let again = sym (same-twice (same .attributes)) ∙ once in
+      let ends = tag-ends s t r p q same once in
+      let some = tag-some s p empty r in
+      let x = next-at (a ++ (u ++ r)) (length a) u r (sym (drop-append-seam a (u ++ r))) some (ends s p empty (length a) once) in
+      let y = next-at (a ++ (v ++ r)) (length a) v r (sym (drop-append-seam a (v ++ r))) (tag-some t q empty r) (ends t q empty (length a) again) in
+      let rest = allowed-shift r 0 0 (length a + length u) (next-stands u r some (ends s p empty 0 once) st .1) in
+      same-refusal a (u ++ r) (v ++ r) h (tag-alike s t empty r p q same)
+      (rw (x .0, y .0)
+      (both (tags-together s t r p q same once empty (a ++ (u ++ r)) (a ++ (v ++ r)) (length a) (sym (drop-append-seam a (u ++ r))) (sym (drop-append-seam a (v ++ r))))
+      (moved-pairs (a ++ (u ++ r)) (a ++ (v ++ r)) r 0 (length a + length u) (length a + length v) (x .1) (y .1) rest)))
 
   -- attributes behind those of `before`
   module _ (t : WrittenTag) (ok : WellTag t) (h : BetweenItems (a ++ (tagBytes t empty ++ r)) (length a)) (before : List Written) where
