@@ -15,7 +15,9 @@ use Rattle.items.specs.Item.{item, itemEnd}
 use Rattle.items.specs.declared.Item.{Item}
 use Rattle.items.specs.declared.Item.the-variants.{Start, Empty, End, Text, Comment, Unreadable}
 use Rattle.fronts.specs.Front.{EndsBefore}
+use Rattle.fronts.proofs.Searches.{upto}
 use Rattle.fronts.proofs.Items.{item-front, Says, item-says}
+use Rattle.blindness.proofs.Aligned.{tail-of}
 use Rattle.faults.proofs.Shared.{step-same, quoted-same}
 use Rattle.states.specs.Moves.{step}
 use Rattle.reader.specs.Items.{Placed, placed, itemsAfter, itemsFrom}
@@ -25,13 +27,9 @@ use Rattle.contents.specs.Spelled.{allowed, AllAllowed}
 use Rattle.likeness.specs.Alike.{White, SayAlike}
 use Rattle.likeness.proofs.Runs.{all-first, run-part}
 use Rattle.likeness.proofs.Shifts.{item-like, StandIn, allowed-shift}
-use Rattle.likeness.proofs.Whites.{upto, text-is, more-is, front-white, whites-more}
+use Rattle.likeness.proofs.Whites.{text-is, more-is, front-white, whites-more}
 use Rattle.likeness.proofs.Replaced.{textEnd, item-pale, text-or, Whole, none, next, kept}
 use Rattle.likeness.proofs.Refused.{Together, Pairs, over, left, right, both, without}
-
--- what is behind the first byte of a part
-tail-of : (doc : List ℕ) (at b : ℕ) (t : List ℕ) → b ∷ t ≡ drop at doc → t ≡ drop (suc at) doc
-tail-of doc at b t e = let z : at + 1 ≡ suc at = omega arith in ap (drop 1) e ∙ drop-drop 1 at doc ∙ ap (λ (n : ℕ). drop n doc) z
 
 module _ (x y : List ℕ) where
   -- one item with the same bytes

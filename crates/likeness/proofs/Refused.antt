@@ -5,8 +5,7 @@ use mathlib.Core.List.{List, [], _∷_}
 use mathlib.Core.Bool.{true, false}
 use mathlib.Core.Logic.{⊎-elim}
 use native.Mathlib.Omega.{arith}
-use lib.ListN.{length, getD, take, drop, length-set, List·getD-eq-default}
-use lib.Seq.{drop-drop, getD-set-other}
+use lib.ListN.{length, drop, length-set}
 use Rattle.lists.specs.Zeros.{zeros}
 use Rattle.lists.proofs.Cases.{bool-cases, eqb-cases, ltb-cases, zero-not-one}
 use Rattle.slices.specs.Part.{partOf}
@@ -18,7 +17,7 @@ use Rattle.items.specs.Parts.{spanOf, passed}
 use Rattle.series.specs.Row.{cellOf, rowWidth, cellAt, withField, withView, view}
 use Rattle.series.specs.declared.Field.{Field}
 use Rattle.series.specs.declared.Field.the-variants.{Identification, Object, BusinessType, Direction, Area, FirstRow, Count}
-use Rattle.series.proofs.Rows.{view-set, view-as, view-shown, view-kept, view-none}
+use Rattle.series.proofs.Rows.{view-set, view-shown, view-kept, view-none}
 use Rattle.states.specs.Moves.{step}
 use Rattle.states.specs.declared.State.{State}
 use Rattle.states.specs.declared.Room.{Room}
@@ -32,6 +31,7 @@ use Rattle.reader.specs.Rows.{quoted, broughtBy, fieldAfter, seriesWith, series
 use Rattle.reader.specs.Reading.{Tables, acceptedAt, refusedAt, endedAt, withoutUsed, stepOf, tablesAfter, readItems}
 use Rattle.reader.specs.Reading.{Out}
 use Rattle.reader.proofs.Ran.{read-next, read-stop, still}
+use Rattle.blindness.proofs.Shown.{value-part, zero-cell, row-kept, row-short}
 use Rattle.contents.proofs.Moved.{tables-still}
 
 -- ---- the identifications that the rows of two series tables show
@@ -40,28 +40,16 @@ pub record SameViews (x t y u : List ℕ) : Type 0 where
   pub long : length t ≡ length u
   pub shown : (i : ℕ) → view x t i Identification ≡ view y u i Identification
 
-zero-cell : (n k : ℕ) → getD (zeros n) k 0 ≡ 0
-zero-cell zero k = refl
-zero-cell (suc n) zero = refl
-zero-cell (suc n) (suc k) = zero-cell n k
-
 pub views-none : (x y : List ℕ) (n : ℕ) → SameViews x (zeros n) y (zeros n)
 views-none x y n =
     record { long = refl; shown = λ i. let z = zero-cell n (cellAt i Identification + 1) in view-none x (zeros n) i Identification z ∙ sym (view-none y (zeros n) i Identification z) }
 
 -- a store behind the two cells of the identification
 field-kept : (doc t : List ℕ) (n : ℕ) (f : Field) (v i : ℕ) → 2 ≤ cellOf f → cellOf f < rowWidth → view doc (withField t n f v) i Identification ≡ view doc t i Identification
-field-kept doc t n f v i low high =
-    view-as doc t (withField t n f v) i Identification (getD-set-other t (cellAt n f) (cellAt i Identification) v 0 (λ e. omega (arith, e)))
-    (getD-set-other t (cellAt n f) (cellAt i Identification + 1) v 0 (λ e. omega (arith, e)))
+field-kept doc t n f v i low high = row-kept doc t (cellAt n f) v i (λ e. omega (arith, e)) (λ e. omega (arith, e))
 
 other-kept : (doc t : List ℕ) (n : ℕ) (f : Field) (a k i : ℕ) → 2 ≤ cellOf f → cellOf f + 1 < rowWidth → view doc (withView t n f a k) i Identification ≡ view doc t i Identification
 other-kept doc t n f a k i low high = view-kept doc t n f a k i Identification (λ e. omega (arith, e)) (λ e. omega (arith, e)) (λ e. omega (arith, e))
-
-row-short : (doc t : List ℕ) (a k n : ℕ) → length t ≤ cellAt n Identification + 1 → view doc (withView t n Identification a k) n Identification ≡ []
-row-short doc t a k n h =
-    view-none doc (withView t n Identification a k) n Identification
-    (List·getD-eq-default (withView t n Identification a k) 0 {n = cellAt n Identification + 1} (rw (view-set t n Identification a k .size) h))
 
 module _ (x t y u : List ℕ) (h : SameViews x t y u) where
   views-field : (n : ℕ) (f : Field) (v : ℕ) → 2 ≤ cellOf f → cellOf f < rowWidth → SameViews x (withField t n f v) y (withField u n f v)
@@ -111,10 +99,6 @@ pub record Together (x y : List ℕ) (p q : Placed) : Type 0 where
   pub passes : passed (p .item) ≡ passed (q .item)
   pub here : p .rest ≡ drop (p .at) x
   pub there : q .rest ≡ drop (q .at) y
-
-value-part : (doc : List ℕ) (at : ℕ) (s : List ℕ) (v : Span) → s ≡ drop at doc → quoted v s ≡ partOf doc (at + v .start) (v .len)
-unfolding quoted partOf
-value-part doc at s v e = rw e (ap (take (v .len)) (drop-drop (v .start) at doc))
 
 module _ (x y : List ℕ) (p q : Placed) (g : Together x y p q) (t u : List ℕ) (h : SameViews x t y u) where
   abbrev v : Span

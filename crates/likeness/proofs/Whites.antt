@@ -1,5 +1,5 @@
 -- White space in front of a part of a document changes nothing of what its tags say; where a white text stands there, they are one text. Assumes nothing.
-use Prim.Native.Nat.{ℕ, zero, suc, _+_, _<_}
+use Prim.Native.Nat.{ℕ, zero, suc, _+_}
 use mathlib.Core.Path.{_≡_, refl, sym, ap, _∙_}
 use mathlib.Core.List.{List, [], _∷_, _++_}
 use mathlib.Core.Bool.{true, false}
@@ -21,6 +21,7 @@ use Rattle.items.specs.Text.{textTo, textItem}
 use Rattle.items.specs.Item.{item}
 use Rattle.items.specs.declared.Item.{Item}
 use Rattle.items.specs.declared.Item.the-variants.{Text}
+use Rattle.fronts.proofs.Searches.{upto}
 use Rattle.reader.specs.Items.{itemsAfter}
 use Rattle.contents.specs.Spelled.{signsBy, signsOf, allowed, AllAllowed}
 use Rattle.likeness.specs.Alike.{White}
@@ -31,9 +32,6 @@ use Rattle.likeness.proofs.Shifts.{signs-shift, allowed-shift, signsIn,
 pub not-tag : (b : ℕ) → white b ≡ true → b ≡ 0x3C → ⊥
 unfolding white
 not-tag b w e = let z : white 0x3C ≡ true = rw e at w in zero-not-one (cc)
-
-abbrev pub upto : List ℕ → ℕ
-upto l = firstAt (text "<") l
 
 -- white space up to `<` or the end is a white text
 pub text-is : (l : List ℕ) (n : ℕ) → run white l ≡ suc n → upto l ≡ suc n → item 0 l ≡ Text true (suc n)
