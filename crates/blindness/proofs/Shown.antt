@@ -45,19 +45,19 @@ value-part doc at s v e = rw e (ap (take (v .len)) (drop-drop (v .start) at doc)
 
 -- ---- the identifications that the rows show in x and in y, a pair for each row
 
-zero-cell : (n k : ℕ) → getD (zeros n) k 0 ≡ 0
+pub zero-cell : (n k : ℕ) → getD (zeros n) k 0 ≡ 0
 zero-cell zero k = refl
 zero-cell (suc n) zero = refl
 zero-cell (suc n) (suc k) = zero-cell n k
 
 -- a store into another cell than the two of row i
-row-kept : (doc t : List ℕ) (j v i : ℕ) → (cellAt i Identification ≡ j → ⊥) → (cellAt i Identification + 1 ≡ j → ⊥)
+pub row-kept : (doc t : List ℕ) (j v i : ℕ) → (cellAt i Identification ≡ j → ⊥) → (cellAt i Identification + 1 ≡ j → ⊥)
     → view doc (set t j v) i Identification ≡ view doc t i Identification
 row-kept doc t j v i a b =
     view-as doc t (set t j v) i Identification (getD-set-other t j (cellAt i Identification) v 0 a) (getD-set-other t j (cellAt i Identification + 1) v 0 b)
 
 -- a view whose second cell lies past the end shows nothing
-row-short : (doc t : List ℕ) (start len i : ℕ) → length t ≤ cellAt i Identification + 1 → view doc (withView t i Identification start len) i Identification ≡ []
+pub row-short : (doc t : List ℕ) (start len i : ℕ) → length t ≤ cellAt i Identification + 1 → view doc (withView t i Identification start len) i Identification ≡ []
 unfolding view partOf
 row-short doc t start len i h =
     rw (List·getD-eq-default (withView t i Identification start len) 0 {n = cellAt i Identification + 1} (rw (view-set t i Identification start len .size) h))

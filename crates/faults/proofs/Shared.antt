@@ -50,7 +50,7 @@ module _ (t : Tag) (s s′ : List ℕ) (p : PartsSame t s s′ × (valueIn s (t 
       by NotDue = refl
 
 module _ (s s′ : List ℕ) where
-  step-same : (x : State) (room : Room) (i : Item) → Says i s s′ → step x i s room ≡ step x i s′ room
+  pub step-same : (x : State) (room : Room) (i : Item) → Says i s s′ → step x i s room ≡ step x i s′ room
   unfolding step kindTold rootKind moved Says
   step-same x room (Start t) p = start-same t s s′ p x (kindTold x (Start t) s) (rowsOf (kindTold x (Start t) s)) false room ∙ rw (p .0 .name)
   step-same x room (Empty t) p = start-same t s s′ p x (kindTold x (Empty t) s) (rowsOf (kindTold x (Empty t) s)) true room ∙ rw (p .0 .name)
@@ -59,7 +59,7 @@ module _ (s s′ : List ℕ) where
   step-same x room (Comment e) p = refl
   step-same x room (Unreadable q) p = refl
 
-  quoted-same : (i : Item) → Says i s s′ → quoted (spanOf i) s ≡ quoted (spanOf i) s′
+  pub quoted-same : (i : Item) → Says i s s′ → quoted (spanOf i) s ≡ quoted (spanOf i) s′
   unfolding Says spanOf quoted partOf
   quoted-same (Start t) p = p .1
   quoted-same (Empty t) p = p .1

@@ -20,10 +20,11 @@ use Rattle.prolog.specs.Prolog.{declaration, markLen, behindMark, beginAfter, b
 use Rattle.prolog.specs.declared.Begin.{Begin}
 use Rattle.prolog.specs.declared.Begin.the-variants.{From, Misdeclared}
 use Rattle.digits.proofs.Begins.{declaration-same}
+use Rattle.fronts.proofs.Searches.{upto}
 use Rattle.reader.specs.Items.{itemsAfter}
 use Rattle.contents.specs.Spelled.{allowed, AllAllowed}
 use Rattle.likeness.proofs.Shifts.{StandIn}
-use Rattle.likeness.proofs.Whites.{upto, front-white}
+use Rattle.likeness.proofs.Whites.{front-white}
 
 abbrev mark : List ℕ
 mark = 0xEF ∷ 0xBB ∷ 0xBF ∷ []

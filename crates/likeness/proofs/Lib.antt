@@ -8,5 +8,9 @@ pub mod Written
 pub mod Noted
 pub mod Tags
 pub mod Shapes
+pub mod Moving
+pub mod Refused
+pub mod Numbers
+pub mod Otherwise
 pub mod Theorems
 pub mod Examples

@@ -42,8 +42,8 @@ noted z n v =
     }
 
 -- what is said by what is kept of the attributes
-unfoldable pub saidIn : Known → List ℕ → TagSaid
-saidIn k s = record { v = valueGiven (k .v) s; scheme = valueGiven (k .coding) s; dtd = dtdOfTag (k .dtd) s; others = k .others; passable = k .passable }
+unfoldable pub saidKept : Known → List ℕ → TagSaid
+saidKept k s = record { v = valueGiven (k .v) s; scheme = valueGiven (k .coding) s; dtd = dtdOfTag (k .dtd) s; others = k .others; passable = k .passable }
 
 -- none of the names that the guideline knows
 record Unknown (n : List ℕ) : Type 0 where
@@ -75,14 +75,14 @@ module _ (k : Known) (x : Span) (s : List ℕ) (some : 0 < x .start) where
   given = rw (ne-eqb (x .start) 0 (λ z. omega arith))
 
   abbrev Notes : List ℕ → Type 0
-  Notes n = saidIn (withAttribute k n x) s ≡ noted (saidIn k s) n bytes
+  Notes n = saidKept (withAttribute k n x) s ≡ noted (saidKept k s) n bytes
 
   unknown-noted : (n : List ℕ) → Unknown n → Notes n
-  unfolding saidIn noted withAttribute dtdOfTag dtdName known
+  unfolding saidKept noted withAttribute dtdOfTag dtdName known
   unknown-noted n u = rw (u .v, u .scheme, u .message, u .version, u .release)
 
   note-one : (n : List ℕ) → Notes n
-  unfolding saidIn noted withAttribute withDtd dtdOfTag dtdName known same
+  unfolding saidKept noted withAttribute withDtd dtdOfTag dtdName known same
   note-one = by-name Notes (rw given) (rw given) (rw given) (rw given) (rw given) unknown-noted
 
 -- ---- the attributes of a tag, from the first to the last
@@ -91,15 +91,15 @@ unfoldable pub saidFrom : TagSaid → List Written → TagSaid
 saidFrom z [] = z
 saidFrom z (a ∷ more) = saidFrom (noted z (a .name) (a .value)) more
 
-pub said-read : (s : List ℕ) {xs : List Attr} {more : List Written} → TellsAll s xs more → (k : Known) → saidIn (keptOf k xs) s ≡ saidFrom (saidIn k s) more
+pub said-read : (s : List ℕ) {xs : List Attr} {more : List Written} → TellsAll s xs more → (k : Known) → saidKept (keptOf k xs) s ≡ saidFrom (saidKept k s) more
 unfolding keptOf saidFrom
 said-read s over k = refl
 said-read s (then {x} {a} {xs} {more} t r) k =
     said-read s r (withAttribute k (x .name) (x .value))
     ∙ ap (λ (z : TagSaid). saidFrom z more)
     (note-one k (x .value) s (t .there) (x .name)
-    ∙ ap (λ (n : List ℕ). noted (saidIn k s) n (partOf s (x .value .start) (x .value .len))) (t .name)
-    ∙ ap (noted (saidIn k s) (a .name)) (t .value))
+    ∙ ap (λ (n : List ℕ). noted (saidKept k s) n (partOf s (x .value .start) (x .value .len))) (t .name)
+    ∙ ap (noted (saidKept k s) (a .name)) (t .value))
 
 -- one of them has the name n; a name stands again after it
 unfoldable pub namedIn : List ℕ → List Written → Bool

@@ -79,7 +79,7 @@ module _ (u r : List ℕ) where
 -- ---- a white text is white
 
 -- how far a text reaches
-abbrev textEnd : Item → ℕ
+abbrev pub textEnd : Item → ℕ
 textEnd (Start t) = 0
 textEnd (Empty t) = 0
 textEnd (End n e) = 0
@@ -88,7 +88,7 @@ textEnd (Comment e) = 0
 textEnd (Unreadable p) = 0
 
 module _ (s : List ℕ) where
-  abbrev Pale : Item → Type 0
+  abbrev pub Pale : Item → Type 0
   Pale x = allowed x ≡ true → textEnd x ≤ run white s
 
   tag-pale : (n : ℕ) (x : Ends) → Pale (tagItem 0 n x)
@@ -109,7 +109,7 @@ module _ (s : List ℕ) where
       (λ a. omega arith)))
       (eqb-cases (run white s) n))
 
-  item-pale : Pale (item 0 s)
+  pub item-pale : Pale (item 0 s)
   unfolding item startTag endTag endName endClose commentTag comment commentTo commentItem textItem
   item-pale =
       let n = run nameByte (drop 2 s) in
@@ -127,7 +127,7 @@ module _ (s : List ℕ) where
       (text-pale (firstAt (text "<") s))
 
 -- a text, or an item that ends by its own last byte
-text-or : (i : Item) → allowed i ≡ true → (textEnd i ≡ itemEnd i) ⊎ ((q : List ℕ) → EndsBefore i q)
+pub text-or : (i : Item) → allowed i ≡ true → (textEnd i ≡ itemEnd i) ⊎ ((q : List ℕ) → EndsBefore i q)
 unfolding allowed EndsBefore
 text-or (Start t) a = inr (λ q. tt)
 text-or (Empty t) a = inr (λ q. tt)
@@ -136,7 +136,7 @@ text-or (Text w e) a = inl refl
 text-or (Comment e) a = inr (λ q. tt)
 text-or (Unreadable p) a = never a
 
-readable : (i : Item) → allowed i ≡ true → isReadable i ≡ true
+pub readable : (i : Item) → allowed i ≡ true → isReadable i ≡ true
 unfolding allowed
 readable (Start t) a = refl
 readable (Empty t) a = refl
@@ -189,6 +189,10 @@ whole-from l (c ∷ s) zero at a h b = by (pred (itemEnd (item at ((c ∷ s) ++ 
         let long : itemEnd (item 0 ((c ∷ take n s) ++ (drop n s ++ l))) ≡ suc (length (take n s)) =
         ap (λ (t : List ℕ). itemEnd (item 0 t)) all ∙ item-like 0 at ((c ∷ s) ++ l) .end ∙ is ∙ ap suc (sym (length-take-le n s inside)) in
         subst (Whole l) same (next (c ∷ take n s) (omega arith) long (f n (rw e at (a .1)) inside rest))
+
+pub whole-stands : {l s : List ℕ} → Whole l s → StandIn (s ++ l) → StandIn l
+whole-stands none a = a
+whole-stands {l} (next u {s} some end w) a = whole-stands w (next-stands u (s ++ l) some end (rw (append-assoc u s l) at a) .1)
 
 -- ---- other bytes behind whole items
 

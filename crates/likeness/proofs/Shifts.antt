@@ -7,6 +7,7 @@ use native.Mathlib.Omega.{arith}
 use lib.Dec.{eqb, ltb}
 use lib.ListN.{length, take, drop, length-append}
 use lib.Seq.{drop-append-seam}
+use Rattle.lists.proofs.Cases.{never}
 use Rattle.slices.specs.Bytes.{byte}
 use Rattle.slices.specs.Run.{run}
 use Rattle.slices.specs.Same.{firstAt}
@@ -35,14 +36,15 @@ pub record Like (x y : Item) : Type 0 where
   pub end : itemEnd x ≡ itemEnd y
   pub stands : allowed x ≡ allowed y
   pub says : (s : List ℕ) → signsBy x s ≡ signsBy y s
+  pub same : allowed x ≡ true → x ≡ y
 
 like-self : (x : Item) → Like x x
-like-self x = record { end = refl; stands = refl; says = λ s. refl }
+like-self x = record { end = refl; stands = refl; says = λ s. refl; same = λ a. refl }
 
 module _ (b c : ℕ) where
   unread : Like (Unreadable b) (Unreadable c)
   unfolding allowed signsBy
-  unread = record { end = refl; stands = refl; says = λ s. refl }
+  unread = record { end = refl; stands = refl; says = λ s. refl; same = λ a. never a }
 
   tag-like : (n : ℕ) (x : Ends) → Like (tagItem b n x) (tagItem c n x)
   unfolding tagItem

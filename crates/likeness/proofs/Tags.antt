@@ -24,10 +24,10 @@ use Rattle.contents.specs.Spelled.{valueGiven, dtdOfTag, saidOfTag, elementIn, 
 use Rattle.likeness.specs.Alike.{White, SayAlike, WrittenTag, tagBytes, endBytes, IsName, WellTag, SameTag}
 use Rattle.likeness.proofs.Shifts.{signsIn, StandIn, signs-next, next-stands, stands-next}
 use Rattle.likeness.proofs.Written.{TagRead, tag-spelt, behindName, tag-read, end-spelt, end-read}
-use Rattle.likeness.proofs.Noted.{saidIn, saidFrom, said-read, namedTwice, twice-read, same-twice, same-said}
+use Rattle.likeness.proofs.Noted.{saidKept, saidFrom, said-read, namedTwice, twice-read, same-twice, same-said}
 
 -- what a tag without attributes says of them
-abbrev saidNone : TagSaid
+abbrev pub saidNone : TagSaid
 saidNone = record { v = Absent; scheme = Absent; dtd = record { version = Absent; release = Absent; message = Absent }; others = false; passable = true }
 
 -- what is said by a tag as it is written, none of whose attributes stands twice
@@ -52,37 +52,40 @@ module _ {u l : List ℕ} {signs : List (Sign TagSaid)} (h : Says u l signs) whe
   says-behind a = next-stands u l (h .some) (h .end) a .1
 
 module _ (t : WrittenTag) (ok : WellTag t) (empty : Bool) (r : List ℕ) where
-  abbrev here : List ℕ
+  abbrev pub here : List ℕ
   here = tagBytes t empty ++ r
 
-  abbrev as-read : TagRead t empty r
+  abbrev pub as-read : TagRead t empty r
   as-read = tag-read t ok empty r
 
-  abbrev tag : Tag
+  abbrev pub tag : Tag
   tag = tagOf (length (t .name)) (keptOf noneKnown (as-read .attributes)) (length (tagBytes t empty))
 
-  none-said : saidIn noneKnown here ≡ saidNone
-  unfolding saidIn noneKnown noDtd absent valueGiven dtdOfTag there
+  none-said : saidKept noneKnown here ≡ saidNone
+  unfolding saidKept noneKnown noDtd absent valueGiven dtdOfTag there
   none-said = refl
 
-  said-is : saidOfTag tag here ≡ saidFrom saidNone (t .attributes)
-  unfolding saidOfTag tagOf saidIn
+  pub said-is : saidOfTag tag here ≡ saidFrom saidNone (t .attributes)
+  unfolding saidOfTag tagOf saidKept
   said-is = said-read here (as-read .tells) noneKnown ∙ ap (λ (z : TagSaid). saidFrom z (t .attributes)) none-said
 
+  pub name-part : partOf here 1 (length (t .name)) ≡ t .name
+  unfolding partOf
+  name-part =
+      ap (λ (s : List ℕ). take (length (t .name)) (drop 1 s)) (tag-spelt t ok empty r) ∙ take-append-seam (t .name) (behindName t ok empty r)
+
   name-is : elementIn 1 (length (t .name)) here ≡ elementNo (t .name)
-  unfolding elementIn partOf
-  name-is =
-      ap (λ (s : List ℕ). elementNo (take (length (t .name)) (drop 1 s))) (tag-spelt t ok empty r)
-      ∙ ap elementNo (take-append-seam (t .name) (behindName t ok empty r))
+  unfolding elementIn
+  name-is = ap elementNo name-part
 
   -- the item, by whether an attribute stands twice
-  item-is : (b : Bool) → namedTwice (t .attributes) ≡ b → item 0 here ≡ cond b (Unreadable 0) (cond empty (Empty tag) (Start tag))
+  pub item-is : (b : Bool) → namedTwice (t .attributes) ≡ b → item 0 here ≡ cond b (Unreadable 0) (cond empty (Empty tag) (Start tag))
   unfolding tagItem
   item-is b e =
       as-read .is
       ∙ ap (λ (z : Bool). cond z (Unreadable 0) (cond empty (Empty tag) (Start tag))) (twice-read here (as-read .tells) ∙ e)
 
-  tag-some : 0 < length (tagBytes t empty)
+  pub tag-some : 0 < length (tagBytes t empty)
   unfolding tagBytes
   tag-some = omega arith
 
@@ -103,7 +106,7 @@ module _ (t : WrittenTag) (ok : WellTag t) (empty : Bool) (r : List ℕ) where
   first-stands a = a .0
 
   -- "An attribute twice in a tag" may not stand
-  stands-once : StandIn here → namedTwice (t .attributes) ≡ false
+  pub stands-once : StandIn here → namedTwice (t .attributes) ≡ false
   unfolding allowed
   stands-once a =
       ⊎-elim

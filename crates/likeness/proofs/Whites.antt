@@ -1,5 +1,5 @@
 -- White space in front of a part of a document changes nothing of what its tags say; where a white text stands there, they are one text. Assumes nothing.
-use Prim.Native.Nat.{ℕ, zero, suc, _+_, _<_}
+use Prim.Native.Nat.{ℕ, zero, suc, _+_}
 use mathlib.Core.Path.{_≡_, refl, sym, ap, _∙_}
 use mathlib.Core.List.{List, [], _∷_, _++_}
 use mathlib.Core.Bool.{true, false}
@@ -21,6 +21,7 @@ use Rattle.items.specs.Text.{textTo, textItem}
 use Rattle.items.specs.Item.{item}
 use Rattle.items.specs.declared.Item.{Item}
 use Rattle.items.specs.declared.Item.the-variants.{Text}
+use Rattle.fronts.proofs.Searches.{upto}
 use Rattle.reader.specs.Items.{itemsAfter}
 use Rattle.contents.specs.Spelled.{signsBy, signsOf, allowed, AllAllowed}
 use Rattle.likeness.specs.Alike.{White}
@@ -32,11 +33,8 @@ pub not-tag : (b : ℕ) → white b ≡ true → b ≡ 0x3C → ⊥
 unfolding white
 not-tag b w e = let z : white 0x3C ≡ true = rw e at w in zero-not-one (cc)
 
-abbrev pub upto : List ℕ → ℕ
-upto l = firstAt (text "<") l
-
 -- white space up to `<` or the end is a white text
-text-is : (l : List ℕ) (n : ℕ) → run white l ≡ suc n → upto l ≡ suc n → item 0 l ≡ Text true (suc n)
+pub text-is : (l : List ℕ) (n : ℕ) → run white l ≡ suc n → upto l ≡ suc n → item 0 l ≡ Text true (suc n)
 unfolding item textItem textTo
 text-is l n e f =
     rw (ne-eqb (byte l 0) 0x3C (not-tag (byte l 0) (run-each white l 0 (omega arith))), f, e, ne-eqb (suc n) 0 (λ z. omega arith), eq-eqb (suc n) (suc n) refl)
@@ -77,14 +75,15 @@ skipped (c ∷ t) (suc n) at e f a =
     (allowed-shift t n 1 (suc at) (rw i at (a .1)), rw i (signs-shift t n (suc at) 1))
 
 -- one byte more
+pub more-is : (b : ℕ) (l : List ℕ) → white b ≡ true → StandIn l → item 0 (b ∷ l) ≡ Text true (suc (upto l))
+more-is b l w a =
+    text-is (b ∷ l) (upto l) (run-by white b l w ∙ ap suc (front-white l a)) (first-by 0x3C b l (ne-eqb 0x3C b (λ z. not-tag b w (sym z))))
+
 one-more : (b : ℕ) (l : List ℕ) → white b ≡ true → StandIn l → StandIn (b ∷ l) × (signsIn l ≡ signsIn (b ∷ l))
 unfolding itemsAfter AllAllowed signsOf signsBy allowed
 one-more b l w a =
-    let e = front-white l a in
-    let s = skipped l (upto l) 1 e refl a in
-    let r : run white (b ∷ l) ≡ suc (upto l) = run-by white b l w ∙ ap suc e in
-    let f : upto (b ∷ l) ≡ suc (upto l) = first-by 0x3C b l (ne-eqb 0x3C b (λ z. not-tag b w (sym z))) in
-    let i = text-is (b ∷ l) (upto l) r f in
+    let s = skipped l (upto l) 1 (front-white l a) refl a in
+    let i = more-is b l w a in
     (rw i (refl, s .0), rw i (sym (s .1)))
 
 pub whites-more : (w l : List ℕ) → White w → StandIn l → StandIn (w ++ l) × (signsIn l ≡ signsIn (w ++ l))

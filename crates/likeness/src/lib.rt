@@ -1,1 +1,1 @@
-// No code: what makes two documents alike, and that the reader's answers to such documents differ in places alone. specs/Alike.antt has the ways, proofs/ the laws.
+// No code: ways to write a document otherwise so that its tags say the same, and in which of them a refusal keeps its number. specs/Alike.antt has the ways, proofs/ the laws.

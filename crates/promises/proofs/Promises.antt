@@ -50,7 +50,7 @@ use Rattle.contents.specs.Shown.{eachInterval, IntervalShown, Tells, SameButPla
 use Rattle.contents.proofs.Paired.{interval-shown}
 use Rattle.contents.proofs.Theorems.{accepted-legal, legal-accepted, one-content, nothing-but-places}
 use Rattle.likeness.specs.Alike.{BetweenItems, White, IsComment, SayAlike, Written, WrittenTag, tagBytes, endBytes, Quoted, Without, WellTag, SameTag, withAttributes, inQuotes}
-use Rattle.likeness.proofs.Theorems.{replaced, alike-back, alike-on, white-between, comment-between, tag-otherwise, other-quotes, other-order, empty-or-both}
+use Rattle.likeness.proofs.Theorems.{replaced, alike-back, alike-on, white-between, comment-between, white-refused, comment-refused, tag-otherwise, tag-refused, other-quotes, other-order, empty-or-both}
 use Rattle.likeness.proofs.Shapes.{start-written, empty-written}
 use Rattle.likeness.proofs.Examples.{senderTag, senderOtherwise, tags-spelt, sender-between, some-white, a-comment, tags-well, same-sender, quotes-free, emptyRoot, closedRoot, roots-alike}
 use Rattle.promises.specs.Answers.{noteTold, countIn, longest, atOnce}
@@ -305,7 +305,23 @@ pub alike-ways : BetweenItems (text "<Kostenblatt>" ++ (tagBytes senderTag true 
     × (Without 0x22 (text "A10") × Quoted 0x22 (text "A'0") × (Quoted 0x27 (text "A'0") → ⊥))
 alike-ways = (sender-between, tags-spelt .0, some-white, a-comment, (tags-well .0, tags-well .1, same-sender), tags-spelt .1, quotes-free)
 
--- Refusals of documents that are alike may differ: `<Kostenblatt/>` is over too early, and lacks an attribute; of `<Kostenblatt></Kostenblatt>` the start tag has the
+-- and a refusal keeps its number, its place alone may move: with white text or a comment between items, and with a tag written otherwise
+pub alike-refused-by-white : (a r : List ℕ) → BetweenItems (a ++ r) (length a) → (ns np na : ℕ) (shape : Shape) (nb : ℕ) → 16 ≤ nb → length (a ++ r) ≤ 1048576
+    → (w : List ℕ) → White w → length (a ++ (w ++ r)) ≤ 1048576
+    → readOf (a ++ r) ns np na shape nb .answer .refusal ≡ readOf (a ++ (w ++ r)) ns np na shape nb .answer .refusal
+alike-refused-by-white = white-refused
+
+pub alike-refused-by-comment : (a r : List ℕ) → BetweenItems (a ++ r) (length a) → (ns np na : ℕ) (shape : Shape) (nb : ℕ) → 16 ≤ nb → length (a ++ r) ≤ 1048576
+    → (c : List ℕ) → IsComment c → length (a ++ (c ++ r)) ≤ 1048576
+    → readOf (a ++ r) ns np na shape nb .answer .refusal ≡ readOf (a ++ (c ++ r)) ns np na shape nb .answer .refusal
+alike-refused-by-comment = comment-refused
+
+pub alike-refused-by-tag : (a r : List ℕ) (empty : Bool) (s t : WrittenTag) → WellTag s → WellTag t → SameTag s t → BetweenItems (a ++ (tagBytes s empty ++ r)) (length a)
+    → (ns np na : ℕ) (shape : Shape) (nb : ℕ) → 16 ≤ nb → length (a ++ (tagBytes s empty ++ r)) ≤ 1048576 → length (a ++ (tagBytes t empty ++ r)) ≤ 1048576
+    → readOf (a ++ (tagBytes s empty ++ r)) ns np na shape nb .answer .refusal ≡ readOf (a ++ (tagBytes t empty ++ r)) ns np na shape nb .answer .refusal
+alike-refused-by-tag = tag-refused
+
+-- With an empty tag for a start tag and its end it may have another: `<Kostenblatt/>` is over too early, and lacks an attribute; of `<Kostenblatt></Kostenblatt>` the start tag has the
 -- second fault alone
 pub alike-refused-otherwise : SpellAlike emptyRoot closedRoot
     × ((numberAndPlace (readOf emptyRoot 0 0 0 Old 16) ≡ (3, 0)) × (numberAndPlace (readOf closedRoot 0 0 0 Old 16) ≡ (5, 0)))
