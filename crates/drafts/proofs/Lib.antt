@@ -2,3 +2,4 @@ pub mod Quoted
 pub mod Rows
 pub mod Writing
 pub mod Elements
+pub mod Order
