@@ -11,11 +11,15 @@ use borrow.Author.Tests.{eqb-true, eq-eqb, le-leb, lt-ltb}
 use Rattle.lists.proofs.Below.{every, below}
 use Rattle.lists.proofs.Cases.{bool-cases, eqb-cases, leb-cases, ltb-cases, both-true, never}
 use Rattle.structure.specs.Rows.{nameOf, parentOf, required, repeated}
+use Rattle.columns.specs.Columns.{formOf, roleOf, seriesRole, periodRole, intervalRole}
+use Rattle.guideline.specs.Rows.{beschaffungsanforderung, kostenblatt, rowsOf}
+use Rattle.elements.specs.Names.{names, numberIn, elementNo}
+use Rattle.slices.specs.Same.{same}
 use Rattle.states.specs.Attributes.{asksV}
 use Rattle.views.specs.Layout.{valuesOf}
 use Rattle.trees.specs.Trees.{Trees, none, element, rowsTaken, Stand, ComesAfter, InOrder, Among, Fits, EachConforms, Conforms}
 use Rattle.contents.specs.Said.{TagSaid}
-use Rattle.drafts.specs.Draft.{Draft, singleTag, isSaid, singles}
+use Rattle.drafts.specs.Draft.{Draft, singleTag, isSaid, singles, intervalsFrom, roleRow, pairFor, singlesIn, periodTree, seriesFrom, draftContent}
 use Rattle.drafts.proofs.Writing.{row-there}
 
 -- ---- the rows with a `v` at the front
@@ -223,3 +227,95 @@ module _ (d : Draft) (rows : List ℕ) (p q s : ℕ) (v : Level rows p q s) wher
           (λ (t : isSaid (singleTag d w k) ≡ true). rw t (leaf-fits r low (omega (arith, z)), tt, g))
           (λ (t : isSaid (singleTag d w k) ≡ false). rw t g)
           (bool-cases (isSaid (singleTag d w k))))
+
+-- ---- rows behind those with a `v`
+
+module _ (d : Draft) (rows : List ℕ) (p s : ℕ) (there : s < length rows) (parent : parentOf (getD rows s 0) ≡ p) where
+  once-behind : Behind d rows p s (s ∷ [])
+  unfolding Stand InOrder ComesAfter
+  once-behind = record { stand = (there, parent, tt); ordered = (tt, tt); first = λ q h. inl h }
+
+  again-behind : repeated (getD rows s 0) ≡ true → (n : ℕ) → Behind d rows p s (replicate n s)
+  unfolding Stand InOrder ComesAfter
+  again-behind again zero = record { stand = tt; ordered = tt; first = λ q h. tt }
+  again-behind again (suc n) =
+      let b = again-behind again n in
+      record { stand = (there, parent, b .stand); ordered = (next n, b .ordered); first = λ q h. inl h }
+    where
+      next : (n : ℕ) → ComesAfter rows s (replicate n s)
+      next zero = tt
+      next (suc n) = inr (refl, again)
+
+  pub some-among : (n : ℕ) → 1 ≤ n → Among s (replicate n s)
+  unfolding Among
+  some-among zero h = absurd (omega arith)
+  some-among (suc n) h = inl refl
+
+series-taken : (d : Draft) (rows : List ℕ) (i n : ℕ) → rowsTaken (seriesFrom d rows i n) ≡ replicate n (roleRow seriesRole rows)
+unfolding seriesFrom rowsTaken
+series-taken d rows i zero = refl
+series-taken d rows i (suc n) = ap (λ (l : List ℕ). roleRow seriesRole rows ∷ l) (series-taken d rows (suc i) n)
+
+intervals-taken : (d : Draft) (q j n : ℕ) → rowsTaken (intervalsFrom d q j n) ≡ replicate n q
+unfolding intervalsFrom rowsTaken
+intervals-taken d q j zero = refl
+intervals-taken d q j (suc n) = ap (λ (l : List ℕ). q ∷ l) (intervals-taken d q (suc j) n)
+
+-- ---- the tables of the two kinds
+
+-- only row 1 stands in the document, only the two rows after Interval's stand in it, and none in those
+unfoldable pub outerAt : List ℕ → ℕ → ℕ → Bool
+outerAt rows q j =
+    cond (eqb (parentOf (getD rows j 0)) 0) (eqb j 1) true
+    && cond (eqb (parentOf (getD rows j 0)) q) (cond (eqb j (suc q)) true (eqb j (suc (suc q)))) true
+    && not (eqb (parentOf (getD rows j 0)) (suc q))
+    && not (eqb (parentOf (getD rows j 0)) (suc (suc q)))
+
+pub record Levels (rows : List ℕ) : Type 0 where
+  pub header : Level rows 1 2 (roleRow seriesRole rows)
+  pub series : Level rows (roleRow seriesRole rows) (suc (roleRow seriesRole rows)) (roleRow periodRole rows)
+  pub period : Level rows (roleRow periodRole rows) (suc (roleRow periodRole rows)) (roleRow intervalRole rows)
+  pub series-again : repeated (getD rows (roleRow seriesRole rows) 0) ≡ true
+  pub interval-again : repeated (getD rows (roleRow intervalRole rows) 0) ≡ true
+  pub outer : every (outerAt rows (roleRow intervalRole rows)) (length rows) ≡ true
+  pub root : (ltb 1 (length rows) ≡ true) × (parentOf (getD rows 1 0) ≡ 0)
+  pub position : (ltb (suc (suc (roleRow intervalRole rows))) (length rows) ≡ true) × (parentOf (getD rows (suc (roleRow intervalRole rows)) 0) ≡ roleRow intervalRole rows)
+  pub amount : parentOf (getD rows (suc (suc (roleRow intervalRole rows))) 0) ≡ roleRow intervalRole rows
+
+levels-one : Levels beschaffungsanforderung
+unfolding beschaffungsanforderung elementNo names numberIn same nameOf formOf roleOf asksV roleRow parentOf repeated lead standIn childAt orphanAt outerAt
+levels-one =
+    record {
+      header = record { standing = refl; next = refl; there = refl; parent = refl; children = refl; orphans = refl };
+      series = record { standing = refl; next = refl; there = refl; parent = refl; children = refl; orphans = refl };
+      period = record { standing = refl; next = refl; there = refl; parent = refl; children = refl; orphans = refl };
+      series-again = refl;
+      interval-again = refl;
+      outer = refl;
+      root = (refl, refl);
+      position = (refl, refl);
+      amount = refl;
+    }
+
+levels-two : Levels kostenblatt
+unfolding kostenblatt elementNo names numberIn same nameOf formOf roleOf asksV roleRow parentOf repeated lead standIn childAt orphanAt outerAt
+levels-two =
+    record {
+      header = record { standing = refl; next = refl; there = refl; parent = refl; children = refl; orphans = refl };
+      series = record { standing = refl; next = refl; there = refl; parent = refl; children = refl; orphans = refl };
+      period = record { standing = refl; next = refl; there = refl; parent = refl; children = refl; orphans = refl };
+      series-again = refl;
+      interval-again = refl;
+      outer = refl;
+      root = (refl, refl);
+      position = (refl, refl);
+      amount = refl;
+    }
+
+pub levels : (kind : ℕ) → cond (eqb kind 1) true (eqb kind 2) ≡ true → Levels (rowsOf kind)
+unfolding rowsOf
+levels kind h =
+    ⊎-elim
+    (λ (y : (kind ≡ 1) × (eqb kind 1 ≡ true)). rw (y .1) levels-one)
+    (λ (y : (kind ≡ 1 → ⊥) × (eqb kind 1 ≡ false)). let e : eqb kind 2 ≡ true = rw (y .1) at h in rw (y .1, e) levels-two)
+    (eqb-cases kind 1)
