@@ -16,6 +16,8 @@ use Rattle.guideline.specs.Rows.{beschaffungsanforderung, kostenblatt, rowsOf}
 use Rattle.elements.specs.Names.{names, numberIn, elementNo}
 use Rattle.slices.specs.Same.{same}
 use Rattle.states.specs.Attributes.{asksV}
+use Rattle.series.specs.Row.{fieldAt}
+use Rattle.series.specs.declared.Field.the-variants.{FirstRow, Count}
 use Rattle.views.specs.Layout.{valuesOf}
 use Rattle.trees.specs.Trees.{Trees, none, element, rowsTaken, Stand, ComesAfter, InOrder, Among, Fits, EachConforms, Conforms}
 use Rattle.contents.specs.Said.{TagSaid}
@@ -261,6 +263,10 @@ unfolding intervalsFrom rowsTaken
 intervals-taken d q j zero = refl
 intervals-taken d q j (suc n) = ap (λ (l : List ℕ). q ∷ l) (intervals-taken d q (suc j) n)
 
+period-taken : (d : Draft) (rows : List ℕ) (i : ℕ) → rowsTaken (periodTree d rows i) ≡ roleRow periodRole rows ∷ []
+unfolding periodTree rowsTaken
+period-taken d rows i = refl
+
 -- ---- the tables of the two kinds
 
 -- only row 1 stands in the document, only the two rows after Interval's stand in it, and none in those
@@ -319,3 +325,127 @@ levels kind h =
     (λ (y : (kind ≡ 1) × (eqb kind 1 ≡ true)). rw (y .1) levels-one)
     (λ (y : (kind ≡ 1 → ⊥) × (eqb kind 1 ≡ false)). let e : eqb kind 2 ≡ true = rw (y .1) at h in rw (y .1, e) levels-two)
     (eqb-cases kind 1)
+
+-- ---- the content of a draft
+
+-- nothing is missing that has to come
+pub record NoneMissing (d : Draft) (rows : List ℕ) : Type 0 where
+  pub header : noneMissing d (pairFor rows 2 0) (drop 2 rows) ≡ true
+  pub some : 1 ≤ d .count
+  pub series : (i : ℕ) → i < d .count → noneMissing d (pairFor rows (suc (roleRow seriesRole rows)) i) (drop (suc (roleRow seriesRole rows)) rows) ≡ true
+  pub period : (i : ℕ) → i < d .count → noneMissing d (pairFor rows (suc (roleRow periodRole rows)) i) (drop (suc (roleRow periodRole rows)) rows) ≡ true
+  pub intervals : (i : ℕ) → i < d .count → 1 ≤ fieldAt (d .series) i Count
+
+module _ (d : Draft) (rows : List ℕ) (v : Levels rows) where
+  abbrev inner : ℕ
+  inner = roleRow intervalRole rows
+
+  outer-at : (j : ℕ) → j < length rows
+      → (cond (eqb (parentOf (getD rows j 0)) 0) (eqb j 1) true ≡ true)
+      × (cond (eqb (parentOf (getD rows j 0)) inner) (cond (eqb j (suc inner)) true (eqb j (suc (suc inner)))) true ≡ true)
+      × (not (eqb (parentOf (getD rows j 0)) (suc inner)) ≡ true) × (not (eqb (parentOf (getD rows j 0)) (suc (suc inner))) ≡ true)
+  unfolding outerAt
+  outer-at j l =
+      let t : outerAt rows inner j ≡ true = below (outerAt rows inner) (length rows) (v .outer) j l in
+      let a = and-eq-true-iff (cond (eqb (parentOf (getD rows j 0)) 0) (eqb j 1) true && cond (eqb (parentOf (getD rows j 0)) inner) (cond (eqb j (suc inner)) true (eqb j (suc (suc inner)))) true && not (eqb (parentOf (getD rows j 0)) (suc inner))) _ .0 t in
+      let b = and-eq-true-iff (cond (eqb (parentOf (getD rows j 0)) 0) (eqb j 1) true && cond (eqb (parentOf (getD rows j 0)) inner) (cond (eqb j (suc inner)) true (eqb j (suc (suc inner)))) true) _ .0 (a .0) in
+      let c = and-eq-true-iff (cond (eqb (parentOf (getD rows j 0)) 0) (eqb j 1) true) _ .0 (b .0) in
+      (c .0, c .1, b .1, a .1)
+
+  root-fits : Fits rows 0 (1 ∷ [])
+  unfolding Stand InOrder ComesAfter Among
+  root-fits =
+      record {
+        stand = (ltb-true 1 (length rows) (v .root .0), v .root .1, tt);
+        ordered = (tt, tt);
+        complete = λ j l e r. let t = outer-at j l .0 in inl (eqb-true j 1 (rw (eq-eqb (parentOf (getD rows j 0)) 0 e) at t));
+      }
+
+  interval-fits : Fits rows inner (suc inner ∷ suc (suc inner) ∷ [])
+  unfolding Stand InOrder ComesAfter Among
+  interval-fits =
+      let l = ltb-true (suc (suc inner)) (length rows) (v .position .0) in
+      record {
+        stand = (omega arith, v .position .1, (l, v .amount, tt));
+        ordered = (inl (omega arith), (tt, tt));
+        complete =
+            λ j h e r.
+            let t : cond (eqb j (suc inner)) true (eqb j (suc (suc inner))) ≡ true = rw (eq-eqb (parentOf (getD rows j 0)) inner e) at (outer-at j h .1) in
+            ⊎-elim
+            (λ (y : (j ≡ suc inner) × (eqb j (suc inner) ≡ true)). inl (y .0))
+            (λ (y : (j ≡ suc inner → ⊥) × (eqb j (suc inner) ≡ false)). inr (inl (eqb-true j (suc (suc inner)) (rw (y .1) at t))))
+            (eqb-cases j (suc inner));
+      }
+
+  position-fits : Fits rows (suc inner) []
+  unfolding Stand InOrder
+  position-fits =
+      record { stand = tt; ordered = tt; complete = λ j l e r. never (rw (eq-eqb (parentOf (getD rows j 0)) (suc inner) e) at (outer-at j l .2)) }
+
+  amount-fits : Fits rows (suc (suc inner)) []
+  unfolding Stand InOrder
+  amount-fits =
+      record { stand = tt; ordered = tt; complete = λ j l e r. never (rw (eq-eqb (parentOf (getD rows j 0)) (suc (suc inner)) e) at (outer-at j l .3)) }
+
+  intervals-each : (j n : ℕ) → EachConforms rows (intervalsFrom d inner j n)
+  unfolding intervalsFrom EachConforms rowsTaken
+  intervals-each j zero = tt
+  intervals-each j (suc n) = (interval-fits, (position-fits, tt, (amount-fits, tt, tt)), intervals-each (suc j) n)
+
+  module _ (m : NoneMissing d rows) where
+    period-each : (i : ℕ) → i < d .count → EachConforms rows (periodTree d rows i)
+    unfolding periodTree singlesIn EachConforms
+    period-each i h =
+        let p = roleRow periodRole rows in
+        let k = pairFor rows (suc p) i in
+        let there = ltb-true inner (length rows) (v .period .there) in
+        let n = fieldAt (d .series) i Count in
+        let f = fieldAt (d .series) i FirstRow in
+        let taken = singles-taken d rows (intervalsFrom d inner f n) (drop (suc p) rows) (suc p) k ∙ ap (λ (l : List ℕ). saidRows d (suc p) k (drop (suc p) rows) ++ l) (intervals-taken d inner f n) in (
+          subst (Fits rows p) (sym taken)
+              (level-fits d rows p (suc p) inner (v .period) k (m .period i h) (replicate n inner) (again-behind d rows p inner there (v .period .parent) (v .interval-again) n)
+              (λ r. some-among d rows p inner there (v .period .parent) n (m .intervals i h))),
+          level-each d rows p (suc p) inner (v .period) (intervalsFrom d inner f n) (intervals-each f n) (drop (suc p) rows) (suc p) k refl (omega arith) (omega arith),
+          tt,
+        )
+
+    series-each : (i n : ℕ) → i + n ≤ d .count → EachConforms rows (seriesFrom d rows i n)
+    unfolding seriesFrom singlesIn EachConforms Among
+    series-each i zero h = tt
+    series-each i (suc n) h =
+        let s = roleRow seriesRole rows in
+        let p = roleRow periodRole rows in
+        let k = pairFor rows (suc s) i in
+        let there = ltb-true p (length rows) (v .series .there) in
+        let l : i < d .count = omega arith in (
+          subst (Fits rows s) (sym (singles-taken d rows (periodTree d rows i) (drop (suc s) rows) (suc s) k ∙ one-period i))
+              (level-fits d rows s (suc s) p (v .series) k (m .series i l) (p ∷ []) (once-behind d rows s p there (v .series .parent)) (λ r. inl refl)),
+          level-each d rows s (suc s) p (v .series) (periodTree d rows i) (period-each i l) (drop (suc s) rows) (suc s) k refl (omega arith) (omega arith),
+          series-each (suc i) n (omega arith),
+        )
+      where
+        one-period : (i : ℕ) → saidRows d (suc (roleRow seriesRole rows)) (pairFor rows (suc (roleRow seriesRole rows)) i) (drop (suc (roleRow seriesRole rows)) rows) ++ rowsTaken (periodTree d rows i)
+            ≡ saidRows d (suc (roleRow seriesRole rows)) (pairFor rows (suc (roleRow seriesRole rows)) i) (drop (suc (roleRow seriesRole rows)) rows) ++ (roleRow periodRole rows ∷ [])
+        one-period i = ap (λ (l : List ℕ). saidRows d (suc (roleRow seriesRole rows)) (pairFor rows (suc (roleRow seriesRole rows)) i) (drop (suc (roleRow seriesRole rows)) rows) ++ l) (period-taken d rows i)
+
+-- a draft in which nothing is missing conforms
+pub draft-conforms : (d : Draft) → cond (eqb (d .kind) 1) true (eqb (d .kind) 2) ≡ true → NoneMissing d (rowsOf (d .kind)) → Conforms (rowsOf (d .kind)) 0 (draftContent d)
+unfolding draftContent singlesIn EachConforms rowsTaken
+draft-conforms d kind m =
+    let rows = rowsOf (d .kind) in
+    let v = levels (d .kind) kind in
+    let s = roleRow seriesRole rows in
+    let k = pairFor rows 2 0 in
+    let there = ltb-true s (length rows) (v .header .there) in
+    let content = seriesFrom d rows 0 (d .count) in
+    let taken = singles-taken d rows content (drop 2 rows) 2 k ∙ ap (λ (l : List ℕ). saidRows d 2 k (drop 2 rows) ++ l) (series-taken d rows 0 (d .count)) in
+    record {
+      fits = root-fits d rows v;
+      each = (
+        subst (Fits rows 1) (sym taken)
+            (level-fits d rows 1 2 s (v .header) k (m .header) (replicate (d .count) s) (again-behind d rows 1 s there (v .header .parent) (v .series-again) (d .count))
+            (λ r. some-among d rows 1 s there (v .header .parent) (d .count) (m .some))),
+        level-each d rows 1 2 s (v .header) content (series-each d rows v m 0 (d .count) (omega arith)) (drop 2 rows) 2 k refl (omega arith) (omega arith),
+        tt,
+      );
+    }
