@@ -3,3 +3,4 @@ pub mod Rows
 pub mod Writing
 pub mod Elements
 pub mod Order
+pub mod Legal
