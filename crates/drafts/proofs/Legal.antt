@@ -27,7 +27,7 @@ use Rattle.series.specs.declared.Field.the-variants.{FirstRow, Count}
 use Rattle.views.specs.Layout.{valuesOf}
 use Rattle.trees.specs.Trees.{Trees, none, element}
 use Rattle.contents.specs.Said.{AttributeValue, Absent, Given, TagSaid, given, bytes}
-use Rattle.contents.specs.Legal.{hasRole, hasForm, those, inEach, sayings, Period, periodOf, quartersOf, positionOf, dtdAgrees, attributesAgree, schemeFits, valueFits, elementFits, Each, inTurn, countFits, SeriesFits, All, isAmong, Apart, identifications, Legal}
+use Rattle.contents.specs.Legal.{hasRole, hasForm, those, inEach, sayings, Period, periodOf, quartersOf, positionBy, positionOf, dtdAgrees, attributesAgree, schemeFits, valueFits, elementFits, Each, inTurn, countFits, SeriesFits, All, isAmong, Apart, identifications, Legal}
 use Rattle.wholes.specs.Whole.{wholeText}
 use Rattle.amounts.specs.Texts.{amountText}
 use Rattle.drafts.specs.Draft.{Draft, singleTag, isSaid, noDtdSaid, rootTag, bareTag, numberTag, singles, intervalsFrom, roleRow, pairFor, singlesIn, periodTree, seriesFrom, draftContent}
@@ -196,3 +196,64 @@ module _ (d : Draft) (rows : List ℕ) (p : Period) (t : TagsFit (d .kind) rows)
     where
       later : (j ≡ i → ⊥) → suc i ≤ j
       later g = ⊎-elim (λ (c : (i < j) × (ltb i j ≡ true)). c .0) (λ (c : (j ≤ i) × (ltb i j ≡ false)). absurd (g (omega (arith, c .0)))) (ltb-cases i j)
+
+-- ---- what stands in a series
+
+written-positions : (d : Draft) (j n : ℕ) → allWritten (positionsIn d j n) ≡ true → map positionOf (drawn d (posTag d) j n) ≡ positionsIn d j n
+unfolding allWritten positionsIn drawn positionOf positionBy numberTag bytes
+written-positions d j zero h = refl
+written-positions d j (suc n) h =
+    let q = getD (d .positions) j 0 in
+    let a = and-eq-true-iff (cond (leb 1 q) (leb q 99999) false) _ .0 h in
+    let b = both-true (leb 1 q) (a .0) in
+    rw (position-in-value q (leb-holds 1 q (b .0)) (leb-holds q 99999 (b .1))) (ap (λ (l : List ℕ). q ∷ l) (written-positions d (suc j) n (a .1)))
+
+module _ (d : Draft) (rows : List ℕ) (r : Roles rows) where
+  plain-intervals : (ws : List ℕ) → plainRows ws ≡ true → (leavesOut (hasRole seriesRole) ws ≡ true) × (leavesOut (hasRole intervalRole) ws ≡ true)
+  unfolding plainRows
+  plain-intervals ws h =
+      let a = and-eq-true-iff (leavesOut (hasRole seriesRole) ws && leavesOut (hasRole intervalRole) ws && leavesOut (hasRole posRole) ws) _ .0 h in
+      let b = and-eq-true-iff (leavesOut (hasRole seriesRole) ws && leavesOut (hasRole intervalRole) ws) _ .0 (a .0) in
+      and-eq-true-iff (leavesOut (hasRole seriesRole) ws) _ .0 (b .0)
+
+  intervals-counted : (j n : ℕ) → length (those (hasRole intervalRole) rows (intervalsFrom d (roleRow intervalRole rows) j n)) ≡ n
+  unfolding intervalsFrom those
+  intervals-counted j zero = refl
+  intervals-counted j (suc n) = rw (r .interval, r .position, r .amount) (ap suc (intervals-counted (suc j) n))
+
+  series-counted : (i : ℕ) → length (those (hasRole intervalRole) rows (singlesIn d rows (roleRow seriesRole rows) i (periodTree d rows i))) ≡ fieldAt (d .series) i Count
+  unfolding singlesIn periodTree those
+  series-counted i =
+      let s = suc (roleRow seriesRole rows) in
+      let q = suc (roleRow periodRole rows) in
+      ap length (singles-those (hasRole intervalRole) d rows (periodTree d rows i) (drop s rows) s (pairFor rows s i) refl (plain-intervals (drop s rows) (r .in-series) .1))
+      ∙ rw (r .period)
+      (ap length (append-nil _ ∙ singles-those (hasRole intervalRole) d rows _ (drop q rows) q (pairFor rows q i) refl (plain-intervals (drop q rows) (r .in-period) .1))
+      ∙ intervals-counted (fieldAt (d .series) i FirstRow) (fieldAt (d .series) i Count))
+
+  -- ---- the Originals
+
+  originals-counted : (behind : Trees TagSaid) (ws : List ℕ) (q k : ℕ) → ws ≡ drop q rows
+      → length (those (hasRole originalRole) rows (singles d q k ws behind)) ≡ originalsSaid d k ws + length (those (hasRole originalRole) rows behind)
+  unfolding singles those originalsSaid
+  originals-counted behind [] q k e = omega arith
+  originals-counted behind (w ∷ ws) q k e =
+      by (asksV w) (isSaid (singleTag d w k)) (eqb (roleOf w) originalRole) refl refl refl (originals-counted behind ws (suc q) (k + valuesOf w) (row-there rows q w ws e .1))
+    where
+      rest : Trees TagSaid
+      rest = singles d (suc q) (k + valuesOf w) ws behind
+
+      end : ℕ
+      end = length (those (hasRole originalRole) rows behind)
+
+      here : eqb (roleOf (getD rows q 0)) originalRole ≡ eqb (roleOf w) originalRole
+      here = ap (λ (x : ℕ). eqb (roleOf x) originalRole) (row-there rows q w ws e .0)
+
+      by : (a s o : Bool) → asksV w ≡ a → isSaid (singleTag d w k) ≡ s → eqb (roleOf w) originalRole ≡ o
+          → length (those (hasRole originalRole) rows rest) ≡ originalsSaid d (k + valuesOf w) ws + end
+          → length (those (hasRole originalRole) rows (cond (asksV w) (cond (isSaid (singleTag d w k)) (element q (singleTag d w k) none rest) rest) behind))
+          ≡ originalsSaid d k (w ∷ ws) + end
+      by false s o y z u ih = rw y (omega arith)
+      by true true true y z u ih = rw (y, z, here, u) (ap suc ih ∙ omega arith)
+      by true true false y z u ih = rw (y, z, here, u) ih
+      by true false o y z u ih = rw (y, z) ih
