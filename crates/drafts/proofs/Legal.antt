@@ -257,3 +257,145 @@ module _ (d : Draft) (rows : List ℕ) (r : Roles rows) where
       by true true true y z u ih = rw (y, z, here, u) (ap suc ih ∙ omega arith)
       by true true false y z u ih = rw (y, z, here, u) ih
       by true false o y z u ih = rw (y, z) ih
+
+-- no Original stands in a Period
+pub Outside : List ℕ → Type 0
+Outside rows = leavesOut (hasRole originalRole) (drop (suc (roleRow periodRole rows)) rows) ≡ true
+
+outside-one : Outside beschaffungsanforderung
+unfolding Outside beschaffungsanforderung elementNo names numberIn same nameOf formOf roleOf asksV roleRow leavesOut
+outside-one = refl
+
+outside-two : Outside kostenblatt
+unfolding Outside kostenblatt elementNo names numberIn same nameOf formOf roleOf asksV roleRow leavesOut
+outside-two = refl
+
+outside : (kind : ℕ) → cond (eqb kind 1) true (eqb kind 2) ≡ true → Outside (rowsOf kind)
+unfolding rowsOf
+outside kind h =
+    ⊎-elim
+    (λ (y : (kind ≡ 1) × (eqb kind 1 ≡ true)). rw (y .1) outside-one)
+    (λ (y : (kind ≡ 1 → ⊥) × (eqb kind 1 ≡ false)). let e : eqb kind 2 ≡ true = rw (y .1) at h in rw (y .1, e) outside-two)
+    (eqb-cases kind 1)
+
+module _ (d : Draft) (rows : List ℕ) (r : Roles rows) (o : Outside rows) where
+  no-originals : (j n : ℕ) → those (hasRole originalRole) rows (intervalsFrom d (roleRow intervalRole rows) j n) ≡ []
+  unfolding intervalsFrom those
+  no-originals j zero = refl
+  no-originals j (suc n) = rw (r .interval, r .position, r .amount) (no-originals (suc j) n)
+
+  period-originals : (i : ℕ) → those (hasRole originalRole) rows (periodTree d rows i) ≡ []
+  unfolding periodTree singlesIn those Outside
+  period-originals i =
+      let q = suc (roleRow periodRole rows) in
+      rw (r .period)
+      (append-nil _
+      ∙ singles-those (hasRole originalRole) d rows _ (drop q rows) q (pairFor rows q i) refl o
+      ∙ no-originals (fieldAt (d .series) i FirstRow) (fieldAt (d .series) i Count))
+
+  series-originals : (i : ℕ) → length (those (hasRole originalRole) rows (singlesIn d rows (roleRow seriesRole rows) i (periodTree d rows i)))
+      ≡ originalsSaid d (pairFor rows (suc (roleRow seriesRole rows)) i) (drop (suc (roleRow seriesRole rows)) rows)
+  unfolding singlesIn
+  series-originals i =
+      let s = suc (roleRow seriesRole rows) in
+      originals-counted d rows r (periodTree d rows i) (drop s rows) s (pairFor rows s i) refl
+      ∙ ap (λ (l : List TagSaid). originalsSaid d (pairFor rows s i) (drop s rows) + length l) (period-originals i)
+      ∙ omega arith
+
+  -- ---- the series
+
+  no-series : (j n : ℕ) → inEach (hasRole seriesRole) rows (intervalsFrom d (roleRow intervalRole rows) j n) ≡ []
+  unfolding intervalsFrom inEach
+  no-series j zero = refl
+  no-series j (suc n) = rw (r .interval, r .position, r .amount) (no-series (suc j) n)
+
+  inner-series : (i : ℕ) → inEach (hasRole seriesRole) rows (singlesIn d rows (roleRow seriesRole rows) i (periodTree d rows i)) ≡ []
+  unfolding singlesIn periodTree inEach
+  inner-series i =
+      let s = suc (roleRow seriesRole rows) in
+      let q = suc (roleRow periodRole rows) in
+      singles-in-each (hasRole seriesRole) d rows (periodTree d rows i) (drop s rows) s (pairFor rows s i) refl (plain-intervals d rows r (drop s rows) (r .in-series) .0)
+      ∙ rw (r .period)
+      (append-nil _
+      ∙ singles-in-each (hasRole seriesRole) d rows _ (drop q rows) q (pairFor rows q i) refl (plain-intervals d rows r (drop q rows) (r .in-period) .0)
+      ∙ no-series (fieldAt (d .series) i FirstRow) (fieldAt (d .series) i Count))
+
+  all-series : (P : Trees TagSaid → Type 0) (i n : ℕ) → ((j : ℕ) → i ≤ j → j < i + n → P (singlesIn d rows (roleRow seriesRole rows) j (periodTree d rows j)))
+      → All P (inEach (hasRole seriesRole) rows (seriesFrom d rows i n))
+  unfolding seriesFrom inEach All
+  all-series P i zero w = tt
+  all-series P i (suc n) w =
+      rw (r .series, inner-series i) (w i (omega arith) (omega arith), all-series P (suc i) n (λ j l h. w j (omega arith) (omega arith)))
+
+  module _ (p : Period) (t : TagsFit (d .kind) rows) where
+    one-series : (i : ℕ) → Series d rows p t i → SeriesFits (d .kind) (quartersOf p) rows (singlesIn d rows (roleRow seriesRole rows) i (periodTree d rows i))
+    one-series i w =
+        let first = fieldAt (d .series) i FirstRow in
+        let count = fieldAt (d .series) i Count in
+        let e = series-originals i in
+        record {
+          positions =
+              ap (λ (l : List ℕ). inTurn (d .kind) (quartersOf p) 0 l)
+              (ap (map positionOf) (in-series-those d (hasRole posRole) rows (posTag d) (positions-inside d rows r) i) ∙ written-positions d first count (w .written))
+              ∙ w .turn;
+          intervals = ap (countFits (d .kind) (quartersOf p)) (series-counted d rows r i) ∙ w .count;
+          originals = ⊎-elim (λ z. inl (e ∙ z)) (λ z. inr (e ∙ z)) (w .originals);
+        }
+
+-- ---- the whole
+
+apart-all : (l : List (List ℕ)) → allApart l ≡ true → Apart l
+unfolding allApart Apart
+apart-all [] h = tt
+apart-all (x ∷ l) h =
+    let a = and-eq-true-iff (not (isAmong x l)) (allApart l) .0 h in
+    (⊎-elim (λ z. never (rw z at (a .0))) (λ z. z) (bool-cases (isAmong x l)), apart-all l (a .1))
+
+unconstrained : (kind : ℕ) → cond (eqb kind 1) true (eqb kind 2) ≡ true → (isKind kind ≡ true) × (kindAt kind .constrained ≡ false)
+unfolding isKind kindAt kindOne kindTwo
+unconstrained kind h =
+    ⊎-elim
+    (λ (y : (kind ≡ 1) × (eqb kind 1 ≡ true)). (rw (y .1) refl, rw (y .1) refl))
+    (λ (y : (kind ≡ 1 → ⊥) × (eqb kind 1 ≡ false)). let e : eqb kind 2 ≡ true = rw (y .1) at h in (rw (y .1, e) refl, rw (y .1, e) refl))
+    (eqb-cases kind 1)
+
+-- a draft that is judged fit has a legal content
+pub draft-legal : (d : Draft) → cond (eqb (d .kind) 1) true (eqb (d .kind) 2) ≡ true → draftLegal d ≡ true → Legal (d .kind) (draftContent d)
+unfolding draftLegal draftContent singlesIn Each inEach
+draft-legal d kind h =
+    let rows = rowsOf (d .kind) in
+    let p = periodOf rows (draftContent d) in
+    let t = tags-fit (d .kind) kind in
+    let r = roles (d .kind) kind in
+    let x1 = elementFits (d .kind) p (getD rows 1 0) (rootTag d) in
+    let x2 = singlesFit d p (pairFor rows 2 0) (drop 2 rows) in
+    let x3 = leb 1 (d .count) in
+    let x4 = everySeries d rows p 0 (d .count) in
+    let t4 = and-eq-true-iff (x1 && x2 && x3 && x4) (allApart (identifications rows (draftContent d))) .0 h in
+    let t3 = and-eq-true-iff (x1 && x2 && x3) x4 .0 (t4 .0) in
+    let t2 = and-eq-true-iff (x1 && x2) x3 .0 (t3 .0) in
+    let t1 = and-eq-true-iff x1 x2 .0 (t2 .0) in
+    let told : (j : ℕ) → 0 ≤ j → j < 0 + d .count → Series d rows p t j = every-told d rows p t 0 (d .count) (t3 .1) in
+    let one : (j : ℕ) → j < d .count → Series d rows p t j = λ j l. told j (omega arith) (omega arith) in
+    let u = unconstrained (d .kind) kind in
+    record {
+      known = u .0;
+      conforms =
+          draft-conforms d kind
+          (record {
+            header = fit-none-missing d p (drop 2 rows) (pairFor rows 2 0) (t1 .1);
+            some = leb-holds 1 (d .count) (t2 .1);
+            series = λ i l. fit-none-missing d p _ _ (one i l .singles);
+            period = λ i l. fit-none-missing d p _ _ (one i l .inner);
+            intervals = λ i l. one i l .some;
+          });
+      elements = (t1 .0, singles-fit d rows p _ (series-fit d rows p t 0 (d .count) told) (drop 2 rows) 2 (pairFor rows 2 0) refl (t1 .1), tt);
+      series =
+          rw (r .root)
+          (subst (All (SeriesFits (d .kind) (quartersOf p) rows))
+          (sym (append-nil _ ∙ singles-in-each (hasRole seriesRole) d rows (seriesFrom d rows 0 (d .count)) (drop 2 rows) 2 (pairFor rows 2 0) refl (plain-intervals d rows r (drop 2 rows) (r .in-header) .0)))
+          (all-series d rows r (outside (d .kind) kind) (SeriesFits (d .kind) (quartersOf p) rows) 0 (d .count)
+          (λ j l m. one-series d rows r (outside (d .kind) kind) p t j (told j l m))));
+      constraint = rw (u .1) refl;
+      apart = apart-all (identifications rows (draftContent d)) (t4 .1);
+    }
