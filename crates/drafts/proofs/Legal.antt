@@ -100,7 +100,7 @@ tags-fit kind h =
     (λ (y : (kind ≡ 1 → ⊥) × (eqb kind 1 ≡ false)). let e : eqb kind 2 ≡ true = rw (y .1) at h in rw (eqb-true kind 2 e) tags-two)
     (eqb-cases kind 1)
 
-ltb-holds : (a b : ℕ) → ltb a b ≡ true → a < b
+pub ltb-holds : (a b : ℕ) → ltb a b ≡ true → a < b
 ltb-holds a b e = ⊎-elim (λ y. y .0) (λ y. never (sym (y .1) ∙ e)) (ltb-cases a b)
 
 leb-holds : (a b : ℕ) → leb a b ≡ true → a ≤ b
@@ -112,10 +112,11 @@ module _ (d : Draft) (rows : List ℕ) (p : Period) (t : TagsFit (d .kind) rows)
   intervals-fit j zero h = tt
   intervals-fit j (suc n) h =
       let m = getD (d .amounts) j (pos 0) in
-      let a = and-eq-true-iff (ltb (natAbs m) 1000000000000000) _ .0 h in
-      (t .interval p,
-      (t .position p (wholeText (getD (d .positions) j 0)), tt, (t .amount p (amountText m) m (amount-in-value m (ltb-holds _ _ (a .0))), tt, tt)),
-      intervals-fit (suc j) n (a .1))
+      let a = and-eq-true-iff (ltb (natAbs m) 1000000000000000) _ .0 h in (
+        t .interval p,
+        (t .position p (wholeText (getD (d .positions) j 0)), tt, (t .amount p (amountText m) m (amount-in-value m (ltb-holds _ _ (a .0))), tt, tt)),
+        intervals-fit (suc j) n (a .1),
+      )
 
   -- what a series that fits is said to have
   pub record Series (i : ℕ) : Type 0 where
@@ -169,22 +170,24 @@ module _ (d : Draft) (rows : List ℕ) (p : Period) (t : TagsFit (d .kind) rows)
   period-fit : (i : ℕ) → Series i → Fit d rows p (periodTree d rows i)
   unfolding periodTree singlesIn Each
   period-fit i w =
-      let q = suc (roleRow periodRole rows) in
-      (t .period p,
-      singles-fit d rows p _ (intervals-fit (fieldAt (d .series) i FirstRow) (fieldAt (d .series) i Count) (w .amounts)) (drop q rows) q (pairFor rows q i) refl (w .inner),
-      tt)
+      let q = suc (roleRow periodRole rows) in (
+        t .period p,
+        singles-fit d rows p _ (intervals-fit (fieldAt (d .series) i FirstRow) (fieldAt (d .series) i Count) (w .amounts)) (drop q rows) q (pairFor rows q i) refl (w .inner),
+        tt,
+      )
 
   series-fit : (i n : ℕ) → ((j : ℕ) → i ≤ j → j < i + n → Series j) → Fit d rows p (seriesFrom d rows i n)
   unfolding seriesFrom singlesIn Each
   series-fit i zero w = tt
   series-fit i (suc n) w =
       let s = suc (roleRow seriesRole rows) in
-      let here = w i (omega arith) (omega arith) in
-      (t .series p,
-      singles-fit d rows p _ (period-fit i here) (drop s rows) s (pairFor rows s i) refl (here .singles),
-      series-fit (suc i) n (λ j l h. w j (omega arith) (omega arith)))
+      let here = w i (omega arith) (omega arith) in (
+        t .series p,
+        singles-fit d rows p _ (period-fit i here) (drop s rows) s (pairFor rows s i) refl (here .singles),
+        series-fit (suc i) n (λ j l h. w j (omega arith) (omega arith)),
+      )
 
-  every-told : (i n : ℕ) → everySeries d rows p i n ≡ true → (j : ℕ) → i ≤ j → j < i + n → Series j
+  pub every-told : (i n : ℕ) → everySeries d rows p i n ≡ true → (j : ℕ) → i ≤ j → j < i + n → Series j
   unfolding everySeries
   every-told i zero h j l m = absurd (omega arith)
   every-told i (suc n) h j l m =
@@ -199,7 +202,7 @@ module _ (d : Draft) (rows : List ℕ) (p : Period) (t : TagsFit (d .kind) rows)
 
 -- ---- what stands in a series
 
-written-positions : (d : Draft) (j n : ℕ) → allWritten (positionsIn d j n) ≡ true → map positionOf (drawn d (posTag d) j n) ≡ positionsIn d j n
+pub written-positions : (d : Draft) (j n : ℕ) → allWritten (positionsIn d j n) ≡ true → map positionOf (drawn d (posTag d) j n) ≡ positionsIn d j n
 unfolding allWritten positionsIn drawn positionOf positionBy numberTag bytes
 written-positions d j zero h = refl
 written-positions d j (suc n) h =

@@ -4,3 +4,4 @@ pub mod Writing
 pub mod Elements
 pub mod Order
 pub mod Legal
+pub mod Promises

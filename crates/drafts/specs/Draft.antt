@@ -20,6 +20,7 @@ use Rattle.contents.specs.Said.{AttributeValue, Absent, Given, DtdSaid, TagSaid
 use Rattle.wholes.specs.Whole.{wholeText}
 use Rattle.amounts.specs.Texts.{amountText}
 use Rattle.escapes.specs.Escaped.{escaped}
+use Rattle.layouts.specs.Layout.{layoutOf}
 
 -- "a lent text", a pair (start and length in the text) for each attribute value of the header and of a series, laid as views lay them; the number of series, the series
 -- table for its first rows and counts, positions and amounts
@@ -128,6 +129,10 @@ seriesFrom d rows i (suc n) =
 unfoldable pub draftContent : Draft → Trees TagSaid
 draftContent d =
     element 1 (rootTag d) (singlesIn d (rowsOf (d .kind)) 1 0 (seriesFrom d (rowsOf (d .kind)) 0 (d .count))) none
+
+-- "The layout is fixed"
+unfoldable pub draftDocument : Draft → List ℕ
+draftDocument d = layoutOf (rowsOf (d .kind)) (draftContent d)
 
 -- ---- what is lent holds it
 

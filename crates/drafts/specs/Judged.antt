@@ -1,7 +1,7 @@
 -- K6: "The writer refuses exactly when no document of these kinds, length and room left aside, would be accepted with the given content": whether the content of a draft is
 -- legal, told value by value and series by series, with the reader's own rules.
 use Prim.Native.Nat.{ℕ, zero, suc, _+_, _<_}
-use mathlib.Core.List.{List, [], _∷_}
+use mathlib.Core.List.{List, [], _∷_, _++_}
 use mathlib.Core.Bool.{Bool, true, false, cond, _&&_, not}
 use lib.Dec.{eqb, leb, ltb}
 use lib.IntN.{ℤ, pos, natAbs}
@@ -83,3 +83,18 @@ draftLegal d =
     && leb 1 (d .count)
     && everySeries d rows p 0 (d .count)
     && allApart (identifications rows (draftContent d))
+
+-- ---- what the tables show of it: the rows of each series, one series after the other
+
+unfoldable pub amountsIn : Draft → ℕ → ℕ → List ℤ
+amountsIn d j zero = []
+amountsIn d j (suc n) = getD (d .amounts) j (pos 0) ∷ amountsIn d (suc j) n
+
+-- of n series from series i on
+unfoldable pub positionsOf : Draft → ℕ → ℕ → List ℕ
+positionsOf d i zero = []
+positionsOf d i (suc n) = positionsIn d (fieldAt (d .series) i FirstRow) (fieldAt (d .series) i Count) ++ positionsOf d (suc i) n
+
+unfoldable pub amountsOf : Draft → ℕ → ℕ → List ℤ
+amountsOf d i zero = []
+amountsOf d i (suc n) = amountsIn d (fieldAt (d .series) i FirstRow) (fieldAt (d .series) i Count) ++ amountsOf d (suc i) n
