@@ -5,3 +5,4 @@ pub mod Elements
 pub mod Order
 pub mod Legal
 pub mod Promises
+pub mod Examples

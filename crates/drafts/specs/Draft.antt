@@ -83,11 +83,8 @@ numberTag t = record { v = Given t; scheme = Absent; dtd = noDtdSaid; others = f
 unfoldable pub singles : Draft → ℕ → ℕ → List ℕ → Trees TagSaid → Trees TagSaid
 singles d q k [] behind = behind
 singles d q k (w ∷ ws) behind =
-    cond (asksV w)
-    (cond (isSaid (singleTag d w k))
-    (element q (singleTag d w k) none (singles d (suc q) (k + valuesOf w) ws behind))
-    (singles d (suc q) (k + valuesOf w) ws behind))
-    behind
+    let rest = singles d (suc q) (k + valuesOf w) ws behind in
+    cond (asksV w) (cond (isSaid (singleTag d w k)) (element q (singleTag d w k) none rest) rest) behind
 
 -- n Intervals, from row j of the positions and amounts on; q is the row of Interval, and Pos and Qty come after it
 unfoldable pub intervalsFrom : Draft → ℕ → ℕ → ℕ → Trees TagSaid

@@ -28,10 +28,8 @@ singlesFit d p k (w ∷ ws) =
 unfoldable pub originalsSaid : Draft → ℕ → List ℕ → ℕ
 originalsSaid d k [] = 0
 originalsSaid d k (w ∷ ws) =
-    cond (asksV w)
-    (cond (isSaid (singleTag d w k)) (cond (eqb (roleOf w) originalRole) (suc (originalsSaid d (k + valuesOf w) ws)) (originalsSaid d (k + valuesOf w) ws))
-    (originalsSaid d (k + valuesOf w) ws))
-    0
+    let rest = originalsSaid d (k + valuesOf w) ws in
+    cond (asksV w) (cond (isSaid (singleTag d w k)) (cond (eqb (roleOf w) originalRole) (suc rest) rest) rest) 0
 
 -- the positions of n rows from row j on
 unfoldable pub positionsIn : Draft → ℕ → ℕ → List ℕ
