@@ -40,7 +40,7 @@ left-out test w ws y h =
     (⊎-elim (λ z. never (rw z at (t .0))) (λ z. z) (bool-cases (test w)), t .1)
 
 module _ (test : ℕ → Bool) (d : Draft) (rows : List ℕ) (behind : Trees TagSaid) where
-  singles-those : (ws : List ℕ) (q k : ℕ) → ws ≡ drop q rows → leavesOut test ws ≡ true → those test rows (singles d q k ws behind) ≡ those test rows behind
+  pub singles-those : (ws : List ℕ) (q k : ℕ) → ws ≡ drop q rows → leavesOut test ws ≡ true → those test rows (singles d q k ws behind) ≡ those test rows behind
   unfolding singles those
   singles-those [] q k e h = refl
   singles-those (w ∷ ws) q k e h = by (asksV w) refl (λ (s : leavesOut test ws ≡ true). singles-those ws (suc q) (k + valuesOf w) (row-there rows q w ws e .1) s)
@@ -56,7 +56,7 @@ module _ (test : ℕ → Bool) (d : Draft) (rows : List ℕ) (behind : Trees Tag
           let here : test (getD rows q 0) ≡ false = ap test (row-there rows q w ws e .0) ∙ o .0 in
           rw y (⊎-elim (λ (s : isSaid (singleTag d w k) ≡ true). rw (s, here) (ih (o .1))) (λ (s : isSaid (singleTag d w k) ≡ false). rw s (ih (o .1))) (bool-cases (isSaid (singleTag d w k))))
 
-  singles-in-each : (ws : List ℕ) (q k : ℕ) → ws ≡ drop q rows → leavesOut test ws ≡ true → inEach test rows (singles d q k ws behind) ≡ inEach test rows behind
+  pub singles-in-each : (ws : List ℕ) (q k : ℕ) → ws ≡ drop q rows → leavesOut test ws ≡ true → inEach test rows (singles d q k ws behind) ≡ inEach test rows behind
   unfolding singles inEach
   singles-in-each [] q k e h = refl
   singles-in-each (w ∷ ws) q k e h = by (asksV w) refl (λ (s : leavesOut test ws ≡ true). singles-in-each ws (suc q) (k + valuesOf w) (row-there rows q w ws e .1) s)

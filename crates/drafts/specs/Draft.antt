@@ -20,6 +20,7 @@ use Rattle.contents.specs.Said.{AttributeValue, Absent, Given, DtdSaid, TagSaid
 use Rattle.wholes.specs.Whole.{wholeText}
 use Rattle.amounts.specs.Texts.{amountText}
 use Rattle.escapes.specs.Escaped.{escaped}
+use Rattle.layouts.specs.Layout.{layoutOf}
 
 -- "a lent text", a pair (start and length in the text) for each attribute value of the header and of a series, laid as views lay them; the number of series, the series
 -- table for its first rows and counts, positions and amounts
@@ -82,11 +83,8 @@ numberTag t = record { v = Given t; scheme = Absent; dtd = noDtdSaid; others = f
 unfoldable pub singles : Draft → ℕ → ℕ → List ℕ → Trees TagSaid → Trees TagSaid
 singles d q k [] behind = behind
 singles d q k (w ∷ ws) behind =
-    cond (asksV w)
-    (cond (isSaid (singleTag d w k))
-    (element q (singleTag d w k) none (singles d (suc q) (k + valuesOf w) ws behind))
-    (singles d (suc q) (k + valuesOf w) ws behind))
-    behind
+    let rest = singles d (suc q) (k + valuesOf w) ws behind in
+    cond (asksV w) (cond (isSaid (singleTag d w k)) (element q (singleTag d w k) none rest) rest) behind
 
 -- n Intervals, from row j of the positions and amounts on; q is the row of Interval, and Pos and Qty come after it
 unfoldable pub intervalsFrom : Draft → ℕ → ℕ → ℕ → Trees TagSaid
@@ -128,6 +126,10 @@ seriesFrom d rows i (suc n) =
 unfoldable pub draftContent : Draft → Trees TagSaid
 draftContent d =
     element 1 (rootTag d) (singlesIn d (rowsOf (d .kind)) 1 0 (seriesFrom d (rowsOf (d .kind)) 0 (d .count))) none
+
+-- "The layout is fixed"
+unfoldable pub draftDocument : Draft → List ℕ
+draftDocument d = layoutOf (rowsOf (d .kind)) (draftContent d)
 
 -- ---- what is lent holds it
 
