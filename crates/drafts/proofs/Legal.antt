@@ -53,7 +53,7 @@ fit-none-missing d p (w ∷ ws) k h = by (asksV w) (isSaid (singleTag d w k)) re
         let t = and-eq-true-iff (not (required w)) (singlesFit d p (k + valuesOf w) ws) .0 (rw (y, z) at h) in rw (y, z, t .0) (ih (t .1))
 
 module _ (d : Draft) (rows : List ℕ) (p : Period) where
-  abbrev Fit : Trees TagSaid → Type 0
+  abbrev pub Fit : Trees TagSaid → Type 0
   Fit c = Each (elementFits (d .kind) p) rows c
 
   singles-fit : (behind : Trees TagSaid) → Fit behind → (ws : List ℕ) (q k : ℕ) → ws ≡ drop q rows → singlesFit d p k ws ≡ true → Fit (singles d q k ws behind)

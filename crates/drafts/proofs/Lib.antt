@@ -6,3 +6,4 @@ pub mod Order
 pub mod Legal
 pub mod Promises
 pub mod Examples
+pub mod Complete
