@@ -119,3 +119,15 @@ small-unsigned n e =
     let g = y .0 in
     absurd (long-whole (wholeText (n / 1000)) (fractionText (n % 1000)) (whole-digits (n / 1000)) (whole-many 12 (n / 1000) (omega (arith, g))) e))
     (ltb-cases n 1000000000000000)
+
+first-digit : (w r : List ℕ) → AllDigits w → 1 ≤ length w → minus (w ++ r) ≡ false
+unfolding AllDigits minus
+first-digit [] r h s = absurd (omega arith)
+first-digit (c ∷ w) r h s = let b = digit-bounds c (h .0) in let low = b .0 in ne-eqb c 0x2D (λ z. omega (arith, z, low))
+
+pub small-amount : (m : ℤ) → writtenAmount (amountText m) ≡ true → natAbs m < 1000000000000000
+unfolding writtenAmount unsigned amountText unsignedText minus
+small-amount (pos n) e =
+    let z = first-digit (wholeText (n / 1000)) (fractionText (n % 1000)) (whole-digits (n / 1000)) (whole-some (n / 1000)) in
+    small-unsigned n (rw z at e)
+small-amount (negsuc n) e = small-unsigned (suc n) e
