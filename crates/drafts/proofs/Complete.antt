@@ -369,3 +369,50 @@ module _ (d : Draft) (kind : cond (eqb (d .kind) 1) true (eqb (d .kind) 2) ≡ t
   every-fits i zero s c f = refl
   every-fits i (suc n) s c f =
       both-so _ _ (one-fits i (s i (omega arith) (omega arith)) (c .0) (c .1) (f .1)) (every-fits (suc i) n (λ j l h. s j (omega arith) (omega arith)) (c .2) (f .2))
+
+-- a draft has a series where its content conforms
+some-series : (d : Draft) (kind : cond (eqb (d .kind) 1) true (eqb (d .kind) 2) ≡ true) (k : ℕ)
+    → Fits (rowsOf (d .kind)) 1 (rowsTaken (singles d 2 k (drop 2 (rowsOf (d .kind))) (seriesFrom d (rowsOf (d .kind)) 0 (d .count)))) → leb 1 (d .count) ≡ true
+some-series d kind k c =
+    let rows = rowsOf (d .kind) in
+    let v = levels (d .kind) kind in
+    let s = roleRow seriesRole rows in
+    ⊎-elim
+    (λ (y : (d .count ≡ 0) × (eqb (d .count) 0 ≡ true)).
+    let taken : rowsTaken (singles d 2 k (drop 2 rows) (seriesFrom d rows 0 (d .count))) ≡ saidRows d 2 k (drop 2 rows) ++ [] =
+    singles-taken d rows (seriesFrom d rows 0 (d .count)) (drop 2 rows) 2 k
+    ∙ ap (λ (l : List ℕ). saidRows d 2 k (drop 2 rows) ++ l) (series-taken d rows 0 (d .count) ∙ ap (λ (n : ℕ). replicate n s) (y .0)) in
+    let f : Fits rows 1 (saidRows d 2 k (drop 2 rows) ++ []) = subst (Fits rows 1) taken c in
+    let l = said-below d (drop 2 rows) 2 k s (f .complete s (ltb-below s (length rows) (v .header .there)) (v .header .parent) (needed (d .kind) kind .series)) in
+    let n = v .header .next in
+    absurd (omega (arith, l, n)))
+    (λ (y : (d .count ≡ 0 → ⊥) × (eqb (d .count) 0 ≡ false)). le-leb 1 (d .count) (let g = y .0 in more g))
+    (eqb-cases (d .count) 0)
+  where
+    more : (d .count ≡ 0 → ⊥) → 1 ≤ d .count
+    more g = ⊎-elim (λ (c : (0 < d .count) × (ltb 0 (d .count) ≡ true)). c .0) (λ (c : (d .count ≤ 0) × (ltb 0 (d .count) ≡ false)). absurd (g (omega (arith, c .0)))) (ltb-cases 0 (d .count))
+
+-- a draft whose content is legal is judged fit
+pub legal-draft : (d : Draft) → cond (eqb (d .kind) 1) true (eqb (d .kind) 2) ≡ true → Legal (d .kind) (draftContent d) → draftLegal d ≡ true
+unfolding draftLegal draftContent singlesIn Each EachConforms inEach
+legal-draft d kind l =
+    let rows = rowsOf (d .kind) in
+    let p = periodOf rows (draftContent d) in
+    let r = roles (d .kind) kind in
+    let v = levels (d .kind) kind in
+    let s = roleRow seriesRole rows in
+    let k = pairFor rows 2 0 in
+    let content = seriesFrom d rows 0 (d .count) in
+    let c = l .conforms .each in
+    let f = l .elements in
+    let header = level-back d rows p 1 2 s (v .header) content (replicate (d .count) s) (among-one s (d .count)) k (series-taken d rows 0 (d .count)) (c .0) (f .1) in
+    let ec = each-behind d rows content (drop 2 rows) 2 k (c .1) in
+    let told : All (SeriesFits (d .kind) (quartersOf p) rows) (inEach (hasRole seriesRole) rows content) =
+    subst (All (SeriesFits (d .kind) (quartersOf p) rows))
+    (append-nil _ ∙ singles-in-each (hasRole seriesRole) d rows content (drop 2 rows) 2 k refl (plain-intervals d rows r (drop 2 rows) (r .in-header) .0))
+    (rw (r .root) at (l .series)) in
+    both-so _ _
+    (both-so _ _
+    (both-so _ _ (both-so _ _ (f .0) (header .0)) (some-series d kind k (c .0)))
+    (every-fits d kind p 0 (d .count) (each-series d kind p (SeriesFits (d .kind) (quartersOf p) rows) 0 (d .count) told) ec (header .1)))
+    (all-apart (identifications rows (draftContent d)) (l .apart))

@@ -61,12 +61,13 @@ unfolding tens
 position-told q n e =
     let w = only-position (wholeText q) n e in
     let same : q ≡ n = sym (whole-says q) ∙ ap (numberFrom 0) w ∙ whole-says n in
-    let few = few-digits (wholeText q) n e in
-    (same,
-    ⊎-elim
-    (λ (y : (q < 100000) × (ltb q 100000 ≡ true)). let l = y .0 in omega (arith, l))
-    (λ (y : (100000 ≤ q) × (ltb q 100000 ≡ false)). let m = whole-many 5 q (y .0) in absurd (omega (arith, m, few)))
-    (ltb-cases q 100000))
+    let few = few-digits (wholeText q) n e in (
+      same,
+      ⊎-elim
+          (λ (y : (q < 100000) × (ltb q 100000 ≡ true)). let l = y .0 in omega (arith, l))
+          (λ (y : (100000 ≤ q) × (ltb q 100000 ≡ false)). let m = whole-many 5 q (y .0) in absurd (omega (arith, m, few)))
+          (ltb-cases q 100000),
+    )
 
 -- ---- amounts
 
