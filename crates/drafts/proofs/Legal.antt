@@ -53,7 +53,7 @@ fit-none-missing d p (w ∷ ws) k h = by (asksV w) (isSaid (singleTag d w k)) re
         let t = and-eq-true-iff (not (required w)) (singlesFit d p (k + valuesOf w) ws) .0 (rw (y, z) at h) in rw (y, z, t .0) (ih (t .1))
 
 module _ (d : Draft) (rows : List ℕ) (p : Period) where
-  abbrev Fit : Trees TagSaid → Type 0
+  abbrev pub Fit : Trees TagSaid → Type 0
   Fit c = Each (elementFits (d .kind) p) rows c
 
   singles-fit : (behind : Trees TagSaid) → Fit behind → (ws : List ℕ) (q k : ℕ) → ws ≡ drop q rows → singlesFit d p k ws ≡ true → Fit (singles d q k ws behind)
@@ -212,7 +212,7 @@ written-positions d j (suc n) h =
     rw (position-in-value q (leb-holds 1 q (b .0)) (leb-holds q 99999 (b .1))) (ap (λ (l : List ℕ). q ∷ l) (written-positions d (suc j) n (a .1)))
 
 module _ (d : Draft) (rows : List ℕ) (r : Roles rows) where
-  plain-intervals : (ws : List ℕ) → plainRows ws ≡ true → (leavesOut (hasRole seriesRole) ws ≡ true) × (leavesOut (hasRole intervalRole) ws ≡ true)
+  pub plain-intervals : (ws : List ℕ) → plainRows ws ≡ true → (leavesOut (hasRole seriesRole) ws ≡ true) × (leavesOut (hasRole intervalRole) ws ≡ true)
   unfolding plainRows
   plain-intervals ws h =
       let a = and-eq-true-iff (leavesOut (hasRole seriesRole) ws && leavesOut (hasRole intervalRole) ws && leavesOut (hasRole posRole) ws) _ .0 h in
@@ -224,7 +224,7 @@ module _ (d : Draft) (rows : List ℕ) (r : Roles rows) where
   intervals-counted j zero = refl
   intervals-counted j (suc n) = rw (r .interval, r .position, r .amount) (ap suc (intervals-counted (suc j) n))
 
-  series-counted : (i : ℕ) → length (those (hasRole intervalRole) rows (singlesIn d rows (roleRow seriesRole rows) i (periodTree d rows i))) ≡ fieldAt (d .series) i Count
+  pub series-counted : (i : ℕ) → length (those (hasRole intervalRole) rows (singlesIn d rows (roleRow seriesRole rows) i (periodTree d rows i))) ≡ fieldAt (d .series) i Count
   unfolding singlesIn periodTree those
   series-counted i =
       let s = suc (roleRow seriesRole rows) in
@@ -273,7 +273,7 @@ outside-two : Outside kostenblatt
 unfolding Outside kostenblatt elementNo names numberIn same nameOf formOf roleOf asksV roleRow leavesOut
 outside-two = refl
 
-outside : (kind : ℕ) → cond (eqb kind 1) true (eqb kind 2) ≡ true → Outside (rowsOf kind)
+pub outside : (kind : ℕ) → cond (eqb kind 1) true (eqb kind 2) ≡ true → Outside (rowsOf kind)
 unfolding rowsOf
 outside kind h =
     ⊎-elim
@@ -296,7 +296,7 @@ module _ (d : Draft) (rows : List ℕ) (r : Roles rows) (o : Outside rows) where
       ∙ singles-those (hasRole originalRole) d rows _ (drop q rows) q (pairFor rows q i) refl o
       ∙ no-originals (fieldAt (d .series) i FirstRow) (fieldAt (d .series) i Count))
 
-  series-originals : (i : ℕ) → length (those (hasRole originalRole) rows (singlesIn d rows (roleRow seriesRole rows) i (periodTree d rows i)))
+  pub series-originals : (i : ℕ) → length (those (hasRole originalRole) rows (singlesIn d rows (roleRow seriesRole rows) i (periodTree d rows i)))
       ≡ originalsSaid d (pairFor rows (suc (roleRow seriesRole rows)) i) (drop (suc (roleRow seriesRole rows)) rows)
   unfolding singlesIn
   series-originals i =
@@ -312,7 +312,7 @@ module _ (d : Draft) (rows : List ℕ) (r : Roles rows) (o : Outside rows) where
   no-series j zero = refl
   no-series j (suc n) = rw (r .interval, r .position, r .amount) (no-series (suc j) n)
 
-  inner-series : (i : ℕ) → inEach (hasRole seriesRole) rows (singlesIn d rows (roleRow seriesRole rows) i (periodTree d rows i)) ≡ []
+  pub inner-series : (i : ℕ) → inEach (hasRole seriesRole) rows (singlesIn d rows (roleRow seriesRole rows) i (periodTree d rows i)) ≡ []
   unfolding singlesIn periodTree inEach
   inner-series i =
       let s = suc (roleRow seriesRole rows) in

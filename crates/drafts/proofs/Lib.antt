@@ -6,3 +6,5 @@ pub mod Order
 pub mod Legal
 pub mod Promises
 pub mod Examples
+pub mod Numbers
+pub mod Complete

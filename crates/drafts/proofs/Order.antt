@@ -48,7 +48,7 @@ standIn p [] = true
 standIn p (w ∷ ws) = cond (asksV w) (eqb (parentOf w) p && standIn p ws) true
 
 module _ (d : Draft) (rows : List ℕ) where
-  singles-taken : (behind : Trees TagSaid) (ws : List ℕ) (q k : ℕ) → rowsTaken (singles d q k ws behind) ≡ saidRows d q k ws ++ rowsTaken behind
+  pub singles-taken : (behind : Trees TagSaid) (ws : List ℕ) (q k : ℕ) → rowsTaken (singles d q k ws behind) ≡ saidRows d q k ws ++ rowsTaken behind
   unfolding singles saidRows rowsTaken
   singles-taken behind [] q k = refl
   singles-taken behind (w ∷ ws) q k = by (asksV w) (isSaid (singleTag d w k)) refl refl (singles-taken behind ws (suc q) (k + valuesOf w))
@@ -253,17 +253,17 @@ module _ (d : Draft) (rows : List ℕ) (p s : ℕ) (there : s < length rows) (pa
   some-among zero h = absurd (omega arith)
   some-among (suc n) h = inl refl
 
-series-taken : (d : Draft) (rows : List ℕ) (i n : ℕ) → rowsTaken (seriesFrom d rows i n) ≡ replicate n (roleRow seriesRole rows)
+pub series-taken : (d : Draft) (rows : List ℕ) (i n : ℕ) → rowsTaken (seriesFrom d rows i n) ≡ replicate n (roleRow seriesRole rows)
 unfolding seriesFrom rowsTaken
 series-taken d rows i zero = refl
 series-taken d rows i (suc n) = ap (λ (l : List ℕ). roleRow seriesRole rows ∷ l) (series-taken d rows (suc i) n)
 
-intervals-taken : (d : Draft) (q j n : ℕ) → rowsTaken (intervalsFrom d q j n) ≡ replicate n q
+pub intervals-taken : (d : Draft) (q j n : ℕ) → rowsTaken (intervalsFrom d q j n) ≡ replicate n q
 unfolding intervalsFrom rowsTaken
 intervals-taken d q j zero = refl
 intervals-taken d q j (suc n) = ap (λ (l : List ℕ). q ∷ l) (intervals-taken d q (suc j) n)
 
-period-taken : (d : Draft) (rows : List ℕ) (i : ℕ) → rowsTaken (periodTree d rows i) ≡ roleRow periodRole rows ∷ []
+pub period-taken : (d : Draft) (rows : List ℕ) (i : ℕ) → rowsTaken (periodTree d rows i) ≡ roleRow periodRole rows ∷ []
 unfolding periodTree rowsTaken
 period-taken d rows i = refl
 

@@ -1,5 +1,6 @@
--- What holds of the document of a draft. Assumes nothing.
---     draft-read       it is accepted, given room, where the draft is judged fit and all that it shows is lent; answer and tables are those of its content
+-- What holds of a draft and of its document. Assumes nothing.
+--     fit-exactly      a draft of the two kinds is judged fit exactly where its content is legal
+--     draft-read       its document is accepted, given room, where the draft is judged fit and all that it shows is lent; answer and tables are those of its content
 --     positions-back   the tables have its positions,
 --     amounts-back     and its amounts
 use Prim.Native.Nat.{ℕ, zero, suc, _+_, _≤_, _<_}
@@ -30,6 +31,7 @@ use Rattle.drafts.specs.Judged.{singlesFit, positionsIn, allWritten, amo
 use Rattle.drafts.proofs.Writing.{draft-writable}
 use Rattle.drafts.proofs.Elements.{posTag, qtyTag, drawn, drawnFrom, draft-those, positions-inside, amounts-inside, roles}
 use Rattle.drafts.proofs.Legal.{TagsFit, tags-fit, Series, every-told, written-positions, ltb-holds, draft-legal}
+use Rattle.drafts.proofs.Complete.{legal-draft}
 
 map-append : {A B : Type 0} (f : A → B) (l m : List A) → map f (l ++ m) ≡ map f l ++ map f m
 map-append f [] m = refl
@@ -59,6 +61,11 @@ module _ (d : Draft) (rows : List ℕ) (p : Period) (t : TagsFit (d .kind) rows)
       let here = w i (omega arith) (omega arith) in
       map-append amountIn (drawn d (qtyTag d) (fieldAt (d .series) i FirstRow) (fieldAt (d .series) i Count)) (drawnFrom d (qtyTag d) (suc i) n)
       ∙ rw (amounts-written d (fieldAt (d .series) i FirstRow) (fieldAt (d .series) i Count) (here .amounts), amounts-from (suc i) n (λ j l h. w j (omega arith) (omega arith))) refl
+
+-- "refuses exactly when no document of these kinds, length and room left aside, would be accepted with the given content": the judgement is that of `Legal`
+pub fit-exactly : (d : Draft) → cond (eqb (d .kind) 1) true (eqb (d .kind) 2) ≡ true
+    → (draftLegal d ≡ true → Legal (d .kind) (draftContent d)) × (Legal (d .kind) (draftContent d) → draftLegal d ≡ true)
+fit-exactly d kind = (draft-legal d kind, legal-draft d kind)
 
 module _ (d : Draft) (l : Lent d) (fit : draftLegal d ≡ true) where
   told : (j : ℕ) → 0 ≤ j → j < 0 + d .count → Series d (rowsOf (d .kind)) (periodOf (rowsOf (d .kind)) (draftContent d)) (tags-fit (d .kind) (l .kind)) j

@@ -34,7 +34,7 @@ unfolding Numeric
 numeric-join [] w a b = b
 numeric-join (c ∷ v) w a b = (a .0, a .1, numeric-join v w (a .2) b)
 
-digit-bounds : (c : ℕ) → digit c ≡ true → (0x30 ≤ c) × (c ≤ 0x39)
+pub digit-bounds : (c : ℕ) → digit c ≡ true → (0x30 ≤ c) × (c ≤ 0x39)
 unfolding digit
 digit-bounds c e =
     let t = both-true (leb 0x30 c) e in
