@@ -420,6 +420,44 @@ uint32_t lumintayag_views(const uint8_t *doc, size_t doc_len,
                           uint32_t *table, size_t table_len,
                           uint32_t *answer, size_t answer_len);
 
+/*
+ * Writes a Beschaffungsanforderung (kind 1) or Kostenblatt (kind 2) and answers the refusal: the same number as answer[0].
+ *
+ * text       the values as they are to be read, with no references: `&`, `<`, quotes and line ends stand for themselves
+ * pairs      start and length in the text of every value, laid as lumintayag_views lays them: 16 pairs for the header,
+ *            22 for each series, named LUMINTAYAG_PAIR_... above. 0 and 0 is a value that is absent; an empty one starts
+ *            at 1 or later, or where the text ends. Every pair that is counted has to lie in the text, also one that the
+ *            kind has no value for.
+ * count      how many series are written
+ * series     a row of twelve numbers for each; its first interval row and its interval count are looked at
+ * positions, amounts
+ *            the interval rows, amounts in thousandths
+ * out        the document, in a fixed layout: no declaration, no text between tags, double quotes, and amounts as short
+ *            as they can be written. Bytes past it are 0.
+ * answer     two numbers: refusal, and the length of the document, 0 where it is refused. Where answer_len is smaller,
+ *            the first ones; where it is larger, the cells past the second are 0.
+ *
+ * 12 is answered exactly where no document of these kinds that lumintayag_read_v3 would accept, given room, has this
+ * content, or pairs or rows lie past what is lent; then 13 where the document is longer than out or than 1,048,576 bytes. On
+ * both every byte of out is 0.
+ */
+uint32_t lumintayag_write(uint32_t kind,
+                          const uint8_t *text, size_t text_len,
+                          const uint32_t *pairs, size_t pairs_len,
+                          uint32_t count,
+                          const uint32_t *series, size_t series_len,
+                          const uint32_t *positions, size_t positions_len,
+                          const int64_t *amounts, size_t amounts_len,
+                          uint8_t *out, size_t out_len,
+                          uint32_t *answer, size_t answer_len);
+
+/*
+ * Puts what a value of a document says into out, with every reference replaced by its character, as far as there is
+ * room, and answers how many bytes that is: never more than the value has. Bytes past it stay as they were.
+ */
+size_t lumintayag_unescape(const uint8_t *value, size_t value_len,
+                           uint8_t *out, size_t out_len);
+
 #ifdef __cplusplus
 }
 #endif

@@ -1,2 +1,3 @@
 pub mod Draft
 pub mod Judged
+pub mod Pairs

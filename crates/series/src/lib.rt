@@ -1,9 +1,9 @@
 // The row of a series in the series table: which cell holds what, and for how many rows a table has room.
 use slices::part;
+use tables::number_at;
 use tables::set_number;
 ghost use mathlib.Core.Path.{_≡_};
 ghost use Prim.Native.Nat.{_≤_, _<_};
-ghost use lib.ListN.{getD};
 ghost use Rattle.series.specs.Row.{cellOf, isView, dropsSpaces, rowWidth, roomFor, cellAt, fieldAt, withField, withView, view};
 
 // The fields of a row, in their order. The first five are views: start and length in two cells.
@@ -77,12 +77,6 @@ fn cell_at(row: u32, f: Field) -> usize
     ensures size { λ r. ⌜ r ≤ 1099511627776 ⌝ }
 {
     WIDTH * (row as usize) + cell_of(f)
-}
-
-fn number_at(t: &[u32], i: usize) -> u32
-    ensures { λ r. ⌜ r ≡ getD (now (t .entry)) i 0 ⌝ }
-{
-    if i < t.len() { t[i] } else { 0 }
 }
 
 // The number in a field of a row, and 0 past the end of the table. Ruled out: another row's number, and that of another field.

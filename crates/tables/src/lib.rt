@@ -1,6 +1,7 @@
-// The cells of lent tables: all made 0, or one set. A cell past the end is none, and setting it changes nothing.
+// The cells of lent tables: all made 0, one set, or one read. A cell past the end is none: setting it changes nothing, and it is read as 0.
 ghost use mathlib.Core.Path.{_≡_};
-ghost use lib.ListN.{length, set};
+ghost use lib.ListN.{length, getD, set};
+ghost use lib.IntN.{pos};
 ghost use Rattle.lists.specs.Zeros.{zeros};
 ghost use Rattle.tables.specs.Cells.{noAmounts};
 
@@ -42,4 +43,18 @@ pub fn set_amount(t: &mut [i64], i: usize, a: i64)
     if i < t.len() {
         t[i] = a;
     }
+}
+
+// The number in cell i. Ruled out: the last cell for one past the end.
+pub fn number_at(t: &[u32], i: usize) -> u32
+    ensures { λ r. ⌜ r ≡ getD (now (t .entry)) i 0 ⌝ }
+{
+    if i < t.len() { t[i] } else { 0 }
+}
+
+// The amount in cell i. Ruled out: an amount without its sign.
+pub fn amount_at(t: &[i64], i: usize) -> i64
+    ensures { λ r. ⌜ r ≡ getD (now (t .entry)) i (pos 0) ⌝ }
+{
+    if i < t.len() { t[i] } else { 0 }
 }

@@ -1,8 +1,8 @@
 // The totals of the series that stand in the tables of the document reader, whose fields crate series knows. Nothing else of the reader is asked for.
-mod rules;
+mod allowed;
 mod sums;
 
-use rules::is_allowed;
+use allowed::is_allowed;
 use sums::put_totals;
 use tables::clear_amounts;
 ghost use lib.ListN.{length};

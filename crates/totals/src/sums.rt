@@ -1,6 +1,6 @@
 // Sums in two words. One series passes an i64 in thousandths, so whole numbers and thousandths are added apart; and 10^15 is added to each amount, so that no
 // sum is below 0 before the end. 200 series of 35,136 quarter hours then stay below 2^64 in whole numbers.
-use crate::rules::end_row;
+use crate::allowed::end_row;
 use series::Field;
 use series::field_of;
 use tables::set_amount;

@@ -4,7 +4,7 @@ use Rattle.series.proofs.field_of.Tie as tie
 use Rattle.series.proofs.field_of.Reads as reads
 use Rattle.series.proofs.field_of.Lts as lts
 use Rattle.series.proofs.cell_at.Reads as cell-at-reads
-use Rattle.series.proofs.number_at.Reads as number-at-reads
+use Rattle.tables.proofs.number_at.Reads as number-at-reads
 
 cell-at-requires : tie.Need-cell-at-requires
 cell-at-requires c κs = search needs

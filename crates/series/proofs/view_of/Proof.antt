@@ -6,7 +6,7 @@ use Rattle.series.proofs.view_of.Reads as reads
 use Rattle.series.proofs.view_of.Lts as lts
 use Rattle.slices.proofs.part.Reads as part-reads
 use Rattle.series.proofs.cell_at.Reads as cell-at-reads
-use Rattle.series.proofs.number_at.Reads as number-at-reads
+use Rattle.tables.proofs.number_at.Reads as number-at-reads
 
 cell-at-requires : tie.Need-cell-at-requires
 cell-at-requires c κs = search needs

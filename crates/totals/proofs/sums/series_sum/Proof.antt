@@ -5,7 +5,7 @@ use Rattle.totals.proofs.sums.series_sum.Tie as tie
 use Rattle.totals.proofs.sums.series_sum.Reads as reads
 use Rattle.totals.proofs.sums.series_sum.Lts as lts
 use Rattle.series.proofs.field_of.Reads as field-of-reads
-use Rattle.totals.proofs.rules.end_row.Reads as end-row-reads
+use Rattle.totals.proofs.allowed.end_row.Reads as end-row-reads
 use Rattle.totals.proofs.sums.rows_sum.Reads as rows-sum-reads
 
 field-of-requires : tie.Need-field-of-requires
