@@ -21,7 +21,10 @@ pub fn is_given(pairs: &[u32], cell: usize) -> bool
     if pairs.len() <= cell {
         return false;
     }
-    number_at(pairs, cell) != 0 || number_at(pairs, cell + 1) != 0
+    if number_at(pairs, cell) != 0 {
+        return true;
+    }
+    number_at(pairs, cell + 1) != 0
 }
 
 // The part of the text that a pair shows. Ruled out: a byte past the text; a part of another length where it lies in the text.
