@@ -27,7 +27,7 @@ use Rattle.views.specs.Shown.{pairView}
 use Rattle.escapes.specs.Spelled.{charsOf}
 use Rattle.drafts.specs.Draft.{roleRow}
 use Rattle.drafts.specs.Pairs.{hasPair, pairsOf}
-use Rattle.fitting.specs.Fit.{isWritten}
+use Rattle.drafts.specs.Fit.{isWritten}
 
 -- ---- a value
 

@@ -16,7 +16,7 @@ ghost use mathlib.Core.Path.{_≡_};
 ghost use Prim.Native.Nat.{_≤_};
 ghost use lib.ListN.{length};
 ghost use Rattle.fitting.specs.Told.{sheetTold, fitTold};
-ghost use Rattle.fitting.specs.Fit.{draftOf, draftFits};
+ghost use Rattle.drafts.specs.Fit.{draftOf, draftFits};
 
 // The values of the header and the series, by the rows of the kind, where all of it is lent.
 fn sheet_fits(

@@ -12,8 +12,9 @@ ghost use mathlib.Core.Path.{_≡_};
 ghost use Prim.Native.Nat.{_≤_};
 ghost use lib.ListN.{length};
 ghost use Rattle.escapes.specs.Spelled.{unescaped};
-ghost use Rattle.fitting.specs.Fit.{draftOf};
-ghost use Rattle.writer.specs.Written.{longest, roomIn, written, twoIn, writtenOf, PermittedWrite, PermittedText};
+ghost use Rattle.drafts.specs.Fit.{draftOf};
+ghost use Rattle.drafts.specs.Written.{longest, roomIn, writtenOf};
+ghost use Rattle.writer.specs.Permitted.{written, twoIn, PermittedWrite, PermittedText};
 
 // The longest document.
 const LONGEST: usize = 1048576;
