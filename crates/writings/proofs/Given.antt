@@ -47,11 +47,35 @@ none-in : numbersIn 0 ≡ true
 unfolding numbersIn formOf roleOf collapsed
 none-in = refl
 
-row-in : (rows : List ℕ) → everyIn rows ≡ true → (r : ℕ) → numbersIn (getD rows r 0) ≡ true
+pub row-in : (rows : List ℕ) → everyIn rows ≡ true → (r : ℕ) → numbersIn (getD rows r 0) ≡ true
 unfolding everyIn
 row-in [] h r = none-in
 row-in (w ∷ ws) h zero = and-eq-true-iff (numbersIn w) (everyIn ws) .0 h .0
 row-in (w ∷ ws) h (suc r) = row-in ws (and-eq-true-iff (numbersIn w) (everyIn ws) .0 h .1) r
+
+-- its four parts
+told : (w : ℕ) → numbersIn w ≡ true
+    → (cond (hasRole posRole w) (hasForm posForm w && cond (hasRole qtyRole w) false true) true ≡ true)
+    × (cond (hasRole qtyRole w) (hasForm amountForm w && collapsed w) true ≡ true)
+    × (cond (hasRole seriesIdRole w) (cond (hasRole posRole w) false (cond (hasRole qtyRole w) false true)) true ≡ true)
+    × (cond (hasForm periodForm w) (cond (hasRole posRole w) false (cond (hasRole qtyRole w) false true)) true ≡ true)
+unfolding numbersIn
+told w n =
+    let x1 = cond (hasRole posRole w) (hasForm posForm w && cond (hasRole qtyRole w) false true) true in
+    let x2 = cond (hasRole qtyRole w) (hasForm amountForm w && collapsed w) true in
+    let x3 = cond (hasRole seriesIdRole w) (cond (hasRole posRole w) false (cond (hasRole qtyRole w) false true)) true in
+    let x4 = cond (hasForm periodForm w) (cond (hasRole posRole w) false (cond (hasRole qtyRole w) false true)) true in
+    let a = and-eq-true-iff (x1 && x2 && x3) x4 .0 n in
+    let b = and-eq-true-iff (x1 && x2) x3 .0 (a .0) in
+    let c = and-eq-true-iff x1 x2 .0 (b .0) in
+    (c .0, c .1, b .1, a .1)
+
+-- a Qty has the form of an amount, and is collapsed
+pub qty-form : (w : ℕ) → numbersIn w ≡ true → hasRole qtyRole w ≡ true → (formOf w ≡ amountForm) × (collapsed w ≡ true)
+qty-form w n q =
+    let f : hasForm amountForm w && collapsed w ≡ true = rw q at (told w n .1) in
+    let g = and-eq-true-iff (hasForm amountForm w) (collapsed w) .0 f in
+    (eqb-true (formOf w) amountForm (g .0), g .1)
 
 every-one : everyIn beschaffungsanforderung ≡ true
 unfolding beschaffungsanforderung elementNo names numberIn same nameOf formOf schemeOf roleOf collapsed everyIn numbersIn
@@ -103,17 +127,6 @@ unfolding judge formRefusal unless amount amountBy
 qty-same held x y e = rw e refl
 
 module _ (kind w : ℕ) (s t : TagSaid) (h : TagHas w s t) (n : numbersIn w ≡ true) where
-  told : (cond (hasRole posRole w) (hasForm posForm w && cond (hasRole qtyRole w) false true) true ≡ true)
-      × (cond (hasRole qtyRole w) (hasForm amountForm w && collapsed w) true ≡ true)
-      × (cond (hasRole seriesIdRole w) (cond (hasRole posRole w) false (cond (hasRole qtyRole w) false true)) true ≡ true)
-      × (cond (hasForm periodForm w) (cond (hasRole posRole w) false (cond (hasRole qtyRole w) false true)) true ≡ true)
-  unfolding numbersIn
-  told =
-      let a = and-eq-true-iff _ (cond (hasForm periodForm w) (cond (hasRole posRole w) false (cond (hasRole qtyRole w) false true)) true) .0 n in
-      let b = and-eq-true-iff _ (cond (hasRole seriesIdRole w) (cond (hasRole posRole w) false (cond (hasRole qtyRole w) false true)) true) .0 (a .0) in
-      let c = and-eq-true-iff _ (cond (hasRole qtyRole w) (hasForm amountForm w && collapsed w) true) .0 (b .0) in
-      (c .0, c .1, b .1, a .1)
-
   -- neither a Pos nor a Qty
   neither : cond (hasRole posRole w) false (cond (hasRole qtyRole w) false true) ≡ true → says (bytes (s .v)) ≡ says (bytes (t .v))
   neither e =
@@ -128,13 +141,11 @@ module _ (kind w : ℕ) (s t : TagSaid) (h : TagHas w s t) (n : numbersIn w ≡ 
   value-same p =
       ⊎-elim
       (λ (y : hasRole posRole w ≡ true).
-      let f : hasForm posForm w && cond (hasRole qtyRole w) false true ≡ true = rw y at (told .0) in rw (and-eq-true-iff (hasForm posForm w) _ .0 f .0) refl)
+      let f : hasForm posForm w && cond (hasRole qtyRole w) false true ≡ true = rw y at (told w n .0) in rw (and-eq-true-iff (hasForm posForm w) _ .0 f .0) refl)
       (λ (y : hasRole posRole w ≡ false).
       ⊎-elim
       (λ (z : hasRole qtyRole w ≡ true).
-      let f : hasForm amountForm w && collapsed w ≡ true = rw z at (told .1) in
-      let g = and-eq-true-iff (hasForm amountForm w) (collapsed w) .0 f in
-      rw (eqb-true (formOf w) amountForm (g .0), g .1) (qty-same _ _ _ (sym (h .amount z))))
+      let g = qty-form w n z in rw (g .0, g .1) (qty-same _ _ _ (sym (h .amount z))))
       (λ (z : hasRole qtyRole w ≡ false). rw (h .said y z) refl)
       (bool-cases (hasRole qtyRole w)))
       (bool-cases (hasRole posRole w))
@@ -150,9 +161,9 @@ module _ (kind w : ℕ) (s t : TagSaid) (h : TagHas w s t) (n : numbersIn w ≡ 
   tag-alike plain =
       record {
         fits = elements-same plain;
-        period = λ y. sym (neither (rw y at (told .3)));
+        period = λ y. sym (neither (rw y at (told w n .3)));
         position = λ y. sym (h .position y);
-        identification = λ y. sym (neither (rw y at (told .2)));
+        identification = λ y. sym (neither (rw y at (told w n .2)));
       }
 
 -- ---- a content
