@@ -8,7 +8,7 @@ use native.Mathlib.Nat.{zero-add}
 use native.Mathlib.Numerals.{add-one}
 use lib.ListN.{length, drop, getD, drop-of-length-le, length-drop}
 use lib.Seq.{drop-cons, drop-drop}
-use borrow.Author.Tests.{eq-eqb, ne-eqb}
+use borrow.Author.Tests.{eq-eqb, ne-eqb, not-true, not-false}
 use Rattle.characters.specs.Utf8.{charAt}
 use Rattle.characters.specs.declared.Char.{Char}
 use Rattle.characters.specs.declared.Char.the-variants.{Is, NoChar}
@@ -27,9 +27,9 @@ use Rattle.fitting.specs.Told.{isText, textsTold, hasAmpersand, singleTo
 
 -- ---- what a pair is, and shows, and what is left of a value without its spaces: as the code and as the definitions say it
 
-pub as-given : (pairs : List ℕ) (k : ℕ) {g : Bool} → g ≡ not (isNoPair (getD pairs (cellOf k) 0) (getD pairs (cellOf k + 1) 0)) → hasPair pairs k ≡ g
+pub as-given : (pairs : List ℕ) (k : ℕ) {g : Bool} → g ≡ not (isNoPair (getD pairs (cellOf k) 0) (getD pairs (cellOf k + 1) 0)) → g ≡ hasPair pairs k
 unfolding hasPair
-as-given pairs k e = sym e
+as-given pairs k e = e
 
 pub as-shown : (text pairs : List ℕ) (k : ℕ) {s : List ℕ} → s ≡ partOf text (getD pairs (cellOf k) 0) (getD pairs (cellOf k + 1) 0) → pairView text pairs k ≡ s
 unfolding pairView
@@ -37,6 +37,14 @@ as-shown text pairs k e = sym e
 
 pub as-trimmed : (v : List ℕ) {t : List ℕ} → t ≡ trimmedOf v → dropped (says v) ≡ says t
 as-trimmed v e = sym (ap says e ∙ trimmed-says v)
+
+-- a is what a call answered of which `!a` was tested, b what that is
+module _ {a b : Bool} (e : a ≡ b) where
+  pub not-so : not a ≡ true → b ≡ false
+  not-so t = sym e ∙ not-true a t
+
+  pub is-so : not a ≡ false → b ≡ true
+  is-so t = sym e ∙ not-false a t
 
 -- ---- the pairs that lie in the text
 
