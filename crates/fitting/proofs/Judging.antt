@@ -252,16 +252,16 @@ module _ {pairs rows : List ℕ} {row k n q next : ℕ} (r : Originals pairs row
 
 -- ---- single values
 
-module _ (kind from to : ℕ) (text pairs rows : List ℕ) (row k : ℕ) where
-  -- those before row q fit, whose first pair is `next`
-  pub record Singles (q next : ℕ) : Type 0 where
-    pub left : singlesTold kind from to text pairs next (drop q rows) ≡ singlesTold kind from to text pairs k (drop row rows)
-    pub low : next ≤ k + 2 * q
+-- those before row q fit, whose first pair is `next`
+pub record Singles (kind from to : ℕ) (text pairs rows : List ℕ) (row k q next : ℕ) : Type 0 where
+  pub left : singlesTold kind from to text pairs next (drop q rows) ≡ singlesTold kind from to text pairs k (drop row rows)
+  pub low : next ≤ k + 2 * q
 
-  pub singles-start : Singles row k
+module _ {kind from to : ℕ} {text pairs rows : List ℕ} {row k : ℕ} where
+  pub singles-start : Singles kind from to text pairs rows row k row k
   singles-start = record { left = refl; low = omega arith }
 
-  module _ {q next : ℕ} (r : Singles q next) where
+  module _ {q next : ℕ} (r : Singles kind from to text pairs rows row k q next) where
     pub singles-over : length rows ≤ q → true ≡ singlesTold kind from to text pairs k (drop row rows)
     unfolding singlesTold
     singles-over h =
@@ -275,7 +275,7 @@ module _ (kind from to : ℕ) (text pairs rows : List ℕ) (row k : ℕ) where
           let z : singlesTold kind from to text pairs next (drop q rows) ≡ true = rw (drop-cons rows q 0 h, ← e, t, ne-eqb _ _ d) refl in
           sym z ∙ r .left
 
-      pub singles-period : {next′ : ℕ} → next′ ≡ next → a ≡ false → roleOf (getD rows q 0) ≡ periodRole → Singles (q + 1) next′
+      pub singles-period : {next′ : ℕ} → next′ ≡ next → a ≡ false → roleOf (getD rows q 0) ≡ periodRole → Singles kind from to text pairs rows row k (q + 1) next′
       unfolding singlesTold
       singles-period {next′} y t o =
           let z : singlesTold kind from to text pairs next (drop q rows) ≡ singlesTold kind from to text pairs next′ (drop (q + 1) rows) =
@@ -290,7 +290,7 @@ module _ (kind from to : ℕ) (text pairs rows : List ℕ) (row k : ℕ) where
             let z : singlesTold kind from to text pairs next (drop q rows) ≡ false = rw (drop-cons rows q 0 h, ← e, t, ← f, s) refl in
             sym z ∙ r .left
 
-        pub singles-next : {p next′ : ℕ} → next′ ≡ next + p → b ≡ true → p ≡ pairsOf (getD rows q 0) → p ≤ 2 → Singles (q + 1) next′
+        pub singles-next : {p next′ : ℕ} → next′ ≡ next + p → b ≡ true → p ≡ pairsOf (getD rows q 0) → p ≤ 2 → Singles kind from to text pairs rows row k (q + 1) next′
         unfolding singlesTold
         singles-next {p} {next′} y s u m =
             let z : singlesTold kind from to text pairs next (drop q rows) ≡ singlesTold kind from to text pairs next′ (drop (q + 1) rows) =

@@ -61,9 +61,8 @@ loop-less : tie.Need-loop-less Inv-loop μ-loop
 loop-less c = omega arith
 
 loop-again : tie.Need-loop-again Inv-loop μ-loop
-loop-again c = 
+loop-again c =
     let r = c .before .before .before .before .before .before .before .loop .inv in
-    let next = originals-other r (c .before .before .before .before .before .before .loop-test .taken) (c .before .before .before .before .asks-v .ensures) (not-false _ (c .before .before .before .if1 .left)) (c .pairs-of .ensures .0) (c .pairs-of .ensures .1) in
     ⊎-elim
     (λ w.
     originals-one r (c .before .before .before .before .before .before .loop-test .taken) (c .before .before .before .before .asks-v .ensures) (not-false _ (c .before .before .before .if1 .left)) (c .pairs-of .ensures .0) (c .pairs-of .ensures .1)
@@ -73,7 +72,9 @@ loop-again c =
     (λ u.
     originals-none r (c .before .before .before .before .before .before .loop-test .taken) (c .before .before .before .before .asks-v .ensures) (not-false _ (c .before .before .before .if1 .left)) (c .pairs-of .ensures .0) (c .pairs-of .ensures .1)
     (sym (c .before .before .role-of .ensures) ∙ u .0 .taken) (as-given (c .before .before .before .before .before .before .before .before .before .before .args .pairs .now) (c .before .before .before .before .before .before .before .loop .next) (u .1 .ensures)) (w .1) (u .2 .left))
-    (λ u. next (w .1) (λ z. u .left (c .before .before .role-of .ensures ∙ z)))
+    (λ u.
+    originals-other r (c .before .before .before .before .before .before .loop-test .taken) (c .before .before .before .before .asks-v .ensures) (not-false _ (c .before .before .before .if1 .left)) (c .pairs-of .ensures .0) (c .pairs-of .ensures .1) (w .1)
+    (λ z. u .left (c .before .before .role-of .ensures ∙ z)))
     (w .0 .came))
     (c .before .if2 .came)
 

@@ -90,14 +90,22 @@ text-fits-requires c κs = search needs
 
 returns-6 : tie.Need-returns-6
 unfolding singleTold
-returns-6 c = 
+returns-6 c =
     let a = c .before .before .before .before .before .before .before .before .args in
     let given = as-given (a .pairs .now) (a .k) (c .before .before .before .before .before .is-given .ensures) in
     let here = as-shown (a .text .now) (a .pairs .now) (a .k) (c .before .shown2 .ensures) in
     ⊎-elim
     (λ w.
-    simp (is-so given (c .before .before .before .before .if1 .left), ← c .before .before .before .asks-scheme2 .ensures, w .0 .taken, is-so (as-given (a .pairs .now) (a .k + 1) (w .1 .ensures)) (w .2 .left),
-    as-shown (a .text .now) (a .pairs .now) (a .k + 1) (w .3 .ensures), is-so (w .4 .ensures) (w .5 .left), here, ← c .text-fits .ensures))
+    simp (
+      is-so given (c .before .before .before .before .if1 .left),
+      ← c .before .before .before .asks-scheme2 .ensures,
+      w .0 .taken,
+      is-so (as-given (a .pairs .now) (a .k + 1) (w .1 .ensures)) (w .2 .left),
+      as-shown (a .text .now) (a .pairs .now) (a .k + 1) (w .3 .ensures),
+      is-so (w .4 .ensures) (w .5 .left),
+      here,
+      ← c .text-fits .ensures,
+    ))
     (λ w. simp (is-so given (c .before .before .before .before .if1 .left), ← c .before .before .before .asks-scheme2 .ensures, w .left, here, ← c .text-fits .ensures))
     (c .before .before .if4 .came)
 

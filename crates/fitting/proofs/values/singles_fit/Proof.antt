@@ -22,7 +22,7 @@ abbrev μ-loop : tie.MeasureT-loop
 μ-loop kind from to text pairs rows row k q₀ next₀ q next = length rows - q
 
 loop-holds : tie.Need-loop-holds Inv-loop μ-loop
-loop-holds c = singles-start _ _ _ _ _ _ _ _
+loop-holds c = singles-start
 
 mul-w : tie.Need-mul-w Inv-loop μ-loop
 mul-w c = search needs
@@ -37,7 +37,7 @@ single-fits-requires : tie.Need-single-fits-requires Inv-loop μ-loop
 single-fits-requires c κs = omega (arith, c .before .before .before .before .loop .inv .low, c .before .before .before .before .before .before .before .before .pre .0, c .before .before .before .before .before .before .before .before .pre .1)
 
 returns : tie.Need-returns Inv-loop μ-loop
-returns c = singles-not _ _ _ _ _ _ _ _ (c .before .before .before .before .before .before .loop .inv) (c .before .before .before .before .before .loop-test .taken) (c .before .before .before .asks-v .ensures) (c .before .before .if1 .taken) (c .before .single-fits .ensures) (not-true _ (c .if2 .taken))
+returns c = singles-not (c .before .before .before .before .before .before .loop .inv) (c .before .before .before .before .before .loop-test .taken) (c .before .before .before .asks-v .ensures) (c .before .before .if1 .taken) (c .before .single-fits .ensures) (not-true _ (c .if2 .taken))
 
 pairs-of-requires : tie.Need-pairs-of-requires Inv-loop μ-loop
 pairs-of-requires c κs = search needs
@@ -49,7 +49,7 @@ role-of-requires : tie.Need-role-of-requires Inv-loop μ-loop
 role-of-requires c κs = search needs
 
 returns-2 : tie.Need-returns-2 Inv-loop μ-loop
-returns-2 c = singles-stop _ _ _ _ _ _ _ _ (c .before .before .before .before .before .before .loop .inv) (c .before .before .before .before .before .loop-test .taken) (c .before .before .before .asks-v .ensures) (c .before .before .if1 .left) (λ z. c .if3 .taken (c .before .role-of .ensures ∙ z))
+returns-2 c = singles-stop (c .before .before .before .before .before .before .loop .inv) (c .before .before .before .before .before .loop-test .taken) (c .before .before .before .asks-v .ensures) (c .before .before .if1 .left) (λ z. c .if3 .taken (c .before .role-of .ensures ∙ z))
 
 add-q : tie.Need-add-q Inv-loop μ-loop
 add-q c = omega arith
@@ -58,16 +58,16 @@ loop-less : tie.Need-loop-less Inv-loop μ-loop
 loop-less c = omega arith
 
 loop-again : tie.Need-loop-again Inv-loop μ-loop
-loop-again c = 
+loop-again c =
     let r = c .before .before .before .before .loop .inv in
     ⊎-elim
     (λ w.
-    singles-next _ _ _ _ _ _ _ _ r (c .before .before .before .loop-test .taken) (c .before .asks-v .ensures) (w .0 .taken) (w .1 .ensures) (w .4) (not-false _ (w .2 .left)) (w .3 .ensures .0) (w .3 .ensures .1))
-    (λ w. singles-period _ _ _ _ _ _ _ _ r (c .before .before .before .loop-test .taken) (c .before .asks-v .ensures) (w .3) (w .0 .left) (sym (w .1 .ensures) ∙ w .2 .left))
+    singles-next r (c .before .before .before .loop-test .taken) (c .before .asks-v .ensures) (w .0 .taken) (w .1 .ensures) (w .4) (not-false _ (w .2 .left)) (w .3 .ensures .0) (w .3 .ensures .1))
+    (λ w. singles-period r (c .before .before .before .loop-test .taken) (c .before .asks-v .ensures) (w .3) (w .0 .left) (sym (w .1 .ensures) ∙ w .2 .left))
     (c .if1 .came)
 
 returns-3 : tie.Need-returns-3 Inv-loop μ-loop
-returns-3 c = singles-over _ _ _ _ _ _ _ _ (c .before .loop .inv) (c .loop-test .left)
+returns-3 c = singles-over (c .before .loop .inv) (c .loop-test .left)
 
 pub singles-fit-spec : {M : Type 1} → statement M
 singles-fit-spec =
