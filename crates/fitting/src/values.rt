@@ -93,10 +93,15 @@ fn count_literal(v: &[u8]) -> usize
     let mut i: usize = 0;
     while i < v.len() {
         match char_at(rest(v, i)) {
-            Char::Is(_, k) => i += k,
-            Char::NoChar => i += 1,
+            Char::Is(_, k) => {
+                i += k;
+                n += 1;
+            }
+            Char::NoChar => {
+                i += 1;
+                n += 1;
+            }
         }
-        n += 1;
     }
     n
 }
@@ -104,7 +109,10 @@ fn count_literal(v: &[u8]) -> usize
 fn is_id(form: usize) -> bool
     ensures { λ r. ⌜ r ≡ isId form ⌝ }
 {
-    form == IDENTIFICATION_FORM || form == SERIES_ID_FORM
+    if form == IDENTIFICATION_FORM {
+        return true;
+    }
+    form == SERIES_ID_FORM
 }
 
 // A value without `&`, and without the spaces at its ends where the row drops them.
@@ -169,7 +177,10 @@ fn single_fits(
         if is_required(w) {
             return false;
         }
-        return !asks_scheme(w) || !is_given(pairs, 2 * (k + 1));
+        if asks_scheme(w) {
+            return !is_given(pairs, 2 * (k + 1));
+        }
+        return true;
     }
     if asks_scheme(w) {
         if !is_given(pairs, 2 * (k + 1)) {
@@ -241,11 +252,20 @@ pub(crate) fn originals_in(pairs: &[u32], rows: &[usize], row: usize, k: usize) 
 pub(crate) fn root_fits(kind: u32, text: &[u8], pairs: &[u32]) -> bool
     ensures { λ r. ⌜ r ≡ rootTold kind (now (text .entry)) (now (pairs .entry)) ⌝ }
 {
-    if is_given(pairs, 0) || is_given(pairs, 2) || !is_given(pairs, 4) {
+    if is_given(pairs, 0) {
+        return false;
+    }
+    if is_given(pairs, 2) {
+        return false;
+    }
+    if !is_given(pairs, 4) {
         return false;
     }
     let v = shown(text, pairs, 4);
-    !has_ampersand(v) && is_fixed(kind, DTD_MESSAGE, v)
+    if has_ampersand(v) {
+        return false;
+    }
+    is_fixed(kind, DTD_MESSAGE, v)
 }
 
 // The pair of TimePeriodCovered, told by its form, or that after all rows.
