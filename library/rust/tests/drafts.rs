@@ -138,6 +138,96 @@ fn values() {
     assert_eq!((draft.kind(), draft.get(HeaderValue::DocumentVersion), draft.get(HeaderValue::DocStatus)), (Kind::Kostenblatt, Some("1"), None));
 }
 
+fn escaped(text: &str) -> String {
+    let one = |c| match c {
+        '&' => "&amp;".into(),
+        '<' => "&lt;".into(),
+        '"' => "&quot;".into(),
+        '\t' | '\n' | '\r' => format!("&#{};", c as u32),
+        _ => c.to_string(),
+    };
+    text.chars().map(one).collect()
+}
+
+fn attribute(name: &str, text: Option<&str>) -> String {
+    text.map_or(String::new(), |text| format!(" {name}=\"{}\"", escaped(text)))
+}
+
+/// The elements of values that come with their names. The codingScheme of an element comes after its `v`.
+fn elements(values: &[(String, Option<&str>)]) -> String {
+    let mut all = String::new();
+    for (k, (name, v)) in values.iter().enumerate().filter(|(_, (name, _))| !name.ends_with("Scheme")) {
+        let scheme = values.get(k + 1).and_then(|(name, scheme)| scheme.filter(|_| name.ends_with("Scheme")));
+        let attributes = attribute("v", *v) + &attribute("codingScheme", scheme);
+        all += if name == "TimeInterval" { "<Period>" } else { "" };
+        all += &if attributes.is_empty() { attributes } else { format!("<{name}{attributes}/>") };
+    }
+    all
+}
+
+/// A second way to the layout, over the names of the values.
+fn laid(draft: &Draft) -> String {
+    let header: Vec<_> = HeaderValue::ALL.iter().map(|&value| (format!("{value:?}"), draft.get(value))).collect();
+    let root: String = header[..3].iter().map(|(name, text)| attribute(&name.replace("Bdew", "BDEW"), *text)).collect();
+    let (kind, series) = (draft.kind(), if draft.kind() == Kind::Kostenblatt { "CostTimeSeries" } else { "ScheduleTimeSeries" });
+    let mut document = format!("<{kind}{root}>") + &elements(&header[3..]);
+    for one in draft.series() {
+        let values: Vec<_> = SeriesValue::all(kind).iter().map(|&value| (format!("{value:?}"), one.get(value))).collect();
+        let rows: String = one.intervals().iter().map(|(pos, qty)| intervals(&[(*pos, &qty.to_string())])).collect();
+        document += &format!("<{series}>{}{rows}</Period></{series}>", elements(&values));
+    }
+    document + &format!("</{kind}>")
+}
+
+/// Whether the reader takes that layout. Then it is what is written, and else 12 is told.
+fn judged(draft: &Draft) -> bool {
+    let document = laid(draft);
+    let accepted = Desk::large().read(document.as_bytes()).is_ok();
+    assert!(if accepted { written(draft).is_ok_and(|put| put == document.as_bytes()) } else { number(draft) == 12 });
+    accepted
+}
+
+const TEXTS: [&str; 42] = [
+    "", " ", "A01", " A02 ", "A03", "A04", "A10", "A14", "A18", "A27", "NDE", "Z01", "Z02", "Z03", "Z05", "Z07", "MAW", "PT15M", "1.0", "1", " 7",
+    "007", "999", "1000", "a&b", "&#65;01", "A01\t", "\"<>'", "9900000000017", "8716867000016", "11XINVENTED----1", AREA, "C0000000017",
+    "2031-02-02T10:15:00Z", "2031-02-30T10:15:00Z", DAY, "2031-02-02T23:00Z/2031-02-03T22:45Z", "2031-02-03T23:00Z/2031-02-02T23:00Z", "\u{FFFE}",
+    "ä\u{85}", "35 characters, and not one more here", "35 characters, and not one more....",
+];
+
+/// Sheets with Originals and without.
+fn sheets() -> [String; 3] {
+    let originals = "<OriginalSenderIdentification v=\"9900000000031\" codingScheme=\"A10\"/><OriginalDocumentIdentification v=\"o\"/>\
+        <OriginalDocumentVersion v=\"7\"/><OriginalDocumentDateTime v=\"2031-01-01T00:00:00Z\"/><OriginalTimeSeriesIdentification v=\"\"/><Period>";
+    let request = request("a", DAY, 96).replace("<Period>", originals);
+    let plants =
+        placed(&plant("a", "C0000000017", &[(1, "5")]), "A01", AREA).replace("<Period>", originals) + &plant("A01", "C0000000017", &[(1, "0")]);
+    [beschaffungsanforderung(DAY, &request), kostenblatt(&plants), kostenblatt(&plant("", "C0000000017", &[(1, "7"), (96, "-0.5")]))]
+}
+
+/// Each value of a draft in turn, absent and with each of the texts.
+#[test]
+fn judged_as_the_reader_judges() {
+    let mut answers = Vec::new();
+    for sheet in sheets() {
+        for value in HeaderValue::ALL.into_iter().filter(|value| *value != HeaderValue::DocStatus) {
+            let mut draft = draft(&sheet);
+            answers.extend(TEXTS.map(|text| judged(draft.set(value, text))));
+            answers.push(judged(draft.unset(value)));
+        }
+        for &value in SeriesValue::all(draft(&sheet).kind()) {
+            let mut draft = draft(&sheet);
+            answers.extend(TEXTS.map(|text| {
+                draft.series_mut()[0].set(value, text);
+                judged(&draft)
+            }));
+            draft.series_mut()[0].unset(value);
+            answers.push(judged(&draft));
+        }
+    }
+    let accepted = answers.iter().filter(|&&accepted| accepted).count();
+    assert!(answers.len() > 4000 && accepted > 200, "{accepted} of {}", answers.len());
+}
+
 /// What is left out, what is against its form, and what the kind does not know.
 #[test]
 fn unfit_values() {
