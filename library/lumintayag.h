@@ -31,12 +31,12 @@ extern "C" {
 #endif
 
 /*
- * The version of this header, a.b.c as 10000 a + 100 b + c: 0.7.0. lumintayag_version answers that of the archive
+ * The version of this header, a.b.c as 10000 a + 100 b + c: 0.8.0. lumintayag_version answers that of the archive
  * or shared object; a program that checks that the two are equal knows that they belong together.
  * A function whose arguments, rows or cells are laid out anew gets a new name, and the old name is gone: a
  * program that knows the old layout is not linked with the new one.
  */
-#define LUMINTAYAG_VERSION 700
+#define LUMINTAYAG_VERSION 800
 uint32_t lumintayag_version(void);
 
 /* A longer document is refused with 1. */

@@ -1,7 +1,7 @@
 //! Also a part of `build.rs` and of `probe.rs`, which ask an archive whether it is the one for these declarations.
 
 /// `LUMINTAYAG_VERSION` of the header: 10000 a + 100 b + c for version a.b.c.
-pub const VERSION: u32 = 700;
+pub const VERSION: u32 = 800;
 
 extern "C" {
     /// The archive's version.
