@@ -1,3 +1,4 @@
 pub mod Alike
 pub mod Given
 pub mod Amounts
+pub mod Promises
