@@ -7,7 +7,6 @@ use guideline::rows_of;
 use rows::every_series_fits;
 use rows::is_count_lent;
 use times::Interval;
-use times::quarter_hours;
 use values::are_texts;
 use values::covered;
 use values::root_fits;

@@ -98,7 +98,11 @@ fn count_fits(kind: u32, quarters: u32, n: u32) -> bool
     if !takes_another(kind, n as usize - 1) {
         return false;
     }
-    if kind_at(kind).full { n == quarters } else { true }
+    if kind_at(kind).full {
+        n == quarters
+    } else {
+        true
+    }
 }
 
 // Whether the rows of a series are all in both tables.

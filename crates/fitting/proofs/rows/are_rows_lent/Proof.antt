@@ -1,7 +1,6 @@
 use borrow.Author.Tests.{le-leb, lt-leb}
 use Rattle.fitting.specs.Told.{rowsLent}
 use borrow.Author.Needs.{needs}
-use borrow.Author.Needs.{needs}
 use Rattle.fitting.proofs.rows.are_rows_lent.Statement.{statement}
 use Rattle.fitting.proofs.rows.are_rows_lent.Tie as tie
 use Rattle.fitting.proofs.rows.are_rows_lent.Reads as reads

@@ -4,7 +4,6 @@ use Rattle.guideline.specs.declared.Kind.{Kind}
 use Rattle.fitting.specs.Told.{countTold}
 use Rattle.fitting.proofs.Series.{one-more}
 use borrow.Author.Needs.{needs}
-use borrow.Author.Needs.{needs}
 use Rattle.fitting.proofs.rows.count_fits.Statement.{statement}
 use Rattle.fitting.proofs.rows.count_fits.Tie as tie
 use Rattle.fitting.proofs.rows.count_fits.Reads as reads

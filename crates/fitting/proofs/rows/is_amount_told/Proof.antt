@@ -2,7 +2,6 @@ use mathlib.Core.Path.{_∙_}
 use mir.Facts.{toZ-ofZ}
 use Rattle.fitting.proofs.Series.{amount-above, amount-below}
 use borrow.Author.Needs.{needs}
-use borrow.Author.Needs.{needs}
 use Rattle.fitting.proofs.rows.is_amount_told.Statement.{statement}
 use Rattle.fitting.proofs.rows.is_amount_told.Tie as tie
 use Rattle.fitting.proofs.rows.is_amount_told.Reads as reads

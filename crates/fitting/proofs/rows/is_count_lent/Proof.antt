@@ -2,7 +2,6 @@ use mathlib.Core.Path.{refl, sym}
 use borrow.Author.Tests.{le-leb, lt-leb}
 use Rattle.fitting.specs.Told.{countLent}
 use borrow.Author.Needs.{needs}
-use borrow.Author.Needs.{needs}
 use Rattle.fitting.proofs.rows.is_count_lent.Statement.{statement}
 use Rattle.fitting.proofs.rows.is_count_lent.Tie as tie
 use Rattle.fitting.proofs.rows.is_count_lent.Reads as reads

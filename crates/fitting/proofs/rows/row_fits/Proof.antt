@@ -3,7 +3,6 @@ use borrow.Author.Tests.{le-leb, lt-leb, not-true, not-false}
 use mir.Facts.{toZ-ofZ}
 use Rattle.fitting.specs.Told.{rowTold}
 use borrow.Author.Needs.{needs}
-use borrow.Author.Needs.{needs}
 use Rattle.fitting.proofs.rows.row_fits.Statement.{statement}
 use Rattle.fitting.proofs.rows.row_fits.Tie as tie
 use Rattle.fitting.proofs.rows.row_fits.Reads as reads
