@@ -6,22 +6,23 @@ use mathlib.Core.Bool.{Bool, true, false, cond, _&&_}
 use mathlib.Core.Logic.{⊎-elim}
 use native.Mathlib.Omega.{arith}
 use native.Mathlib.Numerals.{add-one}
-use lib.Dec.{eqb, ltb}
+use lib.Dec.{eqb}
 use lib.IntN.{ℤ, pos, negsuc}
-use lib.ListN.{getD}
+use lib.ListN.{length, getD, drop}
 use lib.Signed.{ltZ}
 use borrow.Author.Tests.{eq-eqb, ne-eqb, le-ltb, lt-ltb, ltb-true, ltb-false}
 use Rattle.lists.proofs.Cases.{ltb-cases, by-cond, never}
 use Rattle.slices.specs.Same.{same}
 use Rattle.slices.specs.Part.{partOf}
 use Rattle.columns.specs.Columns.{seriesRole}
+use Rattle.times.specs.Periods.{quarterHours}
 use Rattle.series.specs.Row.{fieldAt}
 use Rattle.series.specs.declared.Field.the-variants.{FirstRow, Count}
 use Rattle.guideline.specs.Kinds.{takesAnother, withinMost}
 use Rattle.views.specs.Layout.{headerPairs, seriesPairs, cellOf}
 use Rattle.views.specs.Shown.{pairView}
 use Rattle.drafts.specs.Draft.{roleRow}
-use Rattle.fitting.specs.Told.{amountTold, fiveOrNone, rowTold, rowsTold, idOf, usedBefore, seriesTold, everyTold}
+use Rattle.fitting.specs.Told.{singlesTold, originalsTold, amountTold, rowTold, rowsTold, countTold, rowsLent, fiveOrNone, idOf, usedBefore, seriesTold, everyTold}
 
 -- ---- an amount
 
@@ -40,17 +41,6 @@ amount-below (negsuc n) e = let h = ltb-false n 999999999999999 e in sym (le-ltb
 pub one-more : (kind n : ℕ) → (n ≡ 0 → ⊥) → {r : Bool} → r ≡ takesAnother kind (n - 1) → r ≡ withinMost kind n
 unfolding takesAnother
 one-more kind n d e = let m : suc (n - 1) ≡ n = omega (arith, d) in rw m at e
-
--- ---- how many Original elements there are
-
-module _ {m n : ℕ} (e : m ≡ n) where
-  pub no-originals : m ≡ 0 → fiveOrNone n ≡ true
-  unfolding fiveOrNone
-  no-originals z = rw (eq-eqb n 0 (sym e ∙ z)) refl
-
-  pub told-five : (m ≡ 0 → ⊥) → eqb m 5 ≡ fiveOrNone n
-  unfolding fiveOrNone
-  told-five d = rw (sym e, ne-eqb m 0 d) refl
 
 -- ---- the rows of a series
 
@@ -83,6 +73,44 @@ module _ {kind quarters : ℕ} {positions : List ℕ} {amounts : List ℤ} {firs
 
       pub rowing-next : r ≡ true → Rowing kind quarters positions amounts first count p (j + 1)
       rowing-next t = record { left = rw (ep, add-one j) (rw (sym row-is ∙ t) at one-row) }
+
+-- ---- a series
+
+module _ (kind from to : ℕ) (text pairs rows : List ℕ) (row k first count : ℕ) (positions : List ℕ) (amounts : List ℤ) where
+  module _ {l : Bool} (el : l ≡ rowsLent first count (length positions) (length amounts)) where
+    pub rows-missing : l ≡ false → false ≡ seriesTold kind from to text pairs rows row k first count positions amounts
+    unfolding seriesTold
+    rows-missing tl = rw (sym el ∙ tl) refl
+
+    module _ (tl : l ≡ true) {quarters : ℕ} {c : Bool} (eq : quarters ≡ quarterHours from to) (ec : c ≡ countTold kind quarters count) where
+      count-is : c ≡ countTold kind (quarterHours from to) count
+      count-is = rw eq at ec
+
+      pub count-unfit : c ≡ false → false ≡ seriesTold kind from to text pairs rows row k first count positions amounts
+      unfolding seriesTold
+      count-unfit tc = rw (sym el ∙ tl, sym count-is ∙ tc) refl
+
+      module _ (tc : c ≡ true) {s : Bool} (es : s ≡ singlesTold kind from to text pairs k (drop row rows)) where
+        pub single-unfit : s ≡ false → false ≡ seriesTold kind from to text pairs rows row k first count positions amounts
+        unfolding seriesTold
+        single-unfit ts = rw (sym el ∙ tl, sym count-is ∙ tc, sym es ∙ ts) refl
+
+        module _ (ts : s ≡ true) {o : ℕ} (eo : o ≡ originalsTold pairs k (drop row rows)) where
+          pub originals-unfit : (o ≡ 0 → ⊥) → eqb o 5 ≡ false → false ≡ seriesTold kind from to text pairs rows row k first count positions amounts
+          unfolding seriesTold fiveOrNone
+          originals-unfit d z = rw (sym el ∙ tl, sym count-is ∙ tc, sym es ∙ ts, sym eo, ne-eqb o 0 d, z) refl
+
+          module _ {r : Bool} (er : r ≡ rowsTold kind quarters positions amounts 0 first count) where
+            rows-are : r ≡ rowsTold kind (quarterHours from to) positions amounts 0 first count
+            rows-are = rw eq at er
+
+            pub without-originals : o ≡ 0 → r ≡ seriesTold kind from to text pairs rows row k first count positions amounts
+            unfolding seriesTold fiveOrNone
+            without-originals z = rw (sym el ∙ tl, sym count-is ∙ tc, sym es ∙ ts, sym eo, eq-eqb o 0 z) rows-are
+
+            pub with-originals : (o ≡ 0 → ⊥) → eqb o 5 ≡ true → r ≡ seriesTold kind from to text pairs rows row k first count positions amounts
+            unfolding seriesTold fiveOrNone
+            with-originals d z = rw (sym el ∙ tl, sym count-is ∙ tc, sym es ∙ ts, sym eo, ne-eqb o 0 d, z) rows-are
 
 -- ---- an identification that was used before
 

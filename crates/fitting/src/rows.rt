@@ -18,7 +18,7 @@ use tables::amount_at;
 use tables::number_at;
 use times::quarter_hours;
 ghost use mathlib.Core.Path.{_≡_};
-ghost use Prim.Native.Nat.{_+_, _*_, _≤_};
+ghost use Prim.Native.Nat.{_≤_};
 ghost use lib.ListN.{length};
 ghost use Rattle.fitting.specs.Told.{countLent, amountTold, rowTold, rowsTold, countTold, rowsLent, seriesTold, usedBefore, everyTold};
 

@@ -1,8 +1,6 @@
-use mathlib.Core.Path.{refl, sym, _∙_}
 use mathlib.Core.Logic.{⊎-elim}
 use borrow.Author.Tests.{not-true, not-false}
-use Rattle.fitting.specs.Told.{seriesTold}
-use Rattle.fitting.proofs.Series.{no-originals, told-five}
+use Rattle.fitting.proofs.Series.{rows-missing, count-unfit, single-unfit, originals-unfit, with-originals, without-originals}
 use borrow.Author.Needs.{needs}
 use Rattle.fitting.proofs.rows.series_fits.Statement.{statement}
 use Rattle.fitting.proofs.rows.series_fits.Tie as tie
@@ -19,8 +17,7 @@ are-rows-lent-requires : tie.Need-are-rows-lent-requires
 are-rows-lent-requires c κs = search needs
 
 returns : tie.Need-returns
-unfolding seriesTold
-returns c = rw (sym (c .before .are-rows-lent .ensures) ∙ not-true _ (c .if1 .taken)) refl
+returns c = rows-missing _ _ _ _ _ _ _ _ _ _ _ _ (c .before .are-rows-lent .ensures) (not-true _ (c .if1 .taken))
 
 quarter-hours-requires : tie.Need-quarter-hours-requires
 quarter-hours-requires c κs = search needs
@@ -29,36 +26,29 @@ count-fits-requires : tie.Need-count-fits-requires
 count-fits-requires c κs = search needs
 
 returns-2 : tie.Need-returns-2
-unfolding seriesTold
-returns-2 c = rw (sym (c .before .before .before .before .are-rows-lent .ensures) ∙ not-false _ (c .before .before .before .if1 .left), sym (rw (c .before .before .quarter-hours .ensures) at (c .before .count-fits .ensures)) ∙ not-true _ (c .if2 .taken)) refl
+returns-2 c = count-unfit _ _ _ _ _ _ _ _ _ _ _ _ (c .before .before .before .before .are-rows-lent .ensures) (not-false _ (c .before .before .before .if1 .left)) (c .before .before .quarter-hours .ensures) (c .before .count-fits .ensures) (not-true _ (c .if2 .taken))
 
 singles-fit-requires : tie.Need-singles-fit-requires
 singles-fit-requires c κs = search needs
 
 returns-3 : tie.Need-returns-3
-unfolding seriesTold
-returns-3 c = rw (sym (c .before .before .before .before .before .before .are-rows-lent .ensures) ∙ not-false _ (c .before .before .before .before .before .if1 .left), sym (rw (c .before .before .before .before .quarter-hours .ensures) at (c .before .before .before .count-fits .ensures)) ∙ not-false _ (c .before .before .if2 .left), sym (c .before .singles-fit .ensures) ∙ not-true _ (c .if3 .taken)) refl
+returns-3 c = single-unfit _ _ _ _ _ _ _ _ _ _ _ _ (c .before .before .before .before .before .before .are-rows-lent .ensures) (not-false _ (c .before .before .before .before .before .if1 .left)) (c .before .before .before .before .quarter-hours .ensures) (c .before .before .before .count-fits .ensures) (not-false _ (c .before .before .if2 .left)) (c .before .singles-fit .ensures) (not-true _ (c .if3 .taken))
 
 originals-in-requires : tie.Need-originals-in-requires
 originals-in-requires c κs = search needs
 
 returns-4 : tie.Need-returns-4
-unfolding seriesTold
-returns-4 c = rw (sym (c .before .before .before .before .before .before .before .before .before .are-rows-lent .ensures) ∙ not-false _ (c .before .before .before .before .before .before .before .before .if1 .left), sym (rw (c .before .before .before .before .before .before .before .quarter-hours .ensures) at (c .before .before .before .before .before .before .count-fits .ensures)) ∙ not-false _ (c .before .before .before .before .before .if2 .left), sym (c .before .before .before .before .singles-fit .ensures) ∙ not-false _ (c .before .before .before .if3 .left), sym (told-five (c .before .before .originals-in .ensures) (c .before .if4 .taken)) ∙ not-true _ (c .if5 .taken)) refl
+returns-4 c = originals-unfit _ _ _ _ _ _ _ _ _ _ _ _ (c .before .before .before .before .before .before .before .before .before .are-rows-lent .ensures) (not-false _ (c .before .before .before .before .before .before .before .before .if1 .left)) (c .before .before .before .before .before .before .before .quarter-hours .ensures) (c .before .before .before .before .before .before .count-fits .ensures) (not-false _ (c .before .before .before .before .before .if2 .left)) (c .before .before .before .before .singles-fit .ensures) (not-false _ (c .before .before .before .if3 .left)) (c .before .before .originals-in .ensures) (c .before .if4 .taken) (not-true _ (c .if5 .taken))
 
 rows-fit-requires : tie.Need-rows-fit-requires
 rows-fit-requires c κs = search needs
 
 returns-5 : tie.Need-returns-5
-unfolding seriesTold
 returns-5 c =
-    let o = (c .before .before .originals-in .ensures) in
-    let five =
     ⊎-elim
-    (λ w. sym (told-five o (w .0 .taken)) ∙ not-false _ (w .1 .left))
-    (λ w. no-originals o (w .left))
-    (c .before .if4 .came) in
-    rw (sym (c .before .before .before .before .before .before .before .before .before .are-rows-lent .ensures) ∙ not-false _ (c .before .before .before .before .before .before .before .before .if1 .left), sym (rw (c .before .before .before .before .before .before .before .quarter-hours .ensures) at (c .before .before .before .before .before .before .count-fits .ensures)) ∙ not-false _ (c .before .before .before .before .before .if2 .left), sym (c .before .before .before .before .singles-fit .ensures) ∙ not-false _ (c .before .before .before .if3 .left), five) (rw (c .before .before .before .before .before .before .before .quarter-hours .ensures) at (c .rows-fit .ensures))
+    (λ w. with-originals _ _ _ _ _ _ _ _ _ _ _ _ (c .before .before .before .before .before .before .before .before .before .are-rows-lent .ensures) (not-false _ (c .before .before .before .before .before .before .before .before .if1 .left)) (c .before .before .before .before .before .before .before .quarter-hours .ensures) (c .before .before .before .before .before .before .count-fits .ensures) (not-false _ (c .before .before .before .before .before .if2 .left)) (c .before .before .before .before .singles-fit .ensures) (not-false _ (c .before .before .before .if3 .left)) (c .before .before .originals-in .ensures) (c .rows-fit .ensures) (w .0 .taken) (not-false _ (w .1 .left)))
+    (λ w. without-originals _ _ _ _ _ _ _ _ _ _ _ _ (c .before .before .before .before .before .before .before .before .before .are-rows-lent .ensures) (not-false _ (c .before .before .before .before .before .before .before .before .if1 .left)) (c .before .before .before .before .before .before .before .quarter-hours .ensures) (c .before .before .before .before .before .before .count-fits .ensures) (not-false _ (c .before .before .before .before .before .if2 .left)) (c .before .before .before .before .singles-fit .ensures) (not-false _ (c .before .before .before .if3 .left)) (c .before .before .originals-in .ensures) (c .rows-fit .ensures) (w .left))
+    (c .before .if4 .came)
 
 pub series-fits-spec : {M : Type 1} → statement M
 series-fits-spec =
