@@ -1,1 +1,4 @@
 pub mod Judging
+pub mod Exactly
+pub mod Loops
+pub mod Whole

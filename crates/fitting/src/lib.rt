@@ -7,7 +7,6 @@ use guideline::rows_of;
 use rows::every_series_fits;
 use rows::is_count_lent;
 use times::Interval;
-use times::quarter_hours;
 use values::are_texts;
 use values::covered;
 use values::root_fits;
@@ -15,7 +14,7 @@ use values::singles_fit;
 ghost use mathlib.Core.Path.{_≡_};
 ghost use Prim.Native.Nat.{_≤_};
 ghost use lib.ListN.{length};
-ghost use Rattle.fitting.specs.Told.{sheetTold, fitTold};
+ghost use Rattle.fitting.specs.Told.{sheetTold};
 ghost use Rattle.drafts.specs.Fit.{draftOf, draftFits};
 
 // The values of the header and the series, by the rows of the kind, where all of it is lent.

@@ -18,7 +18,7 @@ use tables::amount_at;
 use tables::number_at;
 use times::quarter_hours;
 ghost use mathlib.Core.Path.{_≡_};
-ghost use Prim.Native.Nat.{_+_, _*_, _≤_};
+ghost use Prim.Native.Nat.{_≤_};
 ghost use lib.ListN.{length};
 ghost use Rattle.fitting.specs.Told.{countLent, amountTold, rowTold, rowsTold, countTold, rowsLent, seriesTold, usedBefore, everyTold};
 
@@ -33,7 +33,13 @@ pub(crate) fn is_count_lent(pairs: &[u32], count: u32, series: &[u32]) -> bool
     ensures { λ r. ⌜ r ≡ countLent (length (now (pairs .entry))) count (length (now (series .entry))) ⌝ }
 {
     let n = count as usize;
-    1 <= n && 2 * (HEADER_PAIRS + SERIES_PAIRS * n) <= pairs.len() && n <= rows_in(series.len())
+    if n < 1 {
+        return false;
+    }
+    if pairs.len() < 2 * (HEADER_PAIRS + SERIES_PAIRS * n) {
+        return false;
+    }
+    n <= rows_in(series.len())
 }
 
 fn is_amount_told(a: i64) -> bool
@@ -46,7 +52,13 @@ fn is_amount_told(a: i64) -> bool
 fn row_fits(kind: u32, quarters: u32, last: u32, p: u32, a: i64) -> bool
     ensures { λ r. ⌜ r ≡ rowTold kind quarters last p a ⌝ }
 {
-    p <= MOST_POS && is_position(kind, quarters, last, p) && is_amount_told(a)
+    if MOST_POS < p {
+        return false;
+    }
+    if !is_position(kind, quarters, last, p) {
+        return false;
+    }
+    is_amount_told(a)
 }
 
 fn rows_fit(
@@ -80,10 +92,17 @@ fn count_fits(kind: u32, quarters: u32, n: u32) -> bool
     if n == 0 {
         return false;
     }
-    if !has_enough(kind, n as usize) || !takes_another(kind, n as usize - 1) {
+    if !has_enough(kind, n as usize) {
         return false;
     }
-    !kind_at(kind).full || n == quarters
+    if !takes_another(kind, n as usize - 1) {
+        return false;
+    }
+    if kind_at(kind).full {
+        n == quarters
+    } else {
+        true
+    }
 }
 
 // Whether the rows of a series are all in both tables.
