@@ -1,0 +1,4 @@
+pub mod Ampersands
+pub mod Forms
+pub mod Singles
+pub mod Value
