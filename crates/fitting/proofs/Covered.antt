@@ -1,7 +1,7 @@
 -- TimePeriodCovered, the root and the identifications of a draft. Assumes nothing.
 use Prim.Native.Nat.{ℕ, zero, suc, _+_, _*_, _≤_, _<_}
 use mathlib.Core.Path.{_≡_, refl, sym, ap, _∙_}
-use mathlib.Core.List.{List, [], _∷_, _++_, map, append-nil}
+use mathlib.Core.List.{List, [], _∷_, _++_, map, append-nil, map-append}
 use mathlib.Core.Bool.{Bool, true, false, cond, _&&_, not, and-eq-true-iff}
 use mathlib.Core.Logic.{⊎-elim}
 use native.Mathlib.Omega.{arith}
@@ -24,6 +24,7 @@ use Rattle.times.specs.Periods.{quarterHours}
 use Rattle.times.specs.declared.Interval.{Interval}
 use Rattle.times.specs.declared.Interval.the-variants.{Minutes, NotInterval}
 use Rattle.rules.specs.Rules.{judge}
+use Rattle.rules.specs.declared.Held.{Held}
 use Rattle.rules.specs.declared.Judged.{Judged}
 use Rattle.views.specs.Layout.{headerPairs, seriesPairs, valuesOf, firstPair, cellOf}
 use Rattle.views.specs.Shown.{pairView}
@@ -37,28 +38,39 @@ use Rattle.drafts.specs.Draft.{Draft, isNoPair, pairValue, singleTag, isSaid, r
 use Rattle.drafts.specs.Judged.{singlesFit}
 use Rattle.drafts.specs.Pairs.{hasPair, pairsOf}
 use Rattle.drafts.proofs.Elements.{leavesOut, singles-those}
-use Rattle.fitting.specs.Told.{hasAmpersand, saidOf, isId, textFits, singleTold, singlesTold, rootTold, coveredPair, coveredAt, coveredTold, idOf}
+use Rattle.fitting.specs.Told.{hasAmpersand, saidOf, isId, textFits, schemeTold, singleTold, singlesTold, rootTold, coveredPair, coveredAt, coveredTold, idOf}
 use Rattle.fitting.proofs.Ampersands.{true-false, plain-escaped, none-back}
 use Rattle.fitting.proofs.Forms.{period-minutes}
 use Rattle.fitting.proofs.Value.{pair-legal}
-use Rattle.fitting.proofs.Singles.{found, singles-found}
+use Rattle.fitting.proofs.Singles.{found, found-none, singles-found}
 use Rattle.fitting.proofs.Laid.{Laid, Nowhere, hasCovered, Covers, Identified, rootSaid, Rooted}
 
 -- ---- where the values of the header fit, TimePeriodCovered is an interval
 
 module _ (kind from to : ℕ) (text pairs : List ℕ) where
+  abbrev held : Held
+  held = record { kind = kind; from = from; to = to; quarters = quarterHours from to; last = 0 }
+
+  text-covered : (w : ℕ) (v : List ℕ) → formOf w ≡ periodForm → collapsed w ≡ false → textFits kind from to w v ≡ true
+      → (hasAmpersand v ≡ false) × (judge periodForm held (says v) .number ≡ 0)
+  unfolding textFits saidOf isId
+  text-covered w v f c t =
+      let u : cond (hasAmpersand v) false (eqb (judge periodForm held (says v) .number) 0) ≡ true = rw (f, c) at t in
+      let z = past-cond (hasAmpersand v) (λ e. never e) u in
+      (z .0, eqb-true (judge periodForm held (says v) .number) 0 (z .1))
+
   single-covered : (w k : ℕ) → formOf w ≡ periodForm → collapsed w ≡ false → required w ≡ true → singleTold kind from to text pairs w k ≡ true → coveredAt text pairs k ≡ NotInterval → ⊥
-  unfolding singleTold textFits saidOf isId coveredAt
-  single-covered w k f c r s n = by (hasPair pairs k) (hasAmpersand (pairView text pairs k)) refl refl
+  unfolding singleTold coveredAt
+  single-covered w k f c r s n = by (hasPair pairs k) refl
     where
-      by : (g a : Bool) → hasPair pairs k ≡ g → hasAmpersand (pairView text pairs k) ≡ a → ⊥
-      by false a x y = never (rw (x, r) at s)
-      by true a x y = past a y (and-eq-true-iff _ _ .0 (rw (x, f, c) at s) .1)
-        where
-          past : (a : Bool) → hasAmpersand (pairView text pairs k) ≡ a
-              → cond (hasAmpersand (pairView text pairs k)) false (eqb (judge periodForm (record { kind = kind; from = from; to = to; quarters = quarterHours from to; last = 0 }) (says (pairView text pairs k)) .number) 0) ≡ true → ⊥
-          past true z t = never (rw z at t)
-          past false z t = period-minutes _ (says (pairView text pairs k)) (eqb-true _ 0 (rw z at t)) (rw (x, z) at n)
+      by : (g : Bool) → hasPair pairs k ≡ g → ⊥
+      by false x = never (rw (x, r) at s)
+      by true x =
+          let t =
+          and-eq-true-iff (cond (asksScheme w) (cond (hasPair pairs (k + 1)) (schemeTold w (pairView text pairs (k + 1))) false) true) (textFits kind from to w (pairView text pairs k)) .0
+          (rw x at s) .1 in
+          let u = text-covered w (pairView text pairs k) f c t in
+          period-minutes held (says (pairView text pairs k)) (u .1) (rw (x, u .0) at n)
 
   pub covered-fits : (ws : List ℕ) (k : ℕ) → hasCovered ws ≡ true → singlesTold kind from to text pairs k ws ≡ true → coveredAt text pairs (coveredPair k ws) ≡ NotInterval → ⊥
   unfolding hasCovered singlesTold coveredPair
@@ -181,7 +193,7 @@ covered-period d l c fits from to h =
 
 pub root-told : (d : Draft) (p : Period) → Rooted (d .kind) (rowsOf (d .kind)) → pairFits d 2 ≡ true
     → rootTold (d .kind) (d .text) (d .pairs) ≡ elementFits (d .kind) p (getD (rowsOf (d .kind)) 1 0) (rootTag d)
-unfolding rootTold rootTag rootSaid
+unfolding rootTold rootTag rootSaid given fixedFits
 root-told d p r fits =
     by (hasPair (d .pairs) 0) (hasPair (d .pairs) 1) (hasPair (d .pairs) 2) (hasAmpersand v) refl refl refl refl ∙ sym (r .fits p (pairValue d 0) (pairValue d 1) (pairValue d 2))
   where
@@ -216,23 +228,62 @@ unfoldable pub idsFrom : Draft → ℕ → ℕ → List (List ℕ)
 idsFrom d i zero = []
 idsFrom d i (suc n) = says (escaped (idOf (d .text) (d .pairs) i)) ∷ idsFrom d (suc i) n
 
-module _ (d : Draft) (p : Period) (rows : List ℕ) (l : Laid rows) (t : Identified rows) where
-  abbrev s : ℕ
-  s = suc (roleRow seriesRole rows)
+no-tag : (d : Draft) (k w : ℕ) → asksScheme w ≡ false → hasPair (d .pairs) k ≡ false → isSaid (singleTag d w k) ≡ false
+unfolding isSaid singleTag given
+no-tag d k w a x = rw (not-given d k x, a) refl
 
+module _ (d : Draft) (p : Period) (rows : List ℕ) (l : Laid rows) (t : Identified rows) where
   -- where the values of a series fit, its identification is there
-  id-there : (k : ℕ) → singlesFit d p k (drop s rows) ≡ true → hasPair (d .pairs) k ≡ true
+  id-there : (k : ℕ) → singlesFit d p k (drop (suc (roleRow seriesRole rows)) rows) ≡ true → hasPair (d .pairs) k ≡ true
   unfolding singlesFit
-  id-there k h =
-      let u : singlesFit d p k (getD rows s 0 ∷ drop (suc s) rows) ≡ true = rw (t .first) at h in
-      by (hasPair (d .pairs) k) refl u
+  id-there k h = by (hasPair (d .pairs) k) refl (rw (t .first) at h)
     where
-      by : (g : Bool) → hasPair (d .pairs) k ≡ g → singlesFit d p k (getD rows s 0 ∷ drop (suc s) rows) ≡ true → hasPair (d .pairs) k ≡ true
+      w : ℕ
+      w = getD rows (suc (roleRow seriesRole rows)) 0
+
+      by : (g : Bool) → hasPair (d .pairs) k ≡ g → singlesFit d p k (w ∷ drop (suc (suc (roleRow seriesRole rows))) rows) ≡ true → hasPair (d .pairs) k ≡ true
       by true x u = x
-      by false x u = never (rw (t .asks, unsaid x, t .must) at u)
-        where
-          unsaid : hasPair (d .pairs) k ≡ false → isSaid (singleTag d (getD rows s 0) k) ≡ false
-          unsaid x = unsaid-id k x
-            where
-              unsaid-id : (k : ℕ) → hasPair (d .pairs) k ≡ false → isSaid (singleTag d (getD rows s 0) k) ≡ false
-              unsaid-id k x = no-tag d k (getD rows s 0) (t .alone) x
+      by false x u = never (rw (t .asks, no-tag d k w (t .alone) x, t .must) at u)
+
+  one-id : (i : ℕ) → singlesFit d p (pairFor rows (suc (roleRow seriesRole rows)) i) (drop (suc (roleRow seriesRole rows)) rows) ≡ true
+      → map (λ (x : TagSaid). says (bytes (x .v))) (those (hasRole seriesIdRole) rows (singlesIn d rows (roleRow seriesRole rows) i (periodTree d rows i)))
+      ≡ says (escaped (idOf (d .text) (d .pairs) i)) ∷ []
+  unfolding singlesIn pairFor idOf
+  one-id i h =
+      let s = suc (roleRow seriesRole rows) in
+      let w = getD rows s 0 in
+      let k = firstPair rows s + seriesPairs * i in
+      let there = id-there k h in
+      let tags : those (hasRole seriesIdRole) rows (singles d s k (drop s rows) (periodTree d rows i)) ≡ singleTag d w k ∷ [] =
+      singles-found (hasRole seriesIdRole) d rows (periodTree d rows i) (drop s rows) s k refl
+      ∙ ap (λ (x : List TagSaid). found (hasRole seriesIdRole) d k (drop s rows) ++ x) (period-none (hasRole seriesIdRole) d rows (t .nowhere) i)
+      ∙ append-nil _
+      ∙ t .one d k
+      ∙ rw (said-there d k w there) refl in
+      let place : k ≡ headerPairs + seriesPairs * i = ap (λ (x : ℕ). x + seriesPairs * i) (l .series-first) in
+      ap (map (λ (x : TagSaid). says (bytes (x .v)))) tags
+      ∙ ap (λ (x : List ℕ). says x ∷ []) (bytes-there d k w there ∙ ap (λ (x : ℕ). escaped (pairView (d .text) (d .pairs) x)) place)
+
+  series-ids : (i n : ℕ)
+      → ((j : ℕ) → i ≤ j → j < i + n → singlesFit d p (pairFor rows (suc (roleRow seriesRole rows)) j) (drop (suc (roleRow seriesRole rows)) rows) ≡ true)
+      → map (λ (x : TagSaid). says (bytes (x .v))) (those (hasRole seriesIdRole) rows (seriesFrom d rows i n)) ≡ idsFrom d i n
+  unfolding seriesFrom those idsFrom
+  series-ids i zero h = refl
+  series-ids i (suc n) h =
+      let inner = singlesIn d rows (roleRow seriesRole rows) i (periodTree d rows i) in
+      rw (t .nowhere .series)
+      (map-append (λ (x : TagSaid). says (bytes (x .v))) (those (hasRole seriesIdRole) rows inner) (those (hasRole seriesIdRole) rows (seriesFrom d rows (suc i) n))
+      ∙ ap (λ (x : List (List ℕ)). x ++ map (λ (x : TagSaid). says (bytes (x .v))) (those (hasRole seriesIdRole) rows (seriesFrom d rows (suc i) n))) (one-id i (h i (omega arith) (omega arith)))
+      ∙ ap (λ (x : List (List ℕ)). says (escaped (idOf (d .text) (d .pairs) i)) ∷ x) (series-ids (suc i) n (λ j a b. h j (omega arith) (omega arith))))
+
+pub ids-said : (d : Draft) (p : Period) (l : Laid (rowsOf (d .kind))) (t : Identified (rowsOf (d .kind)))
+    → ((j : ℕ) → j < d .count
+    → singlesFit d p (pairFor (rowsOf (d .kind)) (suc (roleRow seriesRole (rowsOf (d .kind)))) j) (drop (suc (roleRow seriesRole (rowsOf (d .kind)))) (rowsOf (d .kind))) ≡ true)
+    → identifications (rowsOf (d .kind)) (draftContent d) ≡ idsFrom d 0 (d .count)
+unfolding identifications
+ids-said d p l t h =
+    let rows = rowsOf (d .kind) in
+    ap (map (λ (x : TagSaid). says (bytes (x .v))))
+    (header-those (hasRole seriesIdRole) d (t .nowhere) l
+    ∙ ap (λ (x : List TagSaid). x ++ those (hasRole seriesIdRole) rows (seriesFrom d rows 0 (d .count))) (found-none (hasRole seriesIdRole) d (drop 2 rows) 3 (t .in-header)))
+    ∙ series-ids d p rows l t 0 (d .count) (λ j a b. h j (omega arith))

@@ -1,4 +1,9 @@
 pub mod Ampersands
+pub mod Apart
+pub mod Covered
 pub mod Forms
+pub mod Laid
+pub mod Lent
+pub mod Series
 pub mod Singles
 pub mod Value

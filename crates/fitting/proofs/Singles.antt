@@ -19,6 +19,7 @@ use Rattle.drafts.specs.Draft.{Draft, isNoPair, pairValue, singleTag, isSaid, s
 use Rattle.drafts.specs.Judged.{singlesFit, originalsSaid}
 use Rattle.drafts.specs.Pairs.{hasPair, pairsOf}
 use Rattle.drafts.proofs.Writing.{row-there}
+use Rattle.drafts.proofs.Elements.{leavesOut}
 use Rattle.fitting.specs.Told.{singleTold, singlesTold, originalsTold}
 use Rattle.fitting.proofs.Ampersands.{true-false}
 use Rattle.fitting.proofs.Value.{isFine, Fine, fine, both-same, oneFits, single-told}
@@ -40,7 +41,8 @@ two-pairs w y = rw y refl
 unfoldable pub rowsFine : ℕ → ℕ → List ℕ → Bool
 rowsFine most k [] = true
 rowsFine most k (w ∷ ws) =
-    cond (asksV w) (isFine w && leb (k + valuesOf w) most && rowsFine most (k + valuesOf w) ws) (cond (eqb (roleOf w) periodRole) (rowsFine most k ws) true)
+    let rest = rowsFine most (cond (asksV w) (k + valuesOf w) k) ws in
+    cond (asksV w) (isFine w && leb (k + valuesOf w) most && rest) (cond (eqb (roleOf w) periodRole) rest true)
 
 pub record RowFine (most k w : ℕ) (ws : List ℕ) : Type 0 where
   pub here : Fine w
@@ -224,3 +226,13 @@ singles-found test d rows behind (w ∷ ws) q k e =
     by true false true x y z ih = rw (x, y, z, here, y) ih
     by true true false x y z ih = rw (x, y, z) ih
     by true false false x y z ih = rw (x, y, z) ih
+
+pub found-none : (test : ℕ → Bool) (d : Draft) (ws : List ℕ) (k : ℕ) → leavesOut test ws ≡ true → found test d k ws ≡ []
+unfolding found leavesOut
+found-none test d [] k h = refl
+found-none test d (w ∷ ws) k h = by (asksV w) (test w) refl refl (found-none test d ws (k + valuesOf w))
+  where
+    by : (a t : Bool) → asksV w ≡ a → test w ≡ t → (leavesOut test ws ≡ true → found test d (k + valuesOf w) ws ≡ []) → found test d k (w ∷ ws) ≡ []
+    by false t x y ih = rw x refl
+    by true true x y ih = never (rw (x, y) at h)
+    by true false x y ih = rw (x, y) (ih (rw (x, y) at h))
