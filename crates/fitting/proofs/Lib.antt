@@ -1,6 +1,7 @@
 pub mod Ampersands
 pub mod Apart
 pub mod Covered
+pub mod Exactly
 pub mod Forms
 pub mod Laid
 pub mod Lent
