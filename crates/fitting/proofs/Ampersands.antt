@@ -1,17 +1,17 @@
 -- A text without `&` says its own characters, and one with an `&` has it among its characters. Assumes nothing.
-use Prim.Native.Nat.{ℕ, zero, suc, pred, _+_, _/_, _%_, _≤_, _<_}
+use Prim.Native.Nat.{ℕ, zero, suc, pred, _+_, _/_, _%_, _≤_}
 use Prim.Native.Char.{code}
 use mathlib.Core.Path.{_≡_, refl, sym, ap, _∙_}
 use mathlib.Core.List.{List, [], _∷_, _++_}
-use mathlib.Core.Bool.{Bool, true, false, cond}
+use mathlib.Core.Bool.{Bool, true, false, not}
 use mathlib.Core.Logic.{⊎-elim}
 use native.Mathlib.Omega.{arith}
 use lib.Dec.{eqb}
 use borrow.Author.Tests.{eqb-false, ne-eqb}
-use Rattle.lists.proofs.Cases.{bool-cases, eqb-cases, never, past-cond}
+use Rattle.lists.proofs.Cases.{eqb-cases, never, past-cond}
 use Rattle.slices.specs.Bytes.{byte}
 use Rattle.characters.specs.Utf8.{charAt}
-use Rattle.characters.specs.Says.{allChars, standing, met, charOf, saidBy, saidAt, saysAfter, says}
+use Rattle.characters.specs.Says.{allChars, charOf, saidBy, saidAt, saysAfter, says}
 use Rattle.characters.specs.declared.Char.{Char}
 use Rattle.characters.specs.declared.Char.the-variants.{Is, NoChar}
 use Rattle.characters.proofs.Saying.{said-some}
@@ -26,6 +26,10 @@ use Rattle.fitting.specs.Told.{hasAmpersand}
 
 pub true-false : {A : Type 0} → _≡_ {A = Bool} true false → A
 true-false e = never (sym e)
+
+pub not-true : (b : Bool) → not b ≡ true → b ≡ false
+not-true true h = never h
+not-true false h = refl
 
 -- ---- what stands in front
 

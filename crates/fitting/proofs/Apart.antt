@@ -1,12 +1,12 @@
 -- No identification of a draft is used before exactly where no two of them say the same. Assumes nothing.
-use Prim.Native.Nat.{ℕ, zero, suc, _+_, _*_, _≤_, _<_}
+use Prim.Native.Nat.{ℕ, zero, suc, _+_, _≤_, _<_}
 use mathlib.Core.Path.{_≡_, refl, sym, ap, _∙_}
-use mathlib.Core.List.{List, [], _∷_}
-use mathlib.Core.Bool.{Bool, true, false, cond, _&&_, not, and-eq-true-iff}
+use mathlib.Core.List.{List}
+use mathlib.Core.Bool.{Bool, true, false, _&&_, not, and-eq-true-iff}
 use mathlib.Core.Logic.{⊎-elim}
 use native.Mathlib.Omega.{arith}
-use lib.Dec.{eqb, ltb}
-use Rattle.lists.proofs.Cases.{bool-cases, eqb-cases, ltb-cases, past-cond, never}
+use lib.Dec.{eqb}
+use Rattle.lists.proofs.Cases.{eqb-cases, past-cond}
 use Rattle.slices.specs.Same.{same}
 use Rattle.slices.proofs.Sames.{same-self, same-equal, same-comm}
 use Rattle.characters.specs.Says.{allChars, says}
@@ -17,7 +17,7 @@ use Rattle.escapes.proofs.Promises.{unescaped-escaped}
 use Rattle.drafts.specs.Draft.{Draft}
 use Rattle.drafts.specs.Judged.{allApart}
 use Rattle.fitting.specs.Told.{idOf, usedBefore}
-use Rattle.fitting.proofs.Ampersands.{true-false}
+use Rattle.fitting.proofs.Ampersands.{true-false, not-true}
 use Rattle.fitting.proofs.Covered.{idsFrom}
 
 -- two tests that imply each other are one
@@ -25,13 +25,6 @@ pub both-ways : (a b : Bool) → (a ≡ true → b ≡ true) → (b ≡ true →
 both-ways true b f g = sym (f refl)
 both-ways false true f g = g refl
 both-ways false false f g = refl
-
-free : (b : Bool) → not b ≡ true → b ≡ false
-free true h = never h
-free false h = refl
-
-pub later : (i j : ℕ) → i ≤ j → (j ≡ i → ⊥) → suc i ≤ j
-later i j l n = ⊎-elim (λ (c : (i < j) × (ltb i j ≡ true)). c .0) (λ (c : (j ≤ i) × (ltb i j ≡ false)). let m = c .0 in absurd (n (omega (arith, l, m)))) (ltb-cases i j)
 
 -- two texts are the same exactly where they say the same
 same-said : (t u : List ℕ) → allChars t ≡ true → allChars u ≡ true → same (says (escaped t)) (says (escaped u)) ≡ same t u
@@ -54,7 +47,7 @@ module _ (text pairs : List ℕ) where
       let t = past-cond (alike i n) (λ z. true-false z) h in
       ⊎-elim
       (λ (y : (j ≡ n) × (eqb j n ≡ true)). ap (alike i) (y .0) ∙ t .0)
-      (λ (y : (j ≡ n → ⊥) × (eqb j n ≡ false)). let g = later j n (omega arith) (λ z. y .0 (sym z)) in used-none i n (t .1) j (omega (arith, g)))
+      (λ (y : (j ≡ n → ⊥) × (eqb j n ≡ false)). let g = y .0 in used-none i n (t .1) j (omega (arith, g)))
       (eqb-cases j n)
 
   none-used : (i n : ℕ) → ((j : ℕ) → j < n → alike i j ≡ false) → usedBefore text pairs i n ≡ false
@@ -73,8 +66,8 @@ module _ (text pairs : List ℕ) where
   fresh-told i (suc n) h b l m a k =
       let t = and-eq-true-iff (not (usedBefore text pairs i i)) (freshFrom (suc i) n) .0 h in
       ⊎-elim
-      (λ (y : (b ≡ i) × (eqb b i ≡ true)). let e = y .0 in ap (λ (x : ℕ). alike x a) e ∙ used-none i i (free (usedBefore text pairs i i) (t .0)) a (omega (arith, e, k)))
-      (λ (y : (b ≡ i → ⊥) × (eqb b i ≡ false)). fresh-told (suc i) n (t .1) b (later i b l (y .0)) (omega arith) a k)
+      (λ (y : (b ≡ i) × (eqb b i ≡ true)). let e = y .0 in ap (λ (x : ℕ). alike x a) e ∙ used-none i i (not-true (usedBefore text pairs i i) (t .0)) a (omega (arith, e, k)))
+      (λ (y : (b ≡ i → ⊥) × (eqb b i ≡ false)). fresh-told (suc i) n (t .1) b (let g = y .0 in omega (arith, g)) (omega arith) a k)
       (eqb-cases b i)
 
   told-fresh : (i n : ℕ) → ((b : ℕ) → i ≤ b → b < i + n → (a : ℕ) → a < b → alike b a ≡ false) → freshFrom i n ≡ true
@@ -94,7 +87,7 @@ module _ (d : Draft) (count : ℕ) (legal : (j : ℕ) → j < count → allChars
       let t = past-cond (same (says (escaped (id a))) (says (escaped (id i)))) (λ z. true-false z) h in
       ⊎-elim
       (λ (y : (b ≡ i) × (eqb b i ≡ true)). ap (λ (x : ℕ). same (id a) (id x)) (y .0) ∙ sym (same-said (id a) (id i) (legal a la) (legal i (omega arith))) ∙ t .0)
-      (λ (y : (b ≡ i → ⊥) × (eqb b i ≡ false)). among-told a (suc i) n la (omega arith) (t .1) b (later i b l (y .0)) (omega arith))
+      (λ (y : (b ≡ i → ⊥) × (eqb b i ≡ false)). among-told a (suc i) n la (omega arith) (t .1) b (let g = y .0 in omega (arith, g)) (omega arith))
       (eqb-cases b i)
 
   told-among : (a i n : ℕ) → a < count → i + n ≤ count → ((b : ℕ) → i ≤ b → b < i + n → same (id a) (id b) ≡ false) → isAmong (says (escaped (id a))) (idsFrom d i n) ≡ false
@@ -112,8 +105,8 @@ module _ (d : Draft) (count : ℕ) (legal : (j : ℕ) → j < count → allChars
       ⊎-elim
       (λ (y : (a ≡ i) × (eqb a i ≡ true)).
       let e = y .0 in
-      ap (λ (x : ℕ). same (id x) (id b)) e ∙ among-told i (suc i) n (omega arith) (omega arith) (free (isAmong (says (escaped (id i))) (idsFrom d (suc i) n)) (t .0)) b (omega (arith, e, k)) (omega arith))
-      (λ (y : (a ≡ i → ⊥) × (eqb a i ≡ false)). apart-told (suc i) n (omega arith) (t .1) a (later i a l (y .0)) b k (omega arith))
+      ap (λ (x : ℕ). same (id x) (id b)) e ∙ among-told i (suc i) n (omega arith) (omega arith) (not-true (isAmong (says (escaped (id i))) (idsFrom d (suc i) n)) (t .0)) b (omega (arith, e, k)) (omega arith))
+      (λ (y : (a ≡ i → ⊥) × (eqb a i ≡ false)). apart-told (suc i) n (omega arith) (t .1) a (let g = y .0 in omega (arith, g)) b k (omega arith))
       (eqb-cases a i)
 
   told-apart : (i n : ℕ) → i + n ≤ count → ((a : ℕ) → i ≤ a → (b : ℕ) → a < b → b < i + n → same (id a) (id b) ≡ false) → allApart (idsFrom d i n) ≡ true

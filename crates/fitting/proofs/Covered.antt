@@ -6,7 +6,7 @@ use mathlib.Core.Bool.{Bool, true, false, cond, _&&_, not, and-eq-true-iff}
 use mathlib.Core.Logic.{⊎-elim}
 use native.Mathlib.Omega.{arith}
 use lib.Dec.{eqb}
-use lib.ListN.{length, drop, getD}
+use lib.ListN.{drop, getD}
 use borrow.Author.Tests.{eqb-true}
 use Rattle.lists.proofs.Cases.{bool-cases, past-cond, zero-not-one, never}
 use Rattle.slices.specs.Same.{same}
@@ -21,15 +21,12 @@ use Rattle.series.specs.Row.{fieldAt}
 use Rattle.series.specs.declared.Field.the-variants.{FirstRow, Count}
 use Rattle.times.specs.Times.{interval}
 use Rattle.times.specs.Periods.{quarterHours}
-use Rattle.times.specs.declared.Interval.{Interval}
 use Rattle.times.specs.declared.Interval.the-variants.{Minutes, NotInterval}
 use Rattle.rules.specs.Rules.{judge}
 use Rattle.rules.specs.declared.Held.{Held}
-use Rattle.rules.specs.declared.Judged.{Judged}
-use Rattle.views.specs.Layout.{headerPairs, seriesPairs, valuesOf, firstPair, cellOf}
+use Rattle.views.specs.Layout.{headerPairs, seriesPairs, firstPair, cellOf}
 use Rattle.views.specs.Shown.{pairView}
-use Rattle.trees.specs.Trees.{Trees, none, element}
-use Rattle.contents.specs.Said.{AttributeValue, Absent, Given, TagSaid, given, bytes}
+use Rattle.contents.specs.Said.{Absent, Given, TagSaid, given, bytes}
 use Rattle.contents.specs.Legal.{hasRole, hasForm, those, Period, periodBy, periodIn, periodOf, fixedFits, elementFits, identifications}
 use Rattle.escapes.specs.Escaped.{escaped}
 use Rattle.escapes.specs.Spelled.{charsOf}

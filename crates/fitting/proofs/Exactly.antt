@@ -1,36 +1,34 @@
 -- A draft is told fit exactly where it is lent and its content is legal. Assumes nothing.
 --     told-exactly   how the code tells it is what the contract says
 --     fits-exactly   which is that all is lent, by `Lent`, and that the content is legal, by `Legal`
-use Prim.Native.Nat.{ℕ, zero, suc, _+_, _*_, _≤_, _<_}
+use Prim.Native.Nat.{ℕ, _+_, _*_, _<_}
 use mathlib.Core.Path.{_≡_, refl, sym, ap, _∙_, subst}
-use mathlib.Core.List.{List, [], _∷_}
+use mathlib.Core.List.{List}
 use mathlib.Core.Bool.{Bool, true, false, cond, _&&_, and-eq-true-iff}
 use native.Mathlib.Omega.{arith}
-use lib.Dec.{eqb, leb}
+use lib.Dec.{leb}
 use lib.IntN.{ℤ}
 use lib.ListN.{length, drop, getD}
 use Rattle.lists.proofs.Cases.{both-true, never}
 use Rattle.characters.specs.Says.{allChars}
-use Rattle.columns.specs.Columns.{seriesRole}
 use Rattle.guideline.specs.Rows.{rowsOf}
 use Rattle.times.specs.declared.Interval.{Interval}
 use Rattle.times.specs.declared.Interval.the-variants.{Minutes, NotInterval}
-use Rattle.series.specs.Row.{cellsOf, roomFor}
 use Rattle.views.specs.Layout.{headerPairs, seriesPairs, firstPair, cellOf}
 use Rattle.contents.specs.Legal.{Period, periodOf, elementFits, identifications, Legal}
-use Rattle.drafts.specs.Draft.{Draft, rootTag, roleRow, pairFor, draftContent, pairFits, Lent}
+use Rattle.drafts.specs.Draft.{Draft, rootTag, pairFor, draftContent, pairFits, Lent}
 use Rattle.drafts.specs.Judged.{singlesFit, everySeries, allApart, draftLegal}
-use Rattle.drafts.proofs.Legal.{tags-fit, Series, every-told as each-series}
+use Rattle.drafts.proofs.Legal.{tags-fit, every-told as each-series}
 use Rattle.drafts.proofs.Promises.{fit-exactly}
 use Rattle.fitting.specs.Fit.{draftOf, isWritten, pairsFit, rowsFit, isLent, draftFits}
 use Rattle.fitting.specs.Told.{textsTold, singlesTold, rootTold, coveredPair, coveredAt, coveredTold, idOf, everyTold, countLent, sheetBy, sheetTold, fitTold}
 use Rattle.fitting.proofs.Value.{pair-legal}
 use Rattle.fitting.proofs.Singles.{through-told, through-once}
 use Rattle.fitting.proofs.Laid.{Sheet, sheet}
-use Rattle.fitting.proofs.Covered.{covered-fits, covered-period, root-told, idsFrom, ids-said}
+use Rattle.fitting.proofs.Covered.{covered-fits, covered-period, root-told, ids-said}
 use Rattle.fitting.proofs.Apart.{both-ways, freshFrom, fresh-apart}
 use Rattle.fitting.proofs.Series.{every-told}
-use Rattle.fitting.proofs.Lent.{both-so, texts-told, pairs-each, LentParts, lent-parts, parts-lent, lent-exactly, room-told}
+use Rattle.fitting.proofs.Lent.{both-so, texts-told, pairs-each, lent-parts, parts-lent, lent-exactly, room-told}
 
 -- ---- where each pair that is counted fits
 
@@ -173,9 +171,9 @@ module _ (d : Draft) where
   unfolding draftFits
   fits-exactly = (
     λ h.
-    let a = and-eq-true-iff (isLent d) (draftLegal d) .0 h in
-    let l = lent-exactly d .0 (a .0) in
-    (l, fit-exactly d (l .kind) .0 (a .1)),
+        let a = and-eq-true-iff (isLent d) (draftLegal d) .0 h in
+        let l = lent-exactly d .0 (a .0) in
+        (l, fit-exactly d (l .kind) .0 (a .1)),
     λ w. both-so (isLent d) (draftLegal d) (lent-exactly d .1 (w .0)) (fit-exactly d (w .0 .kind) .1 (w .1)),
   )
 

@@ -3,7 +3,7 @@ use Prim.Native.Nat.{ℕ, zero, suc, _-_, _≤_, _<_}
 use mathlib.Core.Path.{_≡_, refl, sym, ap, _∙_}
 use mathlib.Core.List.{List, [], _∷_, _++_, map}
 use mathlib.Core.Bool.{Bool, true, false, cond, _&&_, not, and-eq-true-iff}
-use mathlib.Core.Logic.{_⊎_, inl, inr, ⊎-elim}
+use mathlib.Core.Logic.{_⊎_, ⊎-elim}
 use native.Mathlib.Omega.{arith}
 use lib.Dec.{eqb, leb}
 use lib.ListN.{getD, length, replicate}
@@ -16,8 +16,6 @@ use Rattle.characters.specs.References.{digit}
 use Rattle.pictures.specs.Picture.{capital, capitalOrDigit, partyChar, firstThree, takes, held, fitsOf}
 use Rattle.forms.specs.Forms.{identification, marketPartner, resourceObject, party, quarterHour}
 use Rattle.numbers.specs.Number.{numberForm, atMostNine, numberWithin, numberOf}
-use Rattle.numbers.specs.Digits.{onlyDigits}
-use Rattle.numbers.specs.declared.Number.the-variants.{Is, NotNumber}
 use Rattle.amounts.proofs.Digits.{AllDigits}
 use Rattle.amounts.proofs.Shapes.{only-split}
 use Rattle.times.specs.Times.{dateTime, interval}
@@ -25,16 +23,12 @@ use Rattle.times.specs.declared.Interval.{Interval}
 use Rattle.times.specs.declared.Interval.the-variants.{Minutes, NotInterval}
 use Rattle.codes.specs.Lists.{listed, lists, codesOf}
 use Rattle.columns.specs.Columns.{identificationForm, seriesIdForm, partnerForm, versionForm, dateTimeForm, periodForm, intervalForm, resolutionForm, objectForm, partyForm, inList}
-use Rattle.refusals.specs.Refusals.{againstForm, outsideList, againstValue}
+use Rattle.refusals.specs.Refusals.{againstForm}
 use Rattle.rules.specs.Rules.{unless, versionBy, isVersion, formRefusal, judgePeriodBy, judgePeriod, judgeIntervalBy, judgeInterval, judge}
 use Rattle.rules.specs.declared.Held.{Held}
-use Rattle.rules.specs.declared.Judged.{Judged}
 use Rattle.drafts.proofs.Quoted.{digit-bounds}
 use Rattle.fitting.specs.Told.{hasAmpersand, isId}
-
-not-true : (b : Bool) → not b ≡ true → b ≡ false
-not-true true h = never h
-not-true false h = refl
+use Rattle.fitting.proofs.Ampersands.{not-true}
 
 -- ---- pictures
 
@@ -198,8 +192,22 @@ module _ (h : Held) (cs : List ℕ) where
   list-plain f l e =
       code-plain (f - inList) cs
       (fits-unless 6 (listed (codesOf (f - inList)) cs)
-      (rw (other 6 (omega arith), other 7 (omega arith), other 8 (omega arith), other 9 (omega arith), other 1 (omega arith), other 2 (omega arith), other 3 (omega arith), other 4 (omega arith),
-        other 5 (omega arith), other 10 (omega arith), other 11 (omega arith), other 12 (omega arith), other 13 (omega arith), is) at e))
+      (rw (
+        other 6 (omega arith),
+        other 7 (omega arith),
+        other 8 (omega arith),
+        other 9 (omega arith),
+        other 1 (omega arith),
+        other 2 (omega arith),
+        other 3 (omega arith),
+        other 4 (omega arith),
+        other 5 (omega arith),
+        other 10 (omega arith),
+        other 11 (omega arith),
+        other 12 (omega arith),
+        other 13 (omega arith),
+        is,
+      ) at e))
     where
       other : (k : ℕ) → k < inList → eqb f k ≡ false
       other k m = ne-eqb f k (λ z. omega (arith, z, l, m))

@@ -9,7 +9,6 @@ use lib.ListN.{drop, getD}
 use borrow.Author.Tests.{eqb-true}
 use Rattle.lists.proofs.Cases.{eqb-cases}
 use Rattle.slices.specs.Same.{same}
-use Rattle.characters.specs.Says.{says}
 use Rattle.elements.specs.Names.{names, numberIn, elementNo}
 use Rattle.structure.specs.Rows.{nameOf, required}
 use Rattle.columns.specs.Columns.{formOf, schemeOf, roleOf, collapsed, periodForm, seriesRole, periodRole, intervalRole, seriesIdRole}
@@ -17,7 +16,7 @@ use Rattle.guideline.specs.Kinds.{dtdMessage, noDemands, messageAlone, kindOne,
 use Rattle.guideline.specs.Rows.{beschaffungsanforderung, kostenblatt, rowsOf}
 use Rattle.states.specs.Attributes.{agree, asksV, asksScheme, demandsAt, meets, noOthers}
 use Rattle.views.specs.Layout.{headerPairs, seriesPairs, valuesOf, pairAfter, pairsAfter, firstPair}
-use Rattle.contents.specs.Said.{AttributeValue, Absent, Given, DtdSaid, TagSaid, given}
+use Rattle.contents.specs.Said.{AttributeValue, Absent, Given, TagSaid, given}
 use Rattle.contents.specs.Legal.{hasRole, hasForm, Period, dtdAgrees, attributesAgree, fixedFits, rootFits, elementFits}
 use Rattle.drafts.specs.Draft.{Draft, singleTag, isSaid, roleRow}
 use Rattle.drafts.specs.Pairs.{pairsOf}

@@ -1,12 +1,12 @@
 -- Each pair and each row that is counted is lent exactly where `isLent` tells it. Assumes nothing.
 use Prim.Native.Nat.{ℕ, zero, suc, _+_, _*_, _/_, _≤_, _<_}
 use mathlib.Core.Path.{_≡_, refl, sym, ap, _∙_, subst}
-use mathlib.Core.Bool.{Bool, true, false, cond, _&&_, and-eq-true-iff}
+use mathlib.Core.Bool.{Bool, true, false, _&&_, and-eq-true-iff}
 use mathlib.Core.Logic.{⊎-elim}
 use native.Mathlib.Omega.{arith}
 use lib.Dec.{eqb, leb}
 use lib.ListN.{length}
-use borrow.Author.Tests.{le-leb}
+use borrow.Author.Tests.{leb-true, le-leb}
 use Rattle.lists.proofs.Cases.{eqb-cases}
 use Rattle.series.specs.Row.{fieldAt, cellsOf, roomFor}
 use Rattle.series.specs.declared.Field.the-variants.{FirstRow, Count}
@@ -14,8 +14,7 @@ use Rattle.views.specs.Layout.{headerPairs, seriesPairs, cellOf}
 use Rattle.drafts.specs.Draft.{Draft, pairFits, RowsLent, Lent}
 use Rattle.fitting.specs.Fit.{isWritten, pairsFit, rowsFit, isLent}
 use Rattle.fitting.specs.Told.{isText, textsTold}
-use Rattle.fitting.proofs.Singles.{leb-so}
-use Rattle.fitting.proofs.Apart.{both-ways, later}
+use Rattle.fitting.proofs.Apart.{both-ways}
 
 pub both-so : (a b : Bool) → a ≡ true → b ≡ true → (a && b) ≡ true
 both-so a b x y = and-eq-true-iff a b .1 (x, y)
@@ -34,7 +33,7 @@ pairs-each d k (suc n) h j l m =
     let t = and-eq-true-iff (pairFits d k) (pairsFit d (suc k) n) .0 h in
     ⊎-elim
     (λ (y : (j ≡ k) × (eqb j k ≡ true)). ap (pairFits d) (y .0) ∙ t .0)
-    (λ (y : (j ≡ k → ⊥) × (eqb j k ≡ false)). pairs-each d (suc k) n (t .1) j (later k j l (y .0)) (omega arith))
+    (λ (y : (j ≡ k → ⊥) × (eqb j k ≡ false)). pairs-each d (suc k) n (t .1) j (let g = y .0 in omega (arith, g)) (omega arith))
     (eqb-cases j k)
 
 each-pairs : (d : Draft) (k n : ℕ) → ((j : ℕ) → k ≤ j → j < k + n → pairFits d j ≡ true) → pairsFit d k n ≡ true
@@ -57,8 +56,8 @@ rows-each d i (suc n) h j l m =
     let u = and-eq-true-iff p a .0 (t .0) in
     ⊎-elim
     (λ (y : (j ≡ i) × (eqb j i ≡ true)).
-    subst (RowsLent d) (sym (y .0)) (record { positions = leb-so (endOf d i) (length (d .positions)) (u .0); amounts = leb-so (endOf d i) (length (d .amounts)) (u .1) }))
-    (λ (y : (j ≡ i → ⊥) × (eqb j i ≡ false)). rows-each d (suc i) n (t .1) j (later i j l (y .0)) (omega arith))
+    subst (RowsLent d) (sym (y .0)) (record { positions = leb-true (endOf d i) (length (d .positions)) (u .0); amounts = leb-true (endOf d i) (length (d .amounts)) (u .1) }))
+    (λ (y : (j ≡ i → ⊥) × (eqb j i ≡ false)). rows-each d (suc i) n (t .1) j (let g = y .0 in omega (arith, g)) (omega arith))
     (eqb-cases j i)
 
 each-rows : (d : Draft) (i n : ℕ) → ((j : ℕ) → i ≤ j → j < i + n → RowsLent d j) → rowsFit d i n ≡ true
@@ -104,26 +103,26 @@ module _ (d : Draft) where
   unfolding isWritten
   lent-exactly = (
     λ h. let l = lent-parts h in
-    record {
-      kind = l .written;
-      pairs = leb-so (cellOf (headerPairs + seriesPairs * d .count)) (length (d .pairs)) (l .pairs);
-      values = λ k m. pairs-each d 0 (headerPairs + seriesPairs * d .count) (l .texts) k (omega arith) (omega arith);
-      series = leb-so (cellsOf (d .count)) (length (d .series)) (l .series);
-      rows = λ i m. rows-each d 0 (d .count) (l .rows) i (omega arith) (omega arith);
-    },
+        record {
+          kind = l .written;
+          pairs = leb-true (cellOf (headerPairs + seriesPairs * d .count)) (length (d .pairs)) (l .pairs);
+          values = λ k m. pairs-each d 0 (headerPairs + seriesPairs * d .count) (l .texts) k (omega arith) (omega arith);
+          series = leb-true (cellsOf (d .count)) (length (d .series)) (l .series);
+          rows = λ i m. rows-each d 0 (d .count) (l .rows) i (omega arith) (omega arith);
+        },
     λ l. parts-lent
-    (record {
-      written = l .kind;
-      pairs = le-leb (cellOf (headerPairs + seriesPairs * d .count)) (length (d .pairs)) (l .pairs);
-      texts = each-pairs d 0 (headerPairs + seriesPairs * d .count) (λ j m n. l .values j (omega arith));
-      series = le-leb (cellsOf (d .count)) (length (d .series)) (l .series);
-      rows = each-rows d 0 (d .count) (λ j m n. l .rows j (omega arith));
-    }),
+        (record {
+          written = l .kind;
+          pairs = le-leb (cellOf (headerPairs + seriesPairs * d .count)) (length (d .pairs)) (l .pairs);
+          texts = each-pairs d 0 (headerPairs + seriesPairs * d .count) (λ j m n. l .values j (omega arith));
+          series = le-leb (cellsOf (d .count)) (length (d .series)) (l .series);
+          rows = each-rows d 0 (d .count) (λ j m n. l .rows j (omega arith));
+        }),
   )
 
 -- so many series have room exactly where their cells are there
 pub room-told : (count cells : ℕ) → leb count (roomFor cells) ≡ leb (cellsOf count) cells
 room-told count cells =
     both-ways (leb count (cells / 12)) (leb (12 * count) cells)
-    (λ e. let l = leb-so count (cells / 12) e in le-leb (12 * count) cells (omega (arith, l)))
-    (λ e. let l = leb-so (12 * count) cells e in le-leb count (cells / 12) (omega (arith, l)))
+    (λ e. let l = leb-true count (cells / 12) e in le-leb (12 * count) cells (omega (arith, l)))
+    (λ e. let l = leb-true (12 * count) cells e in le-leb count (cells / 12) (omega (arith, l)))

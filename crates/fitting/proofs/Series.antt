@@ -1,18 +1,16 @@
 -- A series of a draft is told fit where it is lent and judged fit. Assumes nothing.
-use Prim.Native.Nat.{ℕ, zero, suc, _+_, _*_, _≤_, _<_}
+use Prim.Native.Nat.{ℕ, zero, suc, _+_, _*_, _<_}
 use mathlib.Core.Path.{_≡_, refl, sym, ap, _∙_}
-use mathlib.Core.List.{List, [], _∷_}
-use mathlib.Core.Bool.{Bool, true, false, cond, _&&_, not, and-eq-true-iff}
-use mathlib.Core.Logic.{⊎-elim}
+use mathlib.Core.List.{List}
+use mathlib.Core.Bool.{Bool, true, false, cond, _&&_, not}
 use native.Mathlib.Omega.{arith}
 use lib.Dec.{eqb, leb, ltb}
-use lib.IntN.{ℤ, pos, natAbs}
+use lib.IntN.{pos, natAbs}
 use lib.ListN.{length, drop, getD}
 use borrow.Author.Tests.{ne-eqb, le-leb, le-ltb}
-use Rattle.lists.proofs.Cases.{bool-cases, eqb-cases, never}
+use Rattle.lists.proofs.Cases.{never}
 use Rattle.columns.specs.Columns.{seriesRole, periodRole}
 use Rattle.guideline.specs.Kinds.{kindAt, withinMost, hasEnough}
-use Rattle.guideline.specs.Rows.{rowsOf}
 use Rattle.times.specs.Periods.{quarterHours}
 use Rattle.rules.specs.Rules.{positionFits}
 use Rattle.series.specs.Row.{fieldAt}
@@ -23,7 +21,7 @@ use Rattle.drafts.specs.Draft.{Draft, roleRow, pairFor, pairFits}
 use Rattle.drafts.specs.Judged.{singlesFit, originalsSaid, positionsIn, allWritten, amountsFit, seriesFits, everySeries}
 use Rattle.fitting.specs.Fit.{rowsFit}
 use Rattle.fitting.specs.Told.{singlesTold, originalsTold, amountTold, rowTold, rowsTold, countTold, rowsLent, fiveOrNone, seriesTold, usedBefore, everyTold}
-use Rattle.fitting.proofs.Singles.{throughFit, through-told, through-once, through-period, pairsBefore, behindIt, originals-told}
+use Rattle.fitting.proofs.Singles.{throughFit, through-told, through-once, through-period, pairsBefore, originals-told}
 use Rattle.fitting.proofs.Laid.{Laid}
 use Rattle.fitting.proofs.Apart.{freshFrom}
 

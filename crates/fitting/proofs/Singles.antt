@@ -1,31 +1,29 @@
 -- The single values of a draft, which are told in one walk through the Period. Assumes nothing.
-use Prim.Native.Nat.{ℕ, zero, suc, _+_, _*_, _≤_, _<_}
+use Prim.Native.Nat.{ℕ, suc, _+_, _≤_, _<_}
 use mathlib.Core.Path.{_≡_, refl, sym, ap, _∙_}
 use mathlib.Core.List.{List, [], _∷_, _++_}
 use mathlib.Core.Bool.{Bool, true, false, cond, _&&_, not, and-eq-true-iff}
 use mathlib.Core.Logic.{⊎-elim}
 use native.Mathlib.Omega.{arith}
 use lib.Dec.{eqb, leb}
-use lib.ListN.{length, drop, getD}
-use Rattle.lists.proofs.Cases.{bool-cases, leb-cases, both-true, never}
+use lib.ListN.{drop, getD}
+use borrow.Author.Tests.{leb-true}
+use Rattle.lists.proofs.Cases.{bool-cases, never}
 use Rattle.structure.specs.Rows.{required}
 use Rattle.columns.specs.Columns.{roleOf, periodRole, originalRole}
 use Rattle.states.specs.Attributes.{agree, asksV, asksScheme}
 use Rattle.views.specs.Layout.{valuesOf, cellOf}
 use Rattle.trees.specs.Trees.{Trees, none, element}
-use Rattle.contents.specs.Said.{AttributeValue, Absent, Given, TagSaid, given}
-use Rattle.contents.specs.Legal.{Period, dtdAgrees, attributesAgree, elementFits, those}
+use Rattle.contents.specs.Said.{TagSaid, given}
+use Rattle.contents.specs.Legal.{Period, attributesAgree, elementFits, those}
 use Rattle.drafts.specs.Draft.{Draft, isNoPair, pairValue, singleTag, isSaid, singles, pairFits}
 use Rattle.drafts.specs.Judged.{singlesFit, originalsSaid}
 use Rattle.drafts.specs.Pairs.{hasPair, pairsOf}
 use Rattle.drafts.proofs.Writing.{row-there}
 use Rattle.drafts.proofs.Elements.{leavesOut}
-use Rattle.fitting.specs.Told.{singleTold, singlesTold, originalsTold}
+use Rattle.fitting.specs.Told.{singlesTold, originalsTold}
 use Rattle.fitting.proofs.Ampersands.{true-false}
 use Rattle.fitting.proofs.Value.{isFine, Fine, fine, both-same, oneFits, single-told}
-
-pub leb-so : (a b : ℕ) → leb a b ≡ true → a ≤ b
-leb-so a b e = ⊎-elim (λ y. y .0) (λ y. never (sym (y .1) ∙ e)) (leb-cases a b)
 
 some-pairs : (w : ℕ) → 1 ≤ pairsOf w
 unfolding pairsOf
@@ -55,7 +53,7 @@ row-fine most k w ws x h =
     let u : isFine w && leb (k + valuesOf w) most && rowsFine most (k + valuesOf w) ws ≡ true = rw x at h in
     let u1 = and-eq-true-iff (isFine w && leb (k + valuesOf w) most) (rowsFine most (k + valuesOf w) ws) .0 u in
     let u2 = and-eq-true-iff (isFine w) (leb (k + valuesOf w) most) .0 (u1 .0) in
-    record { here = fine w (u2 .0); inside = leb-so (k + valuesOf w) most (u2 .1); rest = u1 .1 }
+    record { here = fine w (u2 .0); inside = leb-true (k + valuesOf w) most (u2 .1); rest = u1 .1 }
 
 -- the same walk by what a draft says
 unfoldable pub throughFit : Draft → Period → ℕ → List ℕ → Bool

@@ -1,13 +1,13 @@
 -- A value of a draft is told fit where it is judged fit. Assumes nothing.
-use Prim.Native.Nat.{ℕ, zero, suc, _+_, _-_, _≤_, _<_}
+use Prim.Native.Nat.{ℕ, _+_, _-_}
 use mathlib.Core.Path.{_≡_, refl, sym, ap, _∙_}
-use mathlib.Core.List.{List, [], _∷_}
-use mathlib.Core.Bool.{Bool, true, false, cond, _&&_, not, and-eq-true-iff}
+use mathlib.Core.List.{List}
+use mathlib.Core.Bool.{Bool, true, false, cond, _&&_, not}
 use mathlib.Core.Logic.{⊎-elim}
 use native.Mathlib.Omega.{arith}
 use lib.Dec.{eqb, leb, ltb}
 use lib.ListN.{length, getD}
-use borrow.Author.Tests.{eqb-true, eqb-false, ne-eqb, le-ltb}
+use borrow.Author.Tests.{eqb-true, eqb-false, le-ltb}
 use Rattle.lists.proofs.Cases.{bool-cases, both-true, past-cond, never}
 use Rattle.characters.specs.Says.{allChars, says}
 use Rattle.trims.specs.Trim.{dropped}
@@ -18,10 +18,9 @@ use Rattle.guideline.specs.Kinds.{noDemands}
 use Rattle.states.specs.Attributes.{agree, asksV, asksScheme, demandsAt, meets, noOthers}
 use Rattle.rules.specs.Rules.{judge}
 use Rattle.rules.specs.declared.Held.{Held}
-use Rattle.rules.specs.declared.Judged.{Judged}
 use Rattle.views.specs.Layout.{valuesOf, cellOf}
 use Rattle.views.specs.Shown.{pairView}
-use Rattle.contents.specs.Said.{AttributeValue, Absent, Given, DtdSaid, TagSaid, given, bytes}
+use Rattle.contents.specs.Said.{TagSaid, given, bytes}
 use Rattle.contents.specs.Legal.{Period, quartersOf, sayings, dtdAgrees, attributesAgree, schemeFits, valueFits, elementFits}
 use Rattle.escapes.specs.Escaped.{escaped}
 use Rattle.escapes.specs.Spelled.{charsOf}
@@ -29,7 +28,7 @@ use Rattle.escapes.proofs.Promises.{says-escaped}
 use Rattle.drafts.specs.Draft.{Draft, isNoPair, pairValue, noDtdSaid, singleTag, isSaid, pairFits}
 use Rattle.drafts.specs.Pairs.{hasPair, pairsOf}
 use Rattle.fitting.specs.Told.{hasAmpersand, saidOf, isId, textFits, schemeTold, singleTold}
-use Rattle.fitting.proofs.Ampersands.{true-false, plain-escaped, none-back, none-dropped}
+use Rattle.fitting.proofs.Ampersands.{true-false, not-true, plain-escaped, none-back, none-dropped}
 use Rattle.fitting.proofs.Forms.{plainForm, code-plain, form-plain, id-judged}
 
 -- ---- rows
@@ -48,10 +47,6 @@ pub record Fine (w : ℕ) : Type 0 where
   pub id : isId (formOf w) ≡ true → collapsed w ≡ false
   pub plain : isId (formOf w) ≡ false → plainForm (formOf w) ≡ true
 
-not-so : (b : Bool) → not b ≡ true → b ≡ false
-not-so true h = never h
-not-so false h = refl
-
 pub fine : (w : ℕ) → isFine w ≡ true → Fine w
 unfolding isFine
 fine w h =
@@ -62,7 +57,7 @@ fine w h =
       root = a .0;
       position = b .0;
       pairs = eqb-true (valuesOf w) (pairsOf w) (c .0);
-      id = λ i. not-so (collapsed w) (rw i at (c .1));
+      id = λ i. not-true (collapsed w) (rw i at (c .1));
       plain = λ i. rw i at (c .1);
     }
 
@@ -112,11 +107,7 @@ module _ (v : List ℕ) (legal : allChars v ≡ true) where
         some = past-cond (eqb (schemeOf w) noScheme) (λ z. never z) asks .0
 
         above : ltb (schemeOf w) byList ≡ false
-        above = let n = eqb-false (schemeOf w) noScheme some in le-ltb (schemeOf w) byList (least (schemeOf w) n)
-          where
-            least : (x : ℕ) → (x ≡ 0 → ⊥) → 1 ≤ x
-            least zero n = absurd (n refl)
-            least (suc x) n = omega arith
+        above = let n = eqb-false (schemeOf w) noScheme some in le-ltb (schemeOf w) byList (omega (arith, n))
 
         chars : says (bytes (s .scheme)) ≡ charsOf v
         chars = ap says e ∙ says-escaped v legal
