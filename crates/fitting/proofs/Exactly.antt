@@ -1,6 +1,6 @@
 -- A draft is told fit exactly where it is lent and its content is legal. Assumes nothing.
 --     told-exactly   how the code tells it is what the contract says
---     fits-exactly   which is that all is lent, by `Lent`, and that the content is legal, by `Legal`
+--     fits-exactly   which is that all is lent, by `Lent` (`lent-exactly` of Lent.antt), and that the content is legal, by `Legal`
 use Prim.Native.Nat.{ℕ, _+_, _*_, _<_}
 use mathlib.Core.Path.{_≡_, refl, sym, ap, _∙_, subst}
 use mathlib.Core.List.{List}

@@ -2,7 +2,7 @@
 use Prim.Native.Nat.{ℕ, zero, suc, _+_, _*_, _<_}
 use mathlib.Core.Path.{_≡_, refl, sym, ap, _∙_}
 use mathlib.Core.List.{List}
-use mathlib.Core.Bool.{Bool, true, false, cond, _&&_, not}
+use mathlib.Core.Bool.{Bool, true, false, cond, _&&_, not, and-false}
 use native.Mathlib.Omega.{arith}
 use lib.Dec.{eqb, leb, ltb}
 use lib.IntN.{pos, natAbs}
@@ -24,12 +24,6 @@ use Rattle.fitting.specs.Told.{singlesTold, originalsTold, amountTold, r
 use Rattle.fitting.proofs.Singles.{throughFit, through-told, through-once, through-period, pairsBefore, originals-told}
 use Rattle.fitting.proofs.Laid.{Laid}
 use Rattle.fitting.proofs.Apart.{freshFrom}
-
--- ---- tests in another order
-
-and-false : (a : Bool) → (a && false) ≡ false
-and-false true = refl
-and-false false = refl
 
 -- ---- the rows of a series
 

@@ -2,7 +2,7 @@
 use Prim.Native.Nat.{ℕ, suc, _+_, _≤_, _<_}
 use mathlib.Core.Path.{_≡_, refl, sym, ap, _∙_}
 use mathlib.Core.List.{List, [], _∷_, _++_}
-use mathlib.Core.Bool.{Bool, true, false, cond, _&&_, not, and-eq-true-iff}
+use mathlib.Core.Bool.{Bool, true, false, cond, _&&_, not, and-eq-true-iff, and-assoc}
 use mathlib.Core.Logic.{⊎-elim}
 use native.Mathlib.Omega.{arith}
 use lib.Dec.{eqb, leb}
@@ -110,10 +110,6 @@ unfoldable pub pairsBefore : List ℕ → ℕ
 pairsBefore [] = 0
 pairsBefore (w ∷ ws) = cond (asksV w) (valuesOf w + pairsBefore ws) 0
 
-and-assoc : (a b c : Bool) → (a && (b && c)) ≡ (a && b && c)
-and-assoc true b c = refl
-and-assoc false b c = refl
-
 module _ (d : Draft) (p : Period) where
   pub through-once : (ws : List ℕ) (k : ℕ) → endsThere ws ≡ true → throughFit d p k ws ≡ singlesFit d p k ws
   unfolding throughFit singlesFit endsThere oneFits
@@ -140,7 +136,7 @@ module _ (d : Draft) (p : Period) where
           ih (rw x at h) ∙ ap (λ (j : ℕ). singlesFit d p (k + valuesOf w) ws && throughFit d p j (behindIt ws)) more in
           rw x
           (ap (λ (z : Bool). oneFits d p w k && z) rest
-          ∙ and-assoc (oneFits d p w k) (singlesFit d p (k + valuesOf w) ws) (throughFit d p (k + (valuesOf w + pairsBefore ws)) (behindIt ws)))
+          ∙ sym (and-assoc (oneFits d p w k) (singlesFit d p (k + valuesOf w) ws) (throughFit d p (k + (valuesOf w + pairsBefore ws)) (behindIt ws))))
       by false x ih =
           let r : eqb (roleOf w) periodRole ≡ true = rw x at h in
           let none : k ≡ k + 0 = omega arith in
