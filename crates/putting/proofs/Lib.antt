@@ -1,0 +1,4 @@
+pub mod Arms
+pub mod Landing
+pub mod Lent
+pub mod Singles
