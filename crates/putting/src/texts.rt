@@ -11,12 +11,18 @@ ghost use Rattle.amounts.specs.Texts.{amountText};
 ghost use Rattle.escapes.specs.Escaped.{escaped};
 ghost use Rattle.putting.specs.Sheet.{landed};
 
-// One past the last byte for any place after it.
-fn within(at: usize, len: usize) -> usize
+// The place after n bytes from `at` on, and one past the last of len bytes where they find no room.
+fn after(at: usize, n: usize, len: usize) -> usize
     requires { ⌜ len ≤ 9223372036854775807 ⌝ }
-    ensures { λ r. ⌜ r ≡ min at (len + 1) ⌝ }
+    ensures { λ r. ⌜ r ≡ min (at + n) (len + 1) ⌝ }
 {
-    if at <= len { at } else { len + 1 }
+    if len < n {
+        return len + 1;
+    }
+    if len - n < at {
+        return len + 1;
+    }
+    at + n
 }
 
 pub(crate) fn put_bytes(out: &mut [u8], at: usize, t: &[u8]) -> usize
@@ -31,7 +37,7 @@ pub(crate) fn put_bytes(out: &mut [u8], at: usize, t: &[u8]) -> usize
         }
         i += 1;
     }
-    within(at + i, out.len())
+    after(at, i, out.len())
 }
 
 pub(crate) fn put_escaped_at(out: &mut [u8], at: usize, v: &[u8]) -> usize
@@ -53,7 +59,8 @@ pub(crate) fn put_position_at(out: &mut [u8], at: usize, p: u32) -> usize
     if out.len() < at {
         return at;
     }
-    within(at + put_position(&mut out[at..], p), out.len())
+    let n = put_position(&mut out[at..], p);
+    after(at, n, out.len())
 }
 
 pub(crate) fn put_amount_at(out: &mut [u8], at: usize, a: i64) -> usize
@@ -64,5 +71,6 @@ pub(crate) fn put_amount_at(out: &mut [u8], at: usize, a: i64) -> usize
     if out.len() < at {
         return at;
     }
-    within(at + put_amount(&mut out[at..], a), out.len())
+    let n = put_amount(&mut out[at..], a);
+    after(at, n, out.len())
 }
