@@ -1,2 +1,4 @@
 pub mod Landing
 pub mod Lent
+pub mod Turns
+pub mod Laid
