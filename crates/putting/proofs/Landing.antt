@@ -59,3 +59,32 @@ put-low {out} {o} {x} {at} p = omega (arith, p .answer, landed-low out at x, ap 
 
 pub put-long : {out o x : List ℕ} {at r : ℕ} → Put out at x r o → length o ≡ length out
 put-long {out} {o} {x} {at} p = ap length (p .buffer) ∙ length-sets out at x
+
+-- of w, which is put into out₀ from `at` on, all is put but `rest`
+pub record Left (out₀ : List ℕ) (at : ℕ) (w out : List ℕ) (end : ℕ) (rest : List ℕ) : Type 0 where
+  pub same : length out ≡ length out₀
+  pub low : end ≤ length out + 1
+  pub answer : landed out end rest ≡ landed out₀ at w
+  pub buffer : sets out end rest ≡ sets out₀ at w
+
+pub left-start : (out : List ℕ) (at : ℕ) (w : List ℕ) → at ≤ length out + 1 → Left out at w out at w
+left-start out at w h = record { same = refl; low = h; answer = refl; buffer = refl }
+
+module _ {out₀ w out rest : List ℕ} {at end : ℕ} (l : Left out₀ at w out end rest) where
+  pub left-more : {x y o : List ℕ} {r : ℕ} → rest ≡ x ++ y → Put out end x r o → Left out₀ at w o r y
+  left-more {x} {y} {o} {r} e p =
+      let n : landed o r y ≡ landed out end (x ++ y) =
+          ap (λ (k : ℕ). landed o k y) (p .answer) ∙ ap (λ (t : List ℕ). landed t (landed out end x) y) (p .buffer) ∙ landed-then out end x y in
+      let s : sets o r y ≡ sets out end (x ++ y) =
+          ap (λ (k : ℕ). sets o k y) (p .answer) ∙ ap (λ (t : List ℕ). sets t (landed out end x) y) (p .buffer) ∙ sets-then out end x y in
+      record {
+        same = put-long p ∙ l .same;
+        low = put-low p;
+        answer = n ∙ sym (ap (landed out end) e) ∙ l .answer;
+        buffer = s ∙ sym (ap (sets out end) e) ∙ l .buffer;
+      }
+
+  pub left-end : rest ≡ [] → (end ≡ landed out₀ at w) × (out ≡ sets out₀ at w)
+  left-end e =
+      let p = put-none out end (l .low) in
+      (p .answer ∙ sym (ap (landed out end) e) ∙ l .answer, sym (ap (sets out end) e) ∙ l .buffer)

@@ -9,35 +9,27 @@ use Rattle.putting.proofs.texts.put_escaped_at.Reads as reads
 use Rattle.putting.proofs.texts.put_escaped_at.Lts as lts
 use Rattle.escapes.proofs.put_escaped.Reads as put-escaped-reads
 
--- src/texts.rt:46:9
 returns : tie.Need-returns
 returns c = let a = c .before .before .before .args in none-past (escaped (a .v .now)) _ _ (c .if1 .taken) (c .before .before .before .pre)
 
--- src/texts.rt:48:22
 sub-put-escaped : tie.Need-sub-put-escaped
 sub-put-escaped c = search needs
 
--- src/texts.rt:48:22
 part-put-escaped-start : tie.Need-part-put-escaped-start
 part-put-escaped-start c = search needs
 
--- src/texts.rt:48:22
 part-put-escaped-end : tie.Need-part-put-escaped-end
 part-put-escaped-end c = search needs
 
--- src/texts.rt:48:10
 put-escaped-requires : tie.Need-put-escaped-requires
 put-escaped-requires c κs = search needs
 
--- src/texts.rt:48:5
 add-result : tie.Need-add-result
 add-result c = search needs
 
--- src/texts.rt:40:1
 same-length : tie.Need-same-length
 same-length c = search needs
 
--- src/texts.rt:40:1
 returns-2 : tie.Need-returns-2
 returns-2 c = 
     let a = c .before .before .before .before .before .before .before .args in
