@@ -1,7 +1,7 @@
 -- For private contracts: the text that the code puts, over the lent lists. `sheet-layout` of proofs/ says that for the two kinds it is `draftDocument`.
 use Prim.Native.Nat.{ℕ, zero, suc, _+_, _*_, min}
 use mathlib.Core.List.{List, [], _∷_, _++_}
-use mathlib.Core.Bool.{true, false, cond}
+use mathlib.Core.Bool.{Bool, true, false, cond}
 use lib.Dec.{eqb, ltb}
 use lib.IntN.{ℤ, pos}
 use lib.ListN.{length, getD, drop}
@@ -45,9 +45,13 @@ attributeOf opens t pairs k = cond (hasPair pairs k) (opens ++ (escaped (pairVie
 unfoldable pub schemeText : List ℕ → List ℕ → ℕ → ℕ → List ℕ
 schemeText t pairs w k = cond (asksScheme w) (attributeOf (text " codingScheme=\"") t pairs (k + 1)) []
 
+-- one of the attributes of row w is there, whose first pair is k
+unfoldable pub hasValue : List ℕ → ℕ → ℕ → Bool
+hasValue pairs w k = cond (hasPair pairs k) true (cond (asksScheme w) (hasPair pairs (k + 1)) false)
+
 unfoldable pub singleText : List ℕ → List ℕ → ℕ → ℕ → List ℕ
 singleText t pairs w k =
-    cond (cond (hasPair pairs k) true (cond (asksScheme w) (hasPair pairs (k + 1)) false))
+    cond (hasValue pairs w k)
     (openText w ++ (attributeOf (text " v=\"") t pairs k ++ (schemeText t pairs w k ++ text "/>")))
     []
 

@@ -32,7 +32,7 @@ ghost use Prim.Native.Nat.{_+_, _*_, _≤_, min};
 ghost use lib.ListN.{length, drop};
 ghost use lib.Seq.{sets};
 ghost use Rattle.guideline.specs.Rows.{rowsOf};
-ghost use Rattle.putting.specs.Sheet.{landed, attributeOf, singleText, singlesText, intervalText, intervalsText, openText, closeText, seriesText, everySeriesText, rootText, sheetText};
+ghost use Rattle.putting.specs.Sheet.{landed, attributeOf, hasValue, schemeText, singleText, singlesText, intervalText, intervalsText, openText, closeText, seriesText, everySeriesText, rootText, sheetText};
 
 // An attribute whose value is pair k, where it is there: `opens` is the space, the name, `=` and the first quote.
 fn put_attribute(
@@ -76,6 +76,33 @@ fn put_close(out: &mut [u8], at: usize, w: usize) -> usize
     put_bytes(out, end, b">")
 }
 
+// Whether one of the attributes is there that an element of row w has, whose first pair is k.
+fn has_value(pairs: &[u32], w: usize, k: usize) -> bool
+    requires { ⌜ k ≤ 100000000000 ⌝ }
+    ensures { λ r. ⌜ r ≡ hasValue (now (pairs .entry)) w k ⌝ }
+{
+    if is_given(pairs, 2 * k) {
+        return true;
+    }
+    if asks_scheme(w) {
+        return is_given(pairs, 2 * (k + 1));
+    }
+    false
+}
+
+// The codingScheme, in a row that has it.
+fn put_scheme(out: &mut [u8], at: usize, text: &[u8], pairs: &[u32], w: usize, k: usize) -> usize
+    requires place { ⌜ at ≤ length (now out) + 1 ⌝ }
+    requires pair { ⌜ k ≤ 100000000000 ⌝ }
+    ensures answer { λ r. ⌜ r ≡ landed (now (out .entry)) at (schemeText (now (text .entry)) (now (pairs .entry)) w k) ⌝ }
+    ensures buffer { λ _. ⌜ now (out .exit) ≡ sets (now (out .entry)) at (schemeText (now (text .entry)) (now (pairs .entry)) w k) ⌝ }
+{
+    if asks_scheme(w) {
+        return put_attribute(out, at, b" codingScheme=\"", text, pairs, k + 1);
+    }
+    at
+}
+
 // An element of a single value, whose first pair is k, where one of its attributes is there.
 fn put_single(out: &mut [u8], at: usize, text: &[u8], pairs: &[u32], w: usize, k: usize) -> usize
     requires place { ⌜ at ≤ length (now out) + 1 ⌝ }
@@ -83,15 +110,12 @@ fn put_single(out: &mut [u8], at: usize, text: &[u8], pairs: &[u32], w: usize, k
     ensures answer { λ r. ⌜ r ≡ landed (now (out .entry)) at (singleText (now (text .entry)) (now (pairs .entry)) w k) ⌝ }
     ensures buffer { λ _. ⌜ now (out .exit) ≡ sets (now (out .entry)) at (singleText (now (text .entry)) (now (pairs .entry)) w k) ⌝ }
 {
-    let coded = asks_scheme(w);
-    if !is_given(pairs, 2 * k) && !(coded && is_given(pairs, 2 * (k + 1))) {
+    if !has_value(pairs, w, k) {
         return at;
     }
-    let mut end = put_open(out, at, w);
-    end = put_attribute(out, end, b" v=\"", text, pairs, k);
-    if coded {
-        end = put_attribute(out, end, b" codingScheme=\"", text, pairs, k + 1);
-    }
+    let name_end = put_open(out, at, w);
+    let v_end = put_attribute(out, name_end, b" v=\"", text, pairs, k);
+    let end = put_scheme(out, v_end, text, pairs, w, k);
     put_bytes(out, end, b"/>")
 }
 
