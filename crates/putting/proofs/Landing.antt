@@ -1,9 +1,9 @@
 -- Texts put into lent bytes one after the other: a text that begins past the last byte sets nothing.
 -- Assumes nothing.
 use mathlib.Core.Path.{_≡_, refl, sym, ap, _∙_}
-use mathlib.Core.List.{List, [], _∷_, _++_}
+use mathlib.Core.List.{List, [], _++_}
 use mathlib.Core.Logic.{⊎-elim}
-use Prim.Native.Nat.{ℕ, zero, suc, _+_, _-_, _≤_, _<_, min}
+use Prim.Native.Nat.{ℕ, _+_, _≤_}
 use native.Mathlib.Omega.{arith}
 use lib.ListN.{length, length-append}
 use lib.Seq.{sets, length-sets}
@@ -41,24 +41,26 @@ took x p = record { answer = p .0; buffer = p .1 }
 pub told : {out o x y : List ℕ} {at r : ℕ} → x ≡ y → Put out at x r o → (r ≡ landed out at y) × (o ≡ sets out at y)
 told {out} {o} {x} {y} {at} e p = (p .answer ∙ ap (landed out at) e, p .buffer ∙ ap (sets out at) e)
 
-pub put-then : {out o l x y : List ℕ} {at r n : ℕ} → Put out at x r o → Put o r y n l → Put out at (x ++ y) n l
-put-then {out} {o} {l} {x} {y} {at} {r} {n} p q =
-    record {
-      answer = q .answer ∙ ap (λ (k : ℕ). landed o k y) (p .answer) ∙ ap (λ (t : List ℕ). landed t (landed out at x) y) (p .buffer) ∙ landed-then out at x y;
-      buffer = q .buffer ∙ ap (λ (k : ℕ). sets o k y) (p .answer) ∙ ap (λ (t : List ℕ). sets t (landed out at x) y) (p .buffer) ∙ sets-then out at x y;
-    }
+module _ {out o x : List ℕ} {at r : ℕ} (p : Put out at x r o) where
+  landed-after : (y : List ℕ) → landed o r y ≡ landed out at (x ++ y)
+  landed-after y = ap (λ (k : ℕ). landed o k y) (p .answer) ∙ ap (λ (t : List ℕ). landed t (landed out at x) y) (p .buffer) ∙ landed-then out at x y
+
+  sets-after : (y : List ℕ) → sets o r y ≡ sets out at (x ++ y)
+  sets-after y = ap (λ (k : ℕ). sets o k y) (p .answer) ∙ ap (λ (t : List ℕ). sets t (landed out at x) y) (p .buffer) ∙ sets-then out at x y
+
+  pub put-then : {y l : List ℕ} {n : ℕ} → Put o r y n l → Put out at (x ++ y) n l
+  put-then {y} q = record { answer = q .answer ∙ landed-after y; buffer = q .buffer ∙ sets-after y }
+
+  -- the place after a text is one that the next may begin at, and the bytes are as many as they were
+  pub put-long : length o ≡ length out
+  put-long = ap length (p .buffer) ∙ length-sets out at x
+
+  pub put-low : r ≤ length o + 1
+  put-low = omega (arith, p .answer, landed-low out at x, put-long)
 
 pub put-none : (out : List ℕ) (at : ℕ) → at ≤ length out + 1 → Put out at [] at out
 unfolding landed
 put-none out at h = record { answer = omega (arith, h); buffer = refl }
-
--- the place after a text is one that the next may begin at, and the bytes are as many as they were
-pub put-low : {out o x : List ℕ} {at r : ℕ} → Put out at x r o → r ≤ length o + 1
-unfolding landed
-put-low {out} {o} {x} {at} p = omega (arith, p .answer, landed-low out at x, ap length (p .buffer), length-sets out at x)
-
-pub put-long : {out o x : List ℕ} {at r : ℕ} → Put out at x r o → length o ≡ length out
-put-long {out} {o} {x} {at} p = ap length (p .buffer) ∙ length-sets out at x
 
 -- of w, which is put into out₀ from `at` on, all is put but `rest`
 pub record Left (out₀ : List ℕ) (at : ℕ) (w out : List ℕ) (end : ℕ) (rest : List ℕ) : Type 0 where
@@ -72,16 +74,12 @@ left-start out at w h = record { same = refl; low = h; answer = refl; buffer = r
 
 module _ {out₀ w out rest : List ℕ} {at end : ℕ} (l : Left out₀ at w out end rest) where
   pub left-more : {x y o : List ℕ} {r : ℕ} → rest ≡ x ++ y → Put out end x r o → Left out₀ at w o r y
-  left-more {x} {y} {o} {r} e p =
-      let n : landed o r y ≡ landed out end (x ++ y) =
-          ap (λ (k : ℕ). landed o k y) (p .answer) ∙ ap (λ (t : List ℕ). landed t (landed out end x) y) (p .buffer) ∙ landed-then out end x y in
-      let s : sets o r y ≡ sets out end (x ++ y) =
-          ap (λ (k : ℕ). sets o k y) (p .answer) ∙ ap (λ (t : List ℕ). sets t (landed out end x) y) (p .buffer) ∙ sets-then out end x y in
+  left-more {x} {y} e p =
       record {
         same = put-long p ∙ l .same;
         low = put-low p;
-        answer = n ∙ sym (ap (landed out end) e) ∙ l .answer;
-        buffer = s ∙ sym (ap (sets out end) e) ∙ l .buffer;
+        answer = landed-after p y ∙ sym (ap (landed out end) e) ∙ l .answer;
+        buffer = sets-after p y ∙ sym (ap (sets out end) e) ∙ l .buffer;
       }
 
   pub left-end : rest ≡ [] → (end ≡ landed out₀ at w) × (out ≡ sets out₀ at w)

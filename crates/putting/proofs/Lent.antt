@@ -5,7 +5,7 @@ use mathlib.Core.List.{List, [], _∷_, _++_}
 use Prim.Native.Nat.{ℕ, suc, _+_, _-_, _≤_, _<_, min}
 use native.Mathlib.Numerals.{add-one}
 use native.Mathlib.Omega.{arith}
-use lib.ListN.{length, take, drop, getD, set, length-drop}
+use lib.ListN.{length, take, getD, set, length-drop}
 use lib.Seq.{sets, length-sets, set-out, take-suc, take-all, length-take-le}
 use borrow.Rule.Slice.PartMut.{midOf, putMid}
 use Rattle.lists.proofs.Loans.{lent-tail, back-tail}
@@ -30,11 +30,11 @@ module _ {out₀ : List ℕ} {at : ℕ} {t out : List ℕ} {i : ℕ} (r : Ran ou
       let n = length-take-le i t (r .most) in
       let v = getD t i 0 in
       let q : l ≡ sets out₀ at (take (suc i) t) =
-          e
-          ∙ ap (λ (o : List ℕ). set o (at + i) v) (r .all)
-          ∙ ap (λ (k : ℕ). set (sets out₀ at (take i t)) (at + k) v) (sym n)
-          ∙ sym (sets-more (take i t) out₀ at (v ∷ []))
-          ∙ ap (sets out₀ at) (sym (take-suc t i 0 h)) in
+      e
+      ∙ ap (λ (o : List ℕ). set o (at + i) v) (r .all)
+      ∙ ap (λ (k : ℕ). set (sets out₀ at (take i t)) (at + k) v) (sym n)
+      ∙ sym (sets-more (take i t) out₀ at (v ∷ []))
+      ∙ ap (sets out₀ at) (sym (take-suc t i 0 h)) in
       record { most = omega arith; all = rw add-one q }
 
   -- no room

@@ -1,14 +1,14 @@
 -- What stands of an attribute, of an element of a single value, and of the rows from one on, by what the code has found.
 -- Assumes nothing.
-use mathlib.Core.Path.{_≡_, refl, sym, ap, _∙_}
-use mathlib.Core.List.{List, [], _∷_, _++_}
-use mathlib.Core.Bool.{Bool, true, false, cond, not}
-use Prim.Native.Nat.{ℕ, suc, _+_, _*_, _≤_, _<_}
+use mathlib.Core.Path.{_≡_, refl}
+use mathlib.Core.List.{List, [], _++_}
+use mathlib.Core.Bool.{Bool, true, false, not}
+use Prim.Native.Nat.{ℕ, _+_, _*_, _≤_, _<_}
 use native.Mathlib.Numerals.{add-one}
 use native.Mathlib.Omega.{arith}
 use lib.ListN.{length, getD, drop, drop-of-length-le}
 use lib.Seq.{sets, drop-cons}
-use borrow.Author.Tests.{eq-eqb, ne-eqb}
+use borrow.Author.Tests.{ne-eqb}
 use Rattle.slices.specs.Text.{text}
 use Rattle.slices.specs.Part.{partOf}
 use Rattle.columns.specs.Columns.{roleOf}
@@ -70,12 +70,12 @@ a-single t pairs w k h e y = rw (← e, y) refl
 
 -- ---- the rows from q on, whose first pair is `next`; no more pairs are passed than two for each row
 
-abbrev pub Going : List ℕ → ℕ → List ℕ → List ℕ → List ℕ → ℕ → ℕ → List ℕ → ℕ → ℕ → ℕ → Type 0
-Going out₀ at t pairs rows row k out end q next =
-    Left out₀ at (singlesText t pairs k (drop row rows)) out end (singlesText t pairs next (drop q rows)) × (next ≤ 99999999000 + 2 * q)
+pub record Going (out₀ : List ℕ) (at : ℕ) (t pairs rows : List ℕ) (row k : ℕ) (out : List ℕ) (end q next : ℕ) : Type 0 where
+  pub left : Left out₀ at (singlesText t pairs k (drop row rows)) out end (singlesText t pairs next (drop q rows))
+  pub few : next ≤ 99999999000 + 2 * q
 
 pub going-start : (out : List ℕ) (at : ℕ) (t pairs rows : List ℕ) (row k : ℕ) → at ≤ length out + 1 → k ≤ 99999999000 → Going out at t pairs rows row k out at row k
-going-start out at t pairs rows row k h l = (left-start out at _ h, omega (arith, l))
+going-start out at t pairs rows row k h l = record { left = left-start out at _ h; few = omega (arith, l) }
 
 module _ (t pairs rows : List ℕ) (q next : ℕ) where
   rows-over : length rows ≤ q → singlesText t pairs next (drop q rows) ≡ []
@@ -96,32 +96,32 @@ module _ (t pairs rows : List ℕ) (q next : ℕ) where
       unfolding singlesText
       row-other n = rw (drop-cons rows q 0 h, ← e, z, ← i, ne-eqb a 3 n) refl
 
-module _ (out₀ : List ℕ) (at : ℕ) (t pairs rows : List ℕ) (row k : ℕ) (out : List ℕ) (end q next : ℕ) (g : Going out₀ at t pairs rows row k out end q next) where
+module _ {out₀ : List ℕ} {at : ℕ} {t pairs rows : List ℕ} {row k : ℕ} {out : List ℕ} {end q next : ℕ} (g : Going out₀ at t pairs rows row k out end q next) where
   abbrev Whole : Type 0
   Whole = (end ≡ landed out₀ at (singlesText t pairs k (drop row rows))) × (out ≡ sets out₀ at (singlesText t pairs k (drop row rows)))
 
   pub going-over : length rows ≤ q → Whole
-  going-over h = left-end (g .0) (rows-over t pairs rows q next h)
+  going-over h = left-end (g .left) (rows-over t pairs rows q next h)
 
-  module _ (h : q < length rows) (v : Bool) (e : v ≡ asksV (getD rows q 0)) where
+  module _ (h : q < length rows) {v : Bool} (e : v ≡ asksV (getD rows q 0)) where
     -- a row with a `v`
-    pub going-value : v ≡ true → (o o′ : List ℕ) (r r′ n m : ℕ)
+    pub going-value : v ≡ true → {o o′ : List ℕ} {r r′ n m : ℕ}
         → (r ≡ landed out end (singleText t pairs (getD rows q 0) next)) × (o ≡ sets out end (singleText t pairs (getD rows q 0) next))
         → (n ≡ pairsOf (getD rows q 0)) × (n ≤ 2) → o′ ≡ o → r′ ≡ r → m ≡ next + n → Going out₀ at t pairs rows row k o′ r′ (q + 1) m
-    going-value y o o′ r r′ n m p s eo er em =
+    going-value y {o} {o′} {r} {r′} {n} {m} p s eo er em =
         let l : Left out₀ at (singlesText t pairs k (drop row rows)) o r (singlesText t pairs (next + n) (drop (q + 1) rows)) =
-            rw (s .0) (left-more (g .0) (row-value t pairs rows q next h v e y) (took (singleText t pairs (getD rows q 0) next) p)) in
-        (rw (eo, er, em) l, omega (arith, g .1, s .1, em))
+        rw (s .0) (left-more (g .left) (row-value t pairs rows q next h v e y) (took (singleText t pairs (getD rows q 0) next) p)) in
+        record { left = rw (eo, er, em) l; few = omega (arith, g .few, s .1, em) }
 
-    module _ (z : v ≡ false) (a : ℕ) (i : a ≡ roleOf (getD rows q 0)) where
+    module _ (z : v ≡ false) {a : ℕ} (i : a ≡ roleOf (getD rows q 0)) where
       -- the Period
-      pub going-period : a ≡ 3 → (o o′ : List ℕ) (r r′ m : ℕ) → (r ≡ landed out end (text "<Period>")) × (o ≡ sets out end (text "<Period>")) → o′ ≡ o → r′ ≡ r → m ≡ next
+      pub going-period : a ≡ 3 → {o o′ : List ℕ} {r r′ m : ℕ} → (r ≡ landed out end (text "<Period>")) × (o ≡ sets out end (text "<Period>")) → o′ ≡ o → r′ ≡ r → m ≡ next
           → Going out₀ at t pairs rows row k o′ r′ (q + 1) m
-      going-period y o o′ r r′ m p eo er em =
+      going-period y {o} {o′} {r} {r′} {m} p eo er em =
           let l : Left out₀ at (singlesText t pairs k (drop row rows)) o r (singlesText t pairs next (drop (q + 1) rows)) =
-              left-more (g .0) (row-period t pairs rows q next h v e z a i y) (took (text "<Period>") p) in
-          (rw (eo, er, em) l, omega (arith, g .1, em))
+          left-more (g .left) (row-period t pairs rows q next h v e z a i y) (took (text "<Period>") p) in
+          record { left = rw (eo, er, em) l; few = omega (arith, g .few, em) }
 
       -- what else has no `v`
       pub going-out : (a ≡ 3 → ⊥) → Whole
-      going-out n = left-end (g .0) (row-other t pairs rows q next h v e z a i n)
+      going-out n = left-end (g .left) (row-other t pairs rows q next h v e z a i n)

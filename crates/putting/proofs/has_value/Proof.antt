@@ -4,10 +4,6 @@ use Rattle.putting.proofs.Singles.{value-first, value-scheme, value-non
 use borrow.Author.Needs.{needs}
 use Rattle.putting.proofs.has_value.Statement.{statement}
 use Rattle.putting.proofs.has_value.Tie as tie
-use Rattle.putting.proofs.has_value.Reads as reads
-use Rattle.putting.proofs.has_value.Lts as lts
-use Rattle.drafts.proofs.is_given.Reads as is-given-reads
-use Rattle.states.proofs.asks_scheme.Reads as asks-scheme-reads
 
 mul-is-given : tie.Need-mul-is-given
 mul-is-given c = search needs

@@ -8,12 +8,6 @@ use Rattle.putting.proofs.Singles.{no-attribute, an-attribute}
 use borrow.Author.Needs.{needs}
 use Rattle.putting.proofs.put_attribute.Statement.{statement}
 use Rattle.putting.proofs.put_attribute.Tie as tie
-use Rattle.putting.proofs.put_attribute.Reads as reads
-use Rattle.putting.proofs.put_attribute.Lts as lts
-use Rattle.drafts.proofs.is_given.Reads as is-given-reads
-use Rattle.drafts.proofs.shown.Reads as shown-reads
-use Rattle.putting.proofs.texts.put_bytes.Reads as put-bytes-reads
-use Rattle.putting.proofs.texts.put_escaped_at.Reads as put-escaped-at-reads
 
 mul-is-given : tie.Need-mul-is-given
 mul-is-given c = search needs
@@ -22,7 +16,7 @@ is-given-requires : tie.Need-is-given-requires
 is-given-requires c κs = search needs
 
 returns : tie.Need-returns
-returns c = 
+returns c =
     let a = c .before .before .before .before .before .before .args in
     told (no-attribute (a .opens .now) (a .text .now) (a .pairs .now) (a .k) _ (c .before .is-given .ensures) (not-true _ (c .if1 .taken))) (put-none _ _ (c .before .before .before .before .before .before .pre .0))
 
@@ -48,7 +42,7 @@ same-length : tie.Need-same-length
 same-length c = search needs
 
 returns-2 : tie.Need-returns-2
-returns-2 c = 
+returns-2 c =
     let a = c .before .before .before .before .before .before .before .before .before .before .before .before .before .before .before .before .before .before .before .before .args in
     let p = took (a .opens .now) (c .before .before .before .before .before .before .before .before .before .before .before .before .put-bytes .ensures) in
     let q = took (escaped _) (c .before .before .before .before .before .before .before .put-escaped-at .ensures) in

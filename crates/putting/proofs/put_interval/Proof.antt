@@ -10,11 +10,6 @@ use Rattle.putting.proofs.Landing.{took, told, put-then, put-low}
 use borrow.Author.Needs.{needs}
 use Rattle.putting.proofs.put_interval.Statement.{statement}
 use Rattle.putting.proofs.put_interval.Tie as tie
-use Rattle.putting.proofs.put_interval.Reads as reads
-use Rattle.putting.proofs.put_interval.Lts as lts
-use Rattle.putting.proofs.texts.put_amount_at.Reads as put-amount-at-reads
-use Rattle.putting.proofs.texts.put_bytes.Reads as put-bytes-reads
-use Rattle.putting.proofs.texts.put_position_at.Reads as put-position-at-reads
 
 slice-aggregate-put-bytes : tie.Need-slice-aggregate-put-bytes
 slice-aggregate-put-bytes c = search needs
@@ -45,7 +40,7 @@ same-length c = search needs
 
 returns : tie.Need-returns
 unfolding intervalText
-returns c = 
+returns c =
     let p = took (text "<Interval><Pos v=\"") (c .before .before .before .before .before .before .before .before .before .before .before .before .before .before .before .before .before .before .before .before .put-bytes .ensures) in
     let q = took (wholeText (c .before .before .before .before .before .before .before .before .before .before .before .before .before .before .before .before .before .before .before .before .before .before .before .before .args .p)) (c .before .before .before .before .before .before .before .before .before .before .before .before .before .before .before .before .put-position-at .ensures) in
     let r = took (text "\"/><Qty v=\"") (c .before .before .before .before .before .before .before .before .before .before .before .put-bytes2 .ensures) in

@@ -7,10 +7,6 @@ use Rattle.putting.proofs.Singles.{no-scheme, a-scheme}
 use borrow.Author.Needs.{needs}
 use Rattle.putting.proofs.put_scheme.Statement.{statement}
 use Rattle.putting.proofs.put_scheme.Tie as tie
-use Rattle.putting.proofs.put_scheme.Reads as reads
-use Rattle.putting.proofs.put_scheme.Lts as lts
-use Rattle.putting.proofs.put_attribute.Reads as put-attribute-reads
-use Rattle.states.proofs.asks_scheme.Reads as asks-scheme-reads
 
 asks-scheme-requires : tie.Need-asks-scheme-requires
 asks-scheme-requires c κs = search needs
@@ -28,14 +24,14 @@ same-length : tie.Need-same-length
 same-length c = search needs
 
 returns : tie.Need-returns
-returns c = 
+returns c =
     let a = c .before .before .before .before .before .before .before .before .before .before .args in
     told
     (a-scheme (a .text .now) (a .pairs .now) (a .w) (a .k) _ (c .before .before .before .before .before .before .asks-scheme .ensures) (c .before .before .before .before .before .if1 .taken))
     (took (attributeOf (text " codingScheme=\"") (a .text .now) (a .pairs .now) _) (c .before .before .put-attribute .ensures))
 
 returns-2 : tie.Need-returns-2
-returns-2 c = 
+returns-2 c =
     let a = c .before .before .before .before .before .args in
     told (no-scheme (a .text .now) (a .pairs .now) (a .w) (a .k) _ (c .before .asks-scheme .ensures) (c .if1 .left)) (put-none _ _ (c .before .before .before .before .before .pre .0))
 

@@ -9,19 +9,12 @@ use Rattle.putting.proofs.Singles.{no-single, a-single}
 use borrow.Author.Needs.{needs}
 use Rattle.putting.proofs.put_single.Statement.{statement}
 use Rattle.putting.proofs.put_single.Tie as tie
-use Rattle.putting.proofs.put_single.Reads as reads
-use Rattle.putting.proofs.put_single.Lts as lts
-use Rattle.putting.proofs.has_value.Reads as has-value-reads
-use Rattle.putting.proofs.put_attribute.Reads as put-attribute-reads
-use Rattle.putting.proofs.put_open.Reads as put-open-reads
-use Rattle.putting.proofs.put_scheme.Reads as put-scheme-reads
-use Rattle.putting.proofs.texts.put_bytes.Reads as put-bytes-reads
 
 has-value-requires : tie.Need-has-value-requires
 has-value-requires c κs = search needs
 
 returns : tie.Need-returns
-returns c = 
+returns c =
     let a = c .before .before .before .before .before .args in
     told (no-single (a .text .now) (a .pairs .now) (a .w) (a .k) _ (c .before .has-value .ensures) (not-true _ (c .if1 .taken))) (put-none _ _ (c .before .before .before .before .before .pre .0))
 
@@ -47,7 +40,7 @@ same-length : tie.Need-same-length
 same-length c = search needs
 
 returns-2 : tie.Need-returns-2
-returns-2 c = 
+returns-2 c =
     let a = c .before .before .before .before .before .before .before .before .before .before .before .before .before .before .before .before .before .before .before .before .before .before .before .args in
     let p = took (openText (c .before .before .before .before .before .before .before .before .before .before .before .before .before .before .before .before .before .before .before .before .before .before .before .args .w)) (c .before .before .before .before .before .before .before .before .before .before .before .before .before .before .before .before .put-open .ensures) in
     let q = took (attributeOf (text " v=\"") (c .before .before .before .before .before .before .before .before .before .before .before .before .before .before .before .before .before .before .before .before .before .before .before .args .text .now) (c .before .before .before .before .before .before .before .before .before .before .before .before .before .before .before .before .before .before .before .before .before .before .before .args .pairs .now) (c .before .before .before .before .before .before .before .before .before .before .before .before .before .before .before .before .before .before .before .before .before .before .before .args .k)) (c .before .before .before .before .before .before .before .before .before .before .before .put-attribute .ensures) in

@@ -8,13 +8,6 @@ use Rattle.putting.proofs.Singles.{Going, going-start, going-over, goin
 use borrow.Author.Needs.{needs}
 use Rattle.putting.proofs.put_singles.Statement.{statement}
 use Rattle.putting.proofs.put_singles.Tie as tie
-use Rattle.putting.proofs.put_singles.Reads as reads
-use Rattle.putting.proofs.put_singles.Lts as lts
-use Rattle.columns.proofs.role_of.Reads as role-of-reads
-use Rattle.drafts.proofs.pairs_of.Reads as pairs-of-reads
-use Rattle.putting.proofs.put_single.Reads as put-single-reads
-use Rattle.putting.proofs.texts.put_bytes.Reads as put-bytes-reads
-use Rattle.states.proofs.asks_v.Reads as asks-v-reads
 
 abbrev Inv-loop : tie.InvT-loop
 Inv-loop out₀ at text pairs rows row k end₀ q₀ next₀ t12 out end q next = Going out₀ at text pairs rows row k out end q next
@@ -23,7 +16,7 @@ abbrev μ-loop : tie.MeasureT-loop
 μ-loop out₀ at text pairs rows row k end₀ q₀ next₀ t12 out end q next = length rows - q
 
 loop-holds : tie.Need-loop-holds Inv-loop μ-loop
-loop-holds c = going-start (c .before .before .before .before .args .out .now) (c .before .before .before .before .args .at) (c .before .before .before .before .args .text .now) (c .before .before .before .before .args .pairs .now) (c .before .before .before .before .args .rows .now) (c .before .before .before .before .args .row) (c .before .before .before .before .args .k) (c .before .before .before .before .pre .0) (c .before .before .before .before .pre .1 .1)
+loop-holds c = let a = c .before .before .before .before .args in going-start (a .out .now) (a .at) (a .text .now) (a .pairs .now) (a .rows .now) (a .row) (a .k) (c .before .before .before .before .pre .0) (c .before .before .before .before .pre .1 .1)
 
 mul-w : tie.Need-mul-w Inv-loop μ-loop
 mul-w c = search needs
@@ -35,13 +28,13 @@ asks-v-requires : tie.Need-asks-v-requires Inv-loop μ-loop
 asks-v-requires c κs = search needs
 
 put-single-requires : tie.Need-put-single-requires Inv-loop μ-loop
-put-single-requires c κs = (c .before .before .before .before .before .loop .inv .0 .low, omega (arith, c .before .before .before .before .before .loop .inv .1, c .before .before .before .before .loop-test .taken, c .before .before .before .before .before .before .before .before .before .before .pre .1 .0))
+put-single-requires c κs = let g = c .before .before .before .before .before .loop .inv in (g .left .low, omega (arith, g .few, c .before .before .before .before .loop-test .taken, c .before .before .before .before .before .before .before .before .before .before .pre .1 .0))
 
 pairs-of-requires : tie.Need-pairs-of-requires Inv-loop μ-loop
 pairs-of-requires c κs = search needs
 
 add-next : tie.Need-add-next Inv-loop μ-loop
-add-next c = omega (arith, c .before .before .before .before .before .before .before .before .before .loop .inv .1, c .before .before .before .before .before .before .before .before .loop-test .taken, c .before .before .before .before .before .before .before .before .before .before .before .before .before .before .pre .1 .0, c .pairs-of .ensures .1)
+add-next c = omega (arith, c .before .before .before .before .before .before .before .before .before .loop .inv .few, c .before .before .before .before .before .before .before .before .loop-test .taken, c .before .before .before .before .before .before .before .before .before .before .before .before .before .before .pre .1 .0, c .pairs-of .ensures .1)
 
 role-of-requires : tie.Need-role-of-requires Inv-loop μ-loop
 role-of-requires c κs = search needs
@@ -50,13 +43,13 @@ slice-aggregate-put-bytes : tie.Need-slice-aggregate-put-bytes Inv-loop μ-loop
 slice-aggregate-put-bytes c = search needs
 
 put-bytes-requires : tie.Need-put-bytes-requires Inv-loop μ-loop
-put-bytes-requires c κs = c .before .before .before .before .before .before .before .before .loop .inv .0 .low
+put-bytes-requires c κs = c .before .before .before .before .before .before .before .before .loop .inv .left .low
 
 same-length : tie.Need-same-length Inv-loop μ-loop
-same-length c = c .before .before .before .before .before .before .loop .inv .0 .same
+same-length c = c .before .before .before .before .before .before .loop .inv .left .same
 
 returns : tie.Need-returns Inv-loop μ-loop
-returns c = going-out (c .before .before .before .before .before .before .before .before .before .before .before .args .out .now) (c .before .before .before .before .before .before .before .before .before .before .before .args .at) (c .before .before .before .before .before .before .before .before .before .before .before .args .text .now) (c .before .before .before .before .before .before .before .before .before .before .before .args .pairs .now) (c .before .before .before .before .before .before .before .before .before .before .before .args .rows .now) (c .before .before .before .before .before .before .before .before .before .before .before .args .row) (c .before .before .before .before .before .before .before .before .before .before .before .args .k) (c .before .before .before .before .before .before .loop .out) (c .before .before .before .before .before .before .loop .end) (c .before .before .before .before .before .before .loop .q) (c .before .before .before .before .before .before .loop .next) (c .before .before .before .before .before .before .loop .inv) (c .before .before .before .before .before .loop-test .taken) _ (c .before .before .before .asks-v .ensures) (c .before .before .if1 .left) _ (c .before .role-of .ensures) (c .if2 .left)
+returns c = going-out (c .before .before .before .before .before .before .loop .inv) (c .before .before .before .before .before .loop-test .taken) (c .before .before .before .asks-v .ensures) (c .before .before .if1 .left) (c .before .role-of .ensures) (c .if2 .left)
 
 add-q : tie.Need-add-q Inv-loop μ-loop
 add-q c = omega (arith, c .before .before .before .loop-test .taken, c .before .before .before .before .before .before .before .before .before .pre .1 .0)
@@ -65,17 +58,20 @@ loop-less : tie.Need-loop-less Inv-loop μ-loop
 loop-less c = omega (arith, c .before .before .before .loop-test .taken)
 
 loop-again : tie.Need-loop-again Inv-loop μ-loop
-loop-again c = 
+loop-again c =
+    let g = c .before .before .before .before .loop .inv in
+    let h = c .before .before .before .loop-test .taken in
+    let v = c .before .asks-v .ensures in
     ⊎-elim
-    (λ y. going-value (c .before .before .before .before .before .before .before .before .before .args .out .now) (c .before .before .before .before .before .before .before .before .before .args .at) (c .before .before .before .before .before .before .before .before .before .args .text .now) (c .before .before .before .before .before .before .before .before .before .args .pairs .now) (c .before .before .before .before .before .before .before .before .before .args .rows .now) (c .before .before .before .before .before .before .before .before .before .args .row) (c .before .before .before .before .before .before .before .before .before .args .k) (c .before .before .before .before .loop .out) (c .before .before .before .before .loop .end) (c .before .before .before .before .loop .q) (c .before .before .before .before .loop .next) (c .before .before .before .before .loop .inv) (c .before .before .before .loop-test .taken) _ (c .before .asks-v .ensures) (y .0 .taken) _ _ _ _ _ _ (y .2 .ensures) (y .5 .ensures) (y .6) (y .7) (y .8))
-    (λ y. going-period (c .before .before .before .before .before .before .before .before .before .args .out .now) (c .before .before .before .before .before .before .before .before .before .args .at) (c .before .before .before .before .before .before .before .before .before .args .text .now) (c .before .before .before .before .before .before .before .before .before .args .pairs .now) (c .before .before .before .before .before .before .before .before .before .args .rows .now) (c .before .before .before .before .before .before .before .before .before .args .row) (c .before .before .before .before .before .before .before .before .before .args .k) (c .before .before .before .before .loop .out) (c .before .before .before .before .loop .end) (c .before .before .before .before .loop .q) (c .before .before .before .before .loop .next) (c .before .before .before .before .loop .inv) (c .before .before .before .loop-test .taken) _ (c .before .asks-v .ensures) (y .0 .left) _ (y .1 .ensures) (y .2 .taken) _ _ _ _ _ (y .5 .ensures) (y .8) (y .9) (y .10))
+    (λ y. going-value g h v (y .0 .taken) (y .2 .ensures) (y .5 .ensures) (y .6) (y .7) (y .8))
+    (λ y. going-period g h v (y .0 .left) (y .1 .ensures) (y .2 .taken) (y .5 .ensures) (y .8) (y .9) (y .10))
     (c .if1 .came)
 
 same-length-2 : tie.Need-same-length-2 Inv-loop μ-loop
-same-length-2 c = c .before .loop .inv .0 .same
+same-length-2 c = c .before .loop .inv .left .same
 
 returns-2 : tie.Need-returns-2 Inv-loop μ-loop
-returns-2 c = going-over (c .before .before .before .before .before .before .args .out .now) (c .before .before .before .before .before .before .args .at) (c .before .before .before .before .before .before .args .text .now) (c .before .before .before .before .before .before .args .pairs .now) (c .before .before .before .before .before .before .args .rows .now) (c .before .before .before .before .before .before .args .row) (c .before .before .before .before .before .before .args .k) (c .before .loop .out) (c .before .loop .end) (c .before .loop .q) (c .before .loop .next) (c .before .loop .inv) (c .loop-test .left)
+returns-2 c = going-over (c .before .loop .inv) (c .loop-test .left)
 
 pub put-singles-spec : {M : Type 1} → statement M
 put-singles-spec =

@@ -8,9 +8,6 @@ use Rattle.putting.proofs.Landing.{took, told, put-none}
 use Rattle.putting.proofs.Arms.{arm, none-later}
 use Rattle.putting.proofs.names.put_later_name.Statement.{statement}
 use Rattle.putting.proofs.names.put_later_name.Tie as tie
-use Rattle.putting.proofs.names.put_later_name.Reads as reads
-use Rattle.putting.proofs.names.put_later_name.Lts as lts
-use Rattle.putting.proofs.texts.put_bytes.Reads as put-bytes-reads
 
 pub put-later-name-spec : {M : Type 1} → statement M
 unfolding laterText nameText elementName names

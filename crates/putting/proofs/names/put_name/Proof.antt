@@ -8,10 +8,6 @@ use Rattle.putting.proofs.Landing.{took, told}
 use Rattle.putting.proofs.Arms.{arm, later-named}
 use Rattle.putting.proofs.names.put_name.Statement.{statement}
 use Rattle.putting.proofs.names.put_name.Tie as tie
-use Rattle.putting.proofs.names.put_name.Reads as reads
-use Rattle.putting.proofs.names.put_name.Lts as lts
-use Rattle.putting.proofs.names.put_later_name.Reads as put-later-name-reads
-use Rattle.putting.proofs.texts.put_bytes.Reads as put-bytes-reads
 
 pub put-name-spec : {M : Type 1} → statement M
 unfolding nameText elementName names

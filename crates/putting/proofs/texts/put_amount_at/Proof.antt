@@ -6,10 +6,6 @@ use mir.Facts.{toZ-ofZ}
 use borrow.Author.Needs.{needs}
 use Rattle.putting.proofs.texts.put_amount_at.Statement.{statement}
 use Rattle.putting.proofs.texts.put_amount_at.Tie as tie
-use Rattle.putting.proofs.texts.put_amount_at.Reads as reads
-use Rattle.putting.proofs.texts.put_amount_at.Lts as lts
-use Rattle.amounts.proofs.put_amount.Reads as put-amount-reads
-use Rattle.putting.proofs.texts.after.Reads as after-reads
 
 returns : tie.Need-returns
 returns c = let a = c .before .before .args in none-past (amountText (a .a)) _ _ (c .if1 .taken) (c .before .before .pre)
@@ -33,7 +29,7 @@ same-length : tie.Need-same-length
 same-length c = search needs
 
 returns-2 : tie.Need-returns-2
-returns-2 c = 
+returns-2 c =
     let a = c .before .before .before .before .before .before .before .args in
     let f = c .before .before .before .before .before .before .before .fits .a in
     let e = rw (toZ-ofZ f) at (c .before .before .before .put-amount .ensures) in

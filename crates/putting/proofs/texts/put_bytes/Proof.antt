@@ -8,9 +8,6 @@ use borrow.Author.Needs.{needs}
 use Rattle.putting.proofs.Lent.{Ran, ran-start, ran-same, ran-more, ran-past, ran-end}
 use Rattle.putting.proofs.texts.put_bytes.Statement.{statement}
 use Rattle.putting.proofs.texts.put_bytes.Tie as tie
-use Rattle.putting.proofs.texts.put_bytes.Reads as reads
-use Rattle.putting.proofs.texts.put_bytes.Lts as lts
-use Rattle.putting.proofs.texts.after.Reads as after-reads
 
 abbrev Inv-loop : tie.InvT-loop
 Inv-loop out₀ at t i₀ out i = Ran out₀ at t out i
@@ -40,7 +37,7 @@ loop-less : tie.Need-loop-less Inv-loop μ-loop
 loop-less c = omega arith
 
 loop-again : tie.Need-loop-again Inv-loop μ-loop
-loop-again c = 
+loop-again c =
     let inv = c .before .before .loop .inv in
     let h = c .before .loop-test .taken in
     ⊎-elim (λ y. ran-more inv h (y .2)) (λ y. ran-past inv h (y .0 .left) (y .1)) (c .if1 .came)

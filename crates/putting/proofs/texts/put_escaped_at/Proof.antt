@@ -5,9 +5,6 @@ use Rattle.escapes.specs.Escaped.{escaped}
 use borrow.Author.Needs.{needs}
 use Rattle.putting.proofs.texts.put_escaped_at.Statement.{statement}
 use Rattle.putting.proofs.texts.put_escaped_at.Tie as tie
-use Rattle.putting.proofs.texts.put_escaped_at.Reads as reads
-use Rattle.putting.proofs.texts.put_escaped_at.Lts as lts
-use Rattle.escapes.proofs.put_escaped.Reads as put-escaped-reads
 
 returns : tie.Need-returns
 returns c = let a = c .before .before .before .args in none-past (escaped (a .v .now)) _ _ (c .if1 .taken) (c .before .before .before .pre)
@@ -31,7 +28,7 @@ same-length : tie.Need-same-length
 same-length c = search needs
 
 returns-2 : tie.Need-returns-2
-returns-2 c = 
+returns-2 c =
     let a = c .before .before .before .before .before .before .before .args in
     let e = c .before .before .put-escaped .ensures in
     lent-fit (escaped (a .v .now)) (a .out .now) _ (a .at) _ (c .before .before .before .before .if1 .left) (e .0) (e .1)

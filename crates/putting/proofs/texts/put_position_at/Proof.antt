@@ -5,10 +5,6 @@ use Rattle.wholes.specs.Whole.{wholeText}
 use borrow.Author.Needs.{needs}
 use Rattle.putting.proofs.texts.put_position_at.Statement.{statement}
 use Rattle.putting.proofs.texts.put_position_at.Tie as tie
-use Rattle.putting.proofs.texts.put_position_at.Reads as reads
-use Rattle.putting.proofs.texts.put_position_at.Lts as lts
-use Rattle.amounts.proofs.put_position.Reads as put-position-reads
-use Rattle.putting.proofs.texts.after.Reads as after-reads
 
 returns : tie.Need-returns
 returns c = let a = c .before .before .args in none-past (wholeText (a .p)) _ _ (c .if1 .taken) (c .before .before .pre)
@@ -32,7 +28,7 @@ same-length : tie.Need-same-length
 same-length c = search needs
 
 returns-2 : tie.Need-returns-2
-returns-2 c = 
+returns-2 c =
     let a = c .before .before .before .before .before .before .before .args in
     let e = c .before .before .before .put-position .ensures in
     lent-whole (wholeText (a .p)) (a .out .now) _ (a .at) _ _ (e .0) (e .1) (c .after .ensures)
