@@ -1,7 +1,7 @@
 -- A document put into a cleared output: where it finds room, and where it finds none. Assumes nothing.
 use Prim.Native.Nat.{ℕ, _+_, _*_, _-_, _≤_, _<_, min}
 use mathlib.Core.Path.{_≡_, refl, sym, ap, _∙_}
-use mathlib.Core.List.{List, [], _∷_, _++_, append-assoc}
+use mathlib.Core.List.{List, _++_, append-assoc}
 use mathlib.Core.Bool.{Bool, true, false, cond, _&&_, and-eq-true-iff}
 use mathlib.Core.Logic.{⊎-elim}
 use native.Mathlib.Omega.{arith}
@@ -18,12 +18,12 @@ use Rattle.refusals.specs.Refusals.{noRefusal, contentUnfit, noRoomToWrite}
 use Rattle.guideline.specs.Rows.{rowsOf}
 use Rattle.views.specs.Layout.{headerPairs, seriesPairs, cellOf}
 use Rattle.series.specs.Row.{cellsOf}
-use Rattle.drafts.specs.Draft.{Draft, draftDocument}
+use Rattle.drafts.specs.Draft.{Draft}
 use Rattle.drafts.specs.Judged.{draftLegal}
 use Rattle.fitting.specs.Fit.{isWritten, pairsFit, rowsFit, isLent, draftFits}
 use Rattle.putting.specs.Sheet.{landed, openText, rootText, sheetText}
 use Rattle.putting.proofs.Laid.{sheet-layout}
-use Rattle.writer.specs.Written.{longest, roomIn, Written, refusedBy, laidIn, fitWritten, written, writtenOf, twoIn, PermittedWrite}
+use Rattle.writer.specs.Written.{roomIn, Written, refusedBy, laidIn, fitWritten, written, writtenOf, twoIn, PermittedWrite}
 
 -- ---- the output
 

@@ -1,5 +1,3 @@
-use mathlib.Core.Path.{refl}
-use native.Mathlib.Omega.{arith}
 use Rattle.writer.specs.Written.{roomIn}
 use borrow.Author.Needs.{needs}
 use Rattle.writer.proofs.room_in.Statement.{statement}
