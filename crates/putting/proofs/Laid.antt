@@ -1,15 +1,15 @@
 -- The text that the code puts is the fixed layout of the draft's content, for the two kinds that are written. Assumes nothing.
-use Prim.Native.Nat.{ℕ, zero, suc, _+_, _*_, _≤_}
+use Prim.Native.Nat.{ℕ, zero, suc, _+_, _*_}
 use mathlib.Core.Path.{_≡_, refl, sym, ap, _∙_}
 use mathlib.Core.List.{List, [], _∷_, _++_, append-assoc, append-nil}
-use mathlib.Core.Bool.{Bool, true, false, cond, _&&_, not, and-eq-true-iff}
+use mathlib.Core.Bool.{Bool, true, false, cond, _&&_, and-eq-true-iff}
 use mathlib.Core.Logic.{⊎-elim}
 use native.Mathlib.Omega.{arith}
 use lib.Dec.{eqb, leb}
-use lib.IntN.{ℤ, pos}
-use lib.ListN.{length, drop, getD}
+use lib.IntN.{pos}
+use lib.ListN.{drop, getD}
 use borrow.Author.Tests.{eqb-true}
-use Rattle.lists.proofs.Cases.{bool-cases, eqb-cases, leb-cases, never}
+use Rattle.lists.proofs.Cases.{bool-cases, eqb-cases, never}
 use Rattle.slices.specs.Text.{text}
 use Rattle.slices.specs.Same.{same}
 use Rattle.structure.specs.Rows.{nameOf}
@@ -20,18 +20,16 @@ use Rattle.states.specs.Attributes.{asksV, asksScheme}
 use Rattle.series.specs.Row.{fieldAt}
 use Rattle.series.specs.declared.Field.the-variants.{FirstRow, Count}
 use Rattle.views.specs.Layout.{headerPairs, seriesPairs, oneIf, valuesOf, pairAfter, pairsAfter, firstPair, cellOf}
-use Rattle.views.specs.Shown.{pairView}
 use Rattle.wholes.specs.Whole.{wholeText}
 use Rattle.amounts.specs.Texts.{amountText}
-use Rattle.escapes.specs.Escaped.{escaped}
 use Rattle.trees.specs.Trees.{Trees, none, element}
-use Rattle.contents.specs.Said.{AttributeValue, Absent, Given, TagSaid, given}
+use Rattle.contents.specs.Said.{TagSaid, given}
 use Rattle.layouts.specs.Layout.{elementName, attributeText, attributesText, tagText, endText, layoutOf}
 use Rattle.drafts.specs.Draft.{Draft, isNoPair, pairValue, noDtdSaid, singleTag, isSaid, rootTag, bareTag, numberTag, singles, intervalsFrom, roleRow, pairFor, singlesIn, periodTree, seriesFrom, draftContent, draftDocument}
 use Rattle.drafts.specs.Pairs.{pairsOf, hasPair}
 use Rattle.drafts.proofs.Rows.{isNamed, inPairs, isBare, Table, table}
 use Rattle.drafts.proofs.Writing.{row-there}
-use Rattle.putting.specs.Sheet.{hasValue, nameText, openText, closeText, attributeOf, schemeText, singleText, singlesText, intervalText, intervalsText, seriesText, everySeriesText, rootText, sheetText}
+use Rattle.putting.specs.Sheet.{nameText, openText, closeText, attributeOf, schemeText, hasValue, singleText, singlesText, intervalText, intervalsText, seriesText, everySeriesText, rootText, sheetText}
 
 -- ---- an element's name
 
@@ -111,22 +109,22 @@ module _ (d : Draft) where
   unfolding singleTag given
   scheme-given w k = ⊎-elim (λ y. rw y (value-given (k + 1))) (λ y. rw y refl) (bool-cases (asksScheme w))
 
-  single-said : (w k : ℕ) → isSaid (singleTag d w k) ≡ cond (hasPair (d .pairs) k) true (cond (asksScheme w) (hasPair (d .pairs) (k + 1)) false)
-  unfolding isSaid singleTag
+  single-said : (w k : ℕ) → isSaid (singleTag d w k) ≡ hasValue (d .pairs) w k
+  unfolding isSaid singleTag hasValue
   single-said w k =
       ap (λ (b : Bool). cond b true (given (singleTag d w k .scheme))) (value-given k)
       ∙ ap (λ (b : Bool). cond (hasPair (d .pairs) k) true b) (scheme-given w k)
 
   single-tag : (w k : ℕ) → nameText (nameOf w) ≡ elementName (nameOf w) → isSaid (singleTag d w k) ≡ true
       → tagText (nameOf w) (singleTag d w k) (text "/>") ≡ singleText (d .text) (d .pairs) w k
-  unfolding tagText attributesText singleTag noDtdSaid attributeText singleText hasValue openText
+  unfolding tagText attributesText singleTag noDtdSaid attributeText singleText openText
   single-tag w k n s =
-      let c : cond (hasPair (d .pairs) k) true (cond (asksScheme w) (hasPair (d .pairs) (k + 1)) false) ≡ true = sym (single-said w k) ∙ s in
+      let c : hasValue (d .pairs) w k ≡ true = sym (single-said w k) ∙ s in
       let parts = two-parts (text "/>") (value-text (text " v=\"") k) (scheme-text w k) in
       rw (c, n) (ap (λ (l : List ℕ). text "<" ++ (elementName (nameOf w) ++ l)) parts)
 
   single-none : (w k : ℕ) → isSaid (singleTag d w k) ≡ false → singleText (d .text) (d .pairs) w k ≡ []
-  unfolding singleText hasValue
+  unfolding singleText
   single-none w k s = rw (sym (single-said w k) ∙ s) refl
 
   -- ---- single values, one after the other

@@ -1,44 +1,18 @@
--- The loops that put one text after the other: what is put so far, and what is left, are the whole. Assumes nothing.
-use Prim.Native.Nat.{ℕ, zero, suc, _+_, _*_, _-_, _≤_, _<_}
-use mathlib.Core.Path.{_≡_, refl, sym, ap, _∙_}
-use mathlib.Core.List.{List, [], _++_, append-assoc, append-nil}
+-- What is left to the loops over the rows of a series and over the series, and the parts of a series and of the sheet. Assumes nothing.
+use Prim.Native.Nat.{ℕ, suc, _+_, _*_, _-_, _≤_, _<_}
+use mathlib.Core.Path.{_≡_, refl, ap}
+use mathlib.Core.List.{List, [], _++_}
 use native.Mathlib.Omega.{arith}
 use native.Mathlib.Numerals.{add-one}
 use lib.IntN.{ℤ, pos}
-use lib.ListN.{length, getD, drop}
-use lib.Seq.{sets}
+use lib.ListN.{getD, drop}
 use Rattle.slices.specs.Text.{text}
 use Rattle.columns.specs.Columns.{seriesRole}
 use Rattle.series.specs.Row.{fieldAt}
 use Rattle.series.specs.declared.Field.the-variants.{FirstRow, Count}
 use Rattle.views.specs.Layout.{headerPairs, seriesPairs}
 use Rattle.drafts.specs.Draft.{roleRow}
-use Rattle.putting.specs.Sheet.{landed, openText, closeText, singlesText, intervalText, intervalsText, seriesText, everySeriesText, rootText, sheetText}
-use Rattle.putting.proofs.Landing.{Put, put-then, put-none, put-low, put-long}
-
-pub record Turn (out : List ℕ) (at : ℕ) (whole left : List ℕ) (end : ℕ) (o : List ℕ) : Type 0 where
-  pub done : List ℕ
-  pub there : Put out at done end o
-  pub rest : done ++ left ≡ whole
-
-pub turn-start : (out : List ℕ) (at : ℕ) (whole : List ℕ) → at ≤ length out + 1 → Turn out at whole whole at out
-turn-start out at whole h = record { done = []; there = put-none out at h; rest = refl }
-
-module _ {out o whole left : List ℕ} {at end : ℕ} (t : Turn out at whole left end o) where
-  pub turn-low : end ≤ length o + 1
-  turn-low = put-low (t .there)
-
-  pub turn-long : length o ≡ length out
-  turn-long = put-long (t .there)
-
-  pub turn-next : {l x y : List ℕ} {r : ℕ} → left ≡ x ++ y → Put o end x r l → Turn out at whole y r l
-  turn-next {l} {x} {y} e p =
-      record { done = t .done ++ x; there = put-then (t .there) p; rest = append-assoc (t .done) x y ∙ ap (λ (z : List ℕ). t .done ++ z) (sym e) ∙ t .rest }
-
-  pub turn-end : left ≡ [] → (end ≡ landed out at whole) × (o ≡ sets out at whole)
-  turn-end e =
-      let w : t .done ≡ whole = sym (append-nil (t .done)) ∙ ap (λ (z : List ℕ). t .done ++ z) (sym e) ∙ t .rest in
-      (t .there .answer ∙ ap (landed out at) w, t .there .buffer ∙ ap (sets out at) w)
+use Rattle.putting.specs.Sheet.{openText, closeText, singlesText, intervalText, intervalsText, seriesText, everySeriesText, rootText, sheetText}
 
 -- ---- the rows of a series
 

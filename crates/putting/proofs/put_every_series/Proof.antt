@@ -2,8 +2,8 @@ use Prim.Native.Nat.{_-_}
 use native.Mathlib.Omega.{arith}
 use borrow.Author.Needs.{needs}
 use Rattle.putting.specs.Sheet.{everySeriesText}
-use Rattle.putting.proofs.Landing.{took}
-use Rattle.putting.proofs.Turns.{Turn, turn-start, turn-low, turn-long, turn-next, turn-end, seriesLeft, series-start, series-next, series-over}
+use Rattle.putting.proofs.Landing.{took, Left, left-start, left-more, left-end}
+use Rattle.putting.proofs.Turns.{seriesLeft, series-start, series-next, series-over}
 use Rattle.putting.proofs.put_every_series.Statement.{statement}
 use Rattle.putting.proofs.put_every_series.Tie as tie
 use Rattle.putting.proofs.put_every_series.Reads as reads
@@ -14,7 +14,7 @@ use Rattle.series.proofs.field_of.Reads as field-of-reads
 
 abbrev Inv-loop : tie.InvT-loop
 Inv-loop out₀ at text pairs rows count series positions amounts row end₀ i₀ out end i =
-    Turn out₀ at (everySeriesText text pairs rows series positions amounts 0 count) (seriesLeft text pairs rows series positions amounts count i) end out
+    Left out₀ at (everySeriesText text pairs rows series positions amounts 0 count) out end (seriesLeft text pairs rows series positions amounts count i)
 
 abbrev μ-loop : tie.MeasureT-loop
 μ-loop out₀ at text pairs rows count series positions amounts row end₀ i₀ out end i = count - i
@@ -26,7 +26,7 @@ loop-holds : tie.Need-loop-holds Inv-loop μ-loop
 loop-holds c =
     let a = c .before .before .before .before .before .before .before .args in
     rw (series-start (a .text .now) (a .pairs .now) (a .rows .now) (a .series .now) (a .positions .now) (a .amounts .now) (a .count))
-    (turn-start (a .out .now) (a .at) _ (c .before .before .before .before .before .before .before .pre .0))
+    (left-start (a .out .now) (a .at) _ (c .before .before .before .before .before .before .before .pre .0))
 
 field-of-requires : tie.Need-field-of-requires Inv-loop μ-loop
 field-of-requires c κs = search needs
@@ -47,7 +47,7 @@ put-series-requires : tie.Need-put-series-requires Inv-loop μ-loop
 put-series-requires c κs =
     let few = c .before .before .before .before .before .before .before .before .before .before .before .before .pre .1 in
     let row = c .before .before .before .before .before .role-row .ensures .1 in
-    (turn-low (c .before .before .before .before .loop .inv), (few, (omega (arith, few, row), omega arith)))
+    (c .before .before .before .before .loop .inv .low, (few, (omega (arith, few, row), omega arith)))
 
 add-i : tie.Need-add-i Inv-loop μ-loop
 add-i c = search needs
@@ -57,15 +57,15 @@ loop-less c = search needs
 
 loop-again : tie.Need-loop-again Inv-loop μ-loop
 loop-again c =
-    turn-next (c .before .before .before .before .before .before .before .loop .inv)
+    left-more (c .before .before .before .before .before .before .before .loop .inv)
     (series-next _ _ _ _ _ _ _ _ (c .before .before .before .before .before .before .loop-test .taken) (c .before .before .before .before .before .before .before .before .role-row .ensures .0) (c .before .before .before .before .before .field-of .ensures) (c .before .before .before .before .field-of2 .ensures))
     (took _ (c .before .before .put-series .ensures))
 
 same-length : tie.Need-same-length Inv-loop μ-loop
-same-length c = turn-long (c .before .loop .inv)
+same-length c = c .before .loop .inv .same
 
 returns : tie.Need-returns Inv-loop μ-loop
-returns c = turn-end (c .before .loop .inv) (series-over _ _ _ _ _ _ _ _ (c .loop-test .left))
+returns c = left-end (c .before .loop .inv) (series-over _ _ _ _ _ _ _ _ (c .loop-test .left))
 
 pub put-every-series-spec : {M : Type 1} → statement M
 put-every-series-spec =
