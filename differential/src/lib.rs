@@ -1,4 +1,4 @@
-//! An independent reader of document 01 as 02 changes it, totals of 02, views, and generators of documents and of tables, to be held against the proved library.
+//! An independent reader of document 01 as 02 changes it, a writer and totals of 02, views, and generators of documents, drafts and tables, to be held against the proved library.
 
 pub mod digits;
 pub mod documents;
@@ -13,6 +13,7 @@ pub mod tables;
 pub mod totals;
 pub mod values;
 pub mod views;
+pub mod writing;
 
 #[cfg(test)]
 mod tests;

@@ -10,6 +10,7 @@ use crate::views::{lent, view, Viewed, HEADER_CELLS, SERIES_CELLS};
 
 mod references;
 mod samples;
+mod writing;
 
 const ROOM: Lengths = Lengths { series: 64 * ROW, positions: 2048, amounts: 2048, note: 16 };
 const ROOT: &str = "<Kostenblatt DtdBDEWNachrichtenVersion=\"1.0\">";
