@@ -1,4 +1,4 @@
-//! Reads and views generated documents with the proved library and with the model, adds up their tables and generated ones, and stops at the first difference.
+//! Reads and views generated documents with the proved library and with the model, adds up their tables and generated ones, writes them again, and stops at the first difference.
 //!
 //!     differential COUNT [SEED [FIRST]]
 //!
@@ -16,6 +16,7 @@ use std::process::ExitCode;
 
 mod library;
 mod notes;
+mod written;
 
 const USAGE: &str = "usage: differential COUNT [SEED [FIRST]]";
 
@@ -38,6 +39,7 @@ struct Tally {
     /// Views by refusal, and the values that those of accepted documents show.
     views: [u64; 11],
     shown: u64,
+    written: written::Tally,
 }
 
 fn main() -> ExitCode {
@@ -62,6 +64,7 @@ fn main() -> ExitCode {
         tables: [0; 3],
         views: [0; 11],
         shown: 0,
+        written: written::Tally::default(),
     };
     let Some(edges) = notes::edges() else { return ExitCode::FAILURE };
     for number in first..first.saturating_add(arguments[0]) {
@@ -72,6 +75,7 @@ fn main() -> ExitCode {
             || !same_digits(&made, seed, number, &mut tally)
             || !same_tables(seed, number, &mut tally)
             || !same_views(&made, seed, number, &mut tally)
+            || !written::same(&made.bytes, seed, number, &mut tally.written)
         {
             return ExitCode::FAILURE;
         }
@@ -98,6 +102,11 @@ fn print_tally(count: u64, edges: usize, tally: &Tally) {
     println!("generated tables: {} added up, refusal 17: {}, 18: {}", tally.tables[0], tally.tables[1], tally.tables[2]);
     let refused: Vec<String> = tally.views.iter().enumerate().skip(1).map(|(number, many)| format!("{number}: {many}")).collect();
     println!("views: {} of accepted documents, {} values; refusal {}", tally.views[0], tally.shown, refused.join(", "));
+    let [_, one, two, three] = tally.written.kinds;
+    println!(
+        "written again: {one} of kind 1, {two} of kind 2, {} of them with themselves as the text too; {three} of kind 3 refused",
+        tally.written.as_text
+    );
     println!("no difference");
 }
 

@@ -60,4 +60,27 @@ extern "C" {
 
     /// Shows where each attribute value of a document stands, in a table of pairs.
     pub fn lumintayag_views(doc: *const u8, doc_len: usize, table: *mut u32, table_len: usize, answer: *mut u32, answer_len: usize) -> u32;
+
+    /// Writes a document of kind 1 or 2 from values in a text, pairs that show them, and tables.
+    pub fn lumintayag_write(
+        kind: u32,
+        text: *const u8,
+        text_len: usize,
+        pairs: *const u32,
+        pairs_len: usize,
+        count: u32,
+        series: *const u32,
+        series_len: usize,
+        positions: *const u32,
+        positions_len: usize,
+        amounts: *const i64,
+        amounts_len: usize,
+        out: *mut u8,
+        out_len: usize,
+        answer: *mut u32,
+        answer_len: usize,
+    ) -> u32;
+
+    /// Puts what a value says, with every reference replaced, and answers how many bytes that is.
+    pub fn lumintayag_unescape(value: *const u8, value_len: usize, out: *mut u8, out_len: usize) -> usize;
 }
