@@ -2,6 +2,7 @@
 
 pub mod digits;
 pub mod documents;
+pub mod drafts;
 pub mod model;
 pub mod random;
 pub mod references;

@@ -120,9 +120,10 @@ impl Layout<'_> {
         Some(())
     }
 
-    /// The attributes that have a value; how many there are.
+    /// The attributes that have a value; how many there are. A root may be given those of every kind, though the reader knows DtdVersion and DtdRelease in kind 3 alone.
     fn given(&mut self, series: usize, row: &Row) -> usize {
-        let given: Vec<_> = row.attributes.iter().filter_map(|wanted| Some((wanted.name, self.draft.given(series, row, wanted)?))).collect();
+        let attributes = if row.task == Task::Root { ROOTS[2].attributes } else { row.attributes };
+        let given: Vec<_> = attributes.iter().filter_map(|wanted| Some((wanted.name, self.draft.given(series, row, wanted)?))).collect();
         given.iter().for_each(|(name, value)| self.attribute(name, value));
         given.len()
     }

@@ -1,17 +1,22 @@
-//! Documents written by the proved library and by the second writer: what was read of one, written again from its tables.
+//! Documents written by the proved library and by the second writer: what was read of one, written again from its tables, and drafts.
 
 use crate::library;
 use differential::documents::right_document;
-use differential::model::{Lengths, COUNT, FIRST, OLD, ROW};
+use differential::drafts::{draft, outputs};
+use differential::model::{Lengths, COUNT, FIRST, LONGEST, OLD, ROW};
 use differential::references::meaning;
 use differential::views::{HEADER_CELLS, SERIES_CELLS};
-use differential::writing::{document, written, Draft};
+use differential::writing::{document, written, Draft, Written};
+use std::ops::Range;
 
 /// How many documents were written again by kind, those of kind 3 being refused; and how many of kinds 1 and 2 with themselves as the text too.
 #[derive(Default)]
 pub struct Tally {
     pub kinds: [u64; 4],
     pub as_text: u64,
+    /// Drafts that are written, 12, and 13, in two outputs each; and of those the ones whose document is exactly as long as one may be, and one byte longer.
+    pub drafts: [u64; 3],
+    pub longest: [u64; 2],
 }
 
 /// A document as the library reads and views it.
@@ -125,17 +130,67 @@ fn again(doc: &[u8], tally: &mut Tally) -> Result<(), &'static str> {
     Ok(())
 }
 
-/// Of how many numbers one has a right document as well.
-const RIGHT: u64 = 4;
+fn same_again(doc: &[u8], seed: u64, number: u64, tally: &mut Tally) -> bool {
+    let Err(what) = again(doc, tally) else { return true };
+    println!("difference: seed {seed}, number {number}, {} bytes, written again: {what}\n{}", doc.len(), doc.escape_ascii());
+    false
+}
 
-/// Documents that are accepted, and right ones, written again.
+/// Of how many numbers one has a right document, and one a draft.
+const RIGHT: u64 = 4;
+const DRAFTS: u64 = 2;
+
+fn same_right(seed: u64, number: u64, tally: &mut Tally) -> bool {
+    number % RIGHT != 0 || same_again(&right_document(seed, number), seed, number, tally)
+}
+
+/// A document that is accepted, and right ones, written again; and drafts.
 pub fn same(doc: &[u8], seed: u64, number: u64, tally: &mut Tally) -> bool {
-    let right = (number % RIGHT == 0).then(|| right_document(seed, number));
-    for doc in [Some(doc), right.as_deref()].into_iter().flatten() {
-        if let Err(what) = again(doc, tally) {
-            println!("difference: seed {seed}, number {number}, {} bytes, written again: {what}\n{}", doc.len(), doc.escape_ascii());
+    same_again(doc, seed, number, tally) && same_right(seed, number, tally) && (number % DRAFTS != 0 || same_draft(seed, number, tally))
+}
+
+/// Right documents, and a draft for each number.
+pub fn all(numbers: Range<u64>, seed: u64) -> bool {
+    let mut tally = Tally::default();
+    for number in numbers {
+        if !same_right(seed, number, &mut tally) || !same_draft(seed, number, &mut tally) {
+            return false;
+        }
+    }
+    tally.print();
+    println!("no difference");
+    true
+}
+
+/// A draft in two outputs of other lengths.
+fn same_draft(seed: u64, number: u64, tally: &mut Tally) -> bool {
+    let draft = draft(seed, number);
+    let doc = document(&draft);
+    let length = doc.as_ref().map(Vec::len);
+    for (out, answer) in outputs(seed, number, length) {
+        let (expected, answered) = (written(doc.as_deref(), out, answer), library::write(&draft, out, answer));
+        tally.drafts[expected.refusal.saturating_sub(11) as usize] += 1;
+        (0..2).filter(|more| length == Some(LONGEST + more) && out >= LONGEST + more).for_each(|more| tally.longest[more] += 1);
+        if answered.as_ref() != Ok(&expected) {
+            println!("difference: seed {seed}, number {number}, a draft in {out} and {answer}; {draft:?}\ntext: {}", draft.text.escape_ascii());
+            let told = |it: &Written| format!("{}, {:?}, {}", it.refusal, it.answer, front(&it.out).escape_ascii());
+            println!("model:   {}\nlibrary: {}", told(&expected), answered.map_or_else(str::to_string, |it| told(&it)));
             return false;
         }
     }
     true
+}
+
+/// An output without the zeros at its end.
+fn front(out: &[u8]) -> &[u8] {
+    &out[..out.iter().rposition(|byte| *byte != 0).map_or(0, |last| last + 1)]
+}
+
+impl Tally {
+    pub fn print(&self) {
+        let ([_, one, two, three], as_text) = (self.kinds, self.as_text);
+        println!("written again: {one} of kind 1, {two} of kind 2, {as_text} of them with themselves as the text too; {three} of kind 3 refused");
+        let ([taken, content, length], [longest, longer]) = (self.drafts, self.longest);
+        println!("drafts: {taken} written, refusal 12: {content}, 13: {length}; with room, {longest} of {LONGEST} bytes and {longer} of one more");
+    }
 }

@@ -1,6 +1,7 @@
 //! K6: documents by hand, to the byte, and both sides of each line of 02, held against the second writer alone.
 
 use super::*;
+use crate::drafts::draft;
 use crate::writing::{document as written_as, laid_out, shortest, write, Draft, Written};
 
 /// A draft of what a document says, by views and tables, with the document as the text: it holds no reference.
@@ -180,4 +181,32 @@ fn lengths_of_output() {
         let long = with(&draft, 5, 0, &[&b"Z05"[..], &spaces].concat());
         assert_eq!((write(&long, LONGEST + 2, 2).refusal, laid_out(&long).map(|doc| doc.len())), (refusal, Some(LONGEST + more)));
     }
+}
+
+/// Drafts of both kinds are written, with references, shared rows and rows in another order; each reason of 12 is the first one of many.
+#[test]
+fn generated_drafts() {
+    let (mut kinds, mut refusals, mut not_lent, mut seen) = ([0; 2], [0; 10], 0, [0; 5]);
+    for number in 0..30_000 {
+        let made = draft(5, number);
+        let Some(doc) = laid_out(&made) else {
+            not_lent += 1;
+            continue;
+        };
+        let refusal = judge(&doc, usize::MAX).refusal;
+        refusals[refusal as usize] += 1;
+        if refusal != 0 {
+            continue;
+        }
+        kinds[made.kind as usize - 1] += 1;
+        let rows: Vec<(u32, u32)> = made.series.chunks_exact(ROW).take(made.count as usize).map(|row| (row[FIRST], row[COUNT])).collect();
+        seen[0] += usize::from(doc.contains(&b'&'));
+        seen[1] += usize::from(rows.windows(2).any(|two| two[1].0 < two[0].0 + two[0].1 && two[0].0 < two[1].0 + two[1].1));
+        seen[2] += usize::from(rows.windows(2).any(|two| two[1].0 < two[0].0));
+        seen[3] += usize::from(rows[0].0 > 0);
+        seen[4] += usize::from(doc.windows(3).any(|three| three == b"=\" "));
+    }
+    assert!(kinds.iter().chain(&seen).chain([&not_lent]).all(|many| *many > 200), "{kinds:?} {seen:?} {not_lent}");
+    assert!([3, 5, 6, 7, 8, 9].iter().all(|refusal| refusals[*refusal] > 100) && refusals[2] == 0, "{refusals:?}");
+    assert_eq!(draft(5, 77), draft(5, 77));
 }
