@@ -1,3 +1,5 @@
 pub mod Alike
 pub mod Given
 pub mod Amounts
+pub mod Places
+pub mod Parts
