@@ -3,3 +3,4 @@ pub mod Given
 pub mod Amounts
 pub mod Places
 pub mod Parts
+pub mod Last
