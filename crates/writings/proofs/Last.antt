@@ -20,7 +20,7 @@ use Rattle.contents.specs.Said.{TagSaid}
 use Rattle.sights.specs.Values.{countsOf, partsOf, lastOf}
 use Rattle.drafts.specs.Draft.{Draft, singleTag, isSaid, bareTag, rootTag, singles, intervalsFrom, roleRow, pairFor, singlesIn, periodTree, seriesFrom, draftContent}
 use Rattle.drafts.proofs.Elements.{Roles}
-use Rattle.writings.proofs.Places.{seriesRow, periodRow, intervalRow, Places, in-order, Single, single}
+use Rattle.writings.proofs.Places.{more, seriesRow, periodRow, intervalRow, Places, in-order, Single, single}
 use Rattle.writings.proofs.Parts.{RowsHave, NoSeries, counts-plain, Elsewhere, lastIn, counts, taken, last-element, last-lacks, last-other, singles-have, singles-miss, singles-hit}
 
 module _ (d : Draft) (rows : List ℕ) (p : Places rows) (t : Roles rows) where
@@ -35,17 +35,14 @@ module _ (d : Draft) (rows : List ℕ) (p : Places rows) (t : Roles rows) where
 
   -- ---- the rows of each part
 
-  header-ones : (q : ℕ) → 2 ≤ q → q < s → Single rows q
+  pub header-ones : (q : ℕ) → 2 ≤ q → q < s → Single rows q
   header-ones q l h = let o = in-order rows p in single rows p q l (λ e. omega (arith, h, e)) (λ e. omega (arith, h, e, o .1)) (omega (arith, h, o .1, o .2))
 
-  series-ones : (q : ℕ) → suc s ≤ q → q < r → Single rows q
+  pub series-ones : (q : ℕ) → suc s ≤ q → q < r → Single rows q
   series-ones q l h = let o = in-order rows p in single rows p q (omega (arith, l, o .0)) (λ e. omega (arith, l, e)) (λ e. omega (arith, h, e)) (omega (arith, h, o .2))
 
-  period-ones : (q : ℕ) → suc r ≤ q → q < v → Single rows q
+  pub period-ones : (q : ℕ) → suc r ≤ q → q < v → Single rows q
   period-ones q l h = let o = in-order rows p in single rows p q (omega (arith, l, o .0, o .1)) (λ e. omega (arith, l, e, o .1)) (λ e. omega (arith, l, e)) h
-
-  more : (a b : ℕ) → a ≤ b → (b ≡ a → ⊥) → a < b
-  more a b l h = ⊎-elim (λ (y : (a < b) × (ltb a b ≡ true)). y .0) (λ (y : (b ≤ a) × (ltb a b ≡ false)). absurd (h (omega (arith, l, y .0)))) (ltb-cases a b)
 
   plain-row : (q : ℕ) → s < q → q ≤ suc (suc v) → NoSeries rows q
   plain-row q l h =
@@ -110,7 +107,7 @@ module _ (d : Draft) (rows : List ℕ) (p : Places rows) (t : Roles rows) where
   abbrev innerOf : ℕ → Trees TagSaid
   innerOf i = singlesIn d rows s i (periodTree d rows i)
 
-  inner-plain : (i : ℕ) → RowsHave (NoSeries rows) (innerOf i)
+  pub inner-plain : (i : ℕ) → RowsHave (NoSeries rows) (innerOf i)
   inner-plain i = inner-have (NoSeries rows) plain-row i
 
   -- ---- a row of series i

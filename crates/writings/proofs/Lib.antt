@@ -4,3 +4,5 @@ pub mod Amounts
 pub mod Places
 pub mod Parts
 pub mod Last
+pub mod Texts
+pub mod Same

@@ -1,14 +1,14 @@
 -- Where the rows of single values stand, computed of the two kinds that are written. Assumes nothing.
 use Prim.Native.Nat.{ℕ, zero, suc, _+_, _≤_, _<_}
-use mathlib.Core.Path.{_≡_, refl, _∙_}
+use mathlib.Core.Path.{_≡_, refl, sym, _∙_}
 use mathlib.Core.List.{List, [], _∷_}
 use mathlib.Core.Bool.{Bool, true, false, cond, _&&_, not, and-eq-true-iff}
-use mathlib.Core.Logic.{⊎-elim}
+use mathlib.Core.Logic.{_⊎_, inl, inr, ⊎-elim}
 use native.Mathlib.Omega.{arith}
 use lib.Dec.{eqb, leb, ltb}
 use lib.ListN.{length, getD, take}
-use borrow.Author.Tests.{eqb-true, ne-eqb, ltb-true, leb-true, lt-ltb, le-ltb, le-leb}
-use Rattle.lists.proofs.Cases.{eqb-cases, never}
+use borrow.Author.Tests.{eqb-true, eq-eqb, ne-eqb, ltb-true, leb-true, lt-ltb, le-ltb, le-leb}
+use Rattle.lists.proofs.Cases.{bool-cases, eqb-cases, ltb-cases, never}
 use Rattle.slices.specs.Same.{same}
 use Rattle.elements.specs.Names.{names, numberIn, elementNo}
 use Rattle.columns.specs.Columns.{formOf, schemeOf, roleOf, rootRole, seriesRole, periodRole, intervalRole}
@@ -18,6 +18,9 @@ use Rattle.guideline.proofs.Each.{eachRow, row-of}
 use Rattle.states.specs.Attributes.{asksV, asksScheme}
 use Rattle.views.specs.Layout.{headerPairs, oneIf, valuesOf, pairAfter, pairsAfter, firstPair}
 use Rattle.drafts.specs.Draft.{roleRow}
+
+pub more : (a b : ℕ) → a ≤ b → (b ≡ a → ⊥) → a < b
+more a b l h = ⊎-elim (λ (y : (a < b) × (ltb a b ≡ true)). y .0) (λ (y : (b ≤ a) × (ltb a b ≡ false)). absurd (h (omega (arith, l, y .0)))) (ltb-cases a b)
 
 -- ---- the pair after those of a row
 
@@ -93,6 +96,20 @@ pub record Single (rows : List ℕ) (q : ℕ) : Type 0 where
   pub header : q < roleRow seriesRole rows → firstPair rows q < headerPairs
   pub later : roleRow seriesRole rows < q → headerPairs ≤ firstPair rows q
 
+-- by their pairs
+module _ (rows : List ℕ) (q : ℕ) (o : Single rows q) (apart : q ≡ roleRow seriesRole rows → ⊥) where
+  pub side-header : firstPair rows q < headerPairs → q < roleRow seriesRole rows
+  side-header f =
+      ⊎-elim (λ (y : (q < seriesRow rows) × (ltb q (seriesRow rows) ≡ true)). y .0)
+      (λ (y : (seriesRow rows ≤ q) × (ltb q (seriesRow rows) ≡ false)). let a = o .later (more (seriesRow rows) q (y .0) apart) in absurd (omega (arith, a, f)))
+      (ltb-cases q (seriesRow rows))
+
+  pub side-series : headerPairs ≤ firstPair rows q → roleRow seriesRole rows < q
+  side-series f =
+      ⊎-elim (λ (y : (q < seriesRow rows) × (ltb q (seriesRow rows) ≡ true)). let a = o .header (y .0) in absurd (omega (arith, a, f)))
+      (λ (y : (seriesRow rows ≤ q) × (ltb q (seriesRow rows) ≡ false)). more (seriesRow rows) q (y .0) apart)
+      (ltb-cases q (seriesRow rows))
+
 not-true : (a : Bool) → not a ≡ true → a ≡ false
 not-true true e = never e
 not-true false e = refl
@@ -129,3 +146,29 @@ module _ (rows : List ℕ) (p : Places rows) where
       single-by q
       (rw (le-leb 2 q two, ne-eqb q (seriesRow rows) s, ne-eqb q (periodRow rows) r, lt-ltb q (intervalRow rows) l)
       at (row-of (rowStands rows) rows (p .each) q (omega (arith, l, o .3))))
+
+  -- a row that has pairs is the root, or one of single values
+  pub row-place : (q j : ℕ) → q < length rows → j < valuesOf (getD rows q 0)
+      → ((q ≡ 1) × (firstPair rows 1 ≡ 0)) ⊎ ((2 ≤ q) × (q ≡ seriesRow rows → ⊥) × (q ≡ periodRow rows → ⊥) × (q < intervalRow rows))
+  unfolding rowStands isSingle
+  row-place q j l h =
+      let stands = row-of (rowStands rows) rows (p .each) q l in
+      ⊎-elim
+      (λ (y : isSingle rows q ≡ true). inr (apart q y))
+      (λ (y : isSingle rows q ≡ false).
+      ⊎-elim
+      (λ (z : (q ≡ 1) × (eqb q 1 ≡ true)). inl (z .0, rw (z .0) at (eqb-true (firstPair rows q) 0 (rw (y, z .1) at stands))))
+      (λ (z : (q ≡ 1 → ⊥) × (eqb q 1 ≡ false)). let e = eqb-true (valuesOf (getD rows q 0)) 0 (rw (y, z .1) at stands) in absurd (omega (arith, e, h)))
+      (eqb-cases q 1))
+      (bool-cases (isSingle rows q))
+    where
+      apart : (q : ℕ) → isSingle rows q ≡ true → (2 ≤ q) × (q ≡ seriesRow rows → ⊥) × (q ≡ periodRow rows → ⊥) × (q < intervalRow rows)
+      apart q y =
+          let a = and-eq-true-iff (leb 2 q && not (eqb q (seriesRow rows)) && not (eqb q (periodRow rows))) _ .0 y in
+          let b = and-eq-true-iff (leb 2 q && not (eqb q (seriesRow rows))) _ .0 (a .0) in
+          let c = and-eq-true-iff (leb 2 q) _ .0 (b .0) in (
+            leb-true 2 q (c .0),
+            (λ e. never (sym (not-true _ (c .1)) ∙ eq-eqb q (seriesRow rows) e)),
+            (λ e. never (sym (not-true _ (b .1)) ∙ eq-eqb q (periodRow rows) e)),
+            ltb-true q (intervalRow rows) (a .1),
+          )

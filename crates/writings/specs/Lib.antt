@@ -1,2 +1,4 @@
 pub mod Given
 pub mod Amounts
+pub mod Back
+pub mod Same
