@@ -6,3 +6,4 @@ pub mod Parts
 pub mod Last
 pub mod Texts
 pub mod Same
+pub mod Again

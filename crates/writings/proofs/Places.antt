@@ -20,7 +20,7 @@ use Rattle.views.specs.Layout.{headerPairs, oneIf, valuesOf, pairAfter, pairsAf
 use Rattle.drafts.specs.Draft.{roleRow}
 
 pub more : (a b : ℕ) → a ≤ b → (b ≡ a → ⊥) → a < b
-more a b l h = ⊎-elim (λ (y : (a < b) × (ltb a b ≡ true)). y .0) (λ (y : (b ≤ a) × (ltb a b ≡ false)). absurd (h (omega (arith, l, y .0)))) (ltb-cases a b)
+more a b l h = omega arith
 
 -- ---- the pair after those of a row
 

@@ -38,6 +38,7 @@ use Rattle.sights.proofs.Witness.{legal-viewed}
 use Rattle.drafts.specs.Draft.{Draft, isNoPair, pairValue, singleTag, isSaid, rootTag, roleRow, pairFor, singlesIn, seriesFrom, periodTree, draftContent, draftDocument, pairFits, Lent}
 use Rattle.drafts.specs.Pairs.{hasPair}
 use Rattle.drafts.specs.Judged.{draftLegal}
+use Rattle.drafts.proofs.Given.{start-given}
 use Rattle.drafts.proofs.Writing.{draft-spells}
 use Rattle.drafts.proofs.Elements.{Roles, roles, singles-those}
 use Rattle.drafts.proofs.Legal.{plain-intervals, draft-legal}
@@ -77,12 +78,16 @@ module _ (d : Draft) (k : ℕ) where
   shown-says false f = says-escaped textOf (text-legal f)
 
   shown-back : (doc t : List ℕ) (drops : Bool) → pairFits d k ≡ true → PairShows doc t k (withoutSpaces drops (pairValue d k)) → TextBack d doc t k drops
-  unfolding PairShows withoutSpaces
+  unfolding PairShows withoutSpaces hasPair
   shown-back doc t drops f h =
       record {
         absent = λ e. rw (pair-absent e) at h;
-        said = λ e. let g : pairView doc t k ≡ cond drops (trimmedOf (escaped textOf)) (escaped textOf) = rw (pair-given e) at h in ap says g ∙ shown-says drops f;
+        there = λ e. sym (start-given (getD t (cellOf k) 0) (getD t (cellOf k + 1) 0) (λ z. let a = shown e .1 in omega (arith, a, z)));
+        said = λ e. ap says (shown e .0) ∙ shown-says drops f;
       }
+    where
+      shown : hasPair (d .pairs) k ≡ true → (pairView doc t k ≡ cond drops (trimmedOf (escaped textOf)) (escaped textOf)) × (1 ≤ getD t (cellOf k) 0)
+      shown e = rw (pair-given e) at h
 
   -- "so that unescaped again it is the text itself", where nothing is dropped
   pub text-again : (doc t : List ℕ) (drops : Bool) → pairFits d k ≡ true → TextBack d doc t k drops → hasPair (d .pairs) k ≡ true → endsDropped drops (charsOf textOf) ≡ charsOf textOf

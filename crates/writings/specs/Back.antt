@@ -27,7 +27,9 @@ endsDropped drops l = cond drops (dropped l) l
 pub record TextBack (d : Draft) (doc t : List ℕ) (k : ℕ) (drops : Bool) : Type 0 where
   -- "0 and 0 where absent"
   pub absent : hasPair (d .pairs) k ≡ false → (getD t (cellOf k) 0 ≡ 0) × (getD t (cellOf k + 1) 0 ≡ 0)
-  -- else it says the characters of the text, in which `&` stands for itself
+  -- and only there
+  pub there : hasPair (d .pairs) k ≡ true → hasPair t k ≡ true
+  -- it says the characters of the text, in which `&` stands for itself
   pub said : hasPair (d .pairs) k ≡ true → says (pairView doc t k) ≡ endsDropped drops (charsOf (pairView (d .text) (d .pairs) k))
 
 -- of each value of each row, in the header and in each series
