@@ -133,3 +133,118 @@ module _ (d : Draft) where
   unfolding amountsOf allTurns
   amounts-turns i zero = refl
   amounts-turns i (suc n) = rw (amounts-turn (fieldAt (d .series) i FirstRow) (fieldAt (d .series) i Count), amounts-turns (suc i) n) refl
+
+-- ---- what stands in each series
+
+-- in n series from series i on
+unfoldable inners : Draft → List ℕ → ℕ → ℕ → List (Trees TagSaid)
+inners d rows i zero = []
+inners d rows i (suc n) = singlesIn d rows (roleRow seriesRole rows) i (periodTree d rows i) ∷ inners d rows (suc i) n
+
+module _ (d : Draft) (kind : cond (eqb (d .kind) 1) true (eqb (d .kind) 2) ≡ true) where
+  abbrev rows : List ℕ
+  rows = rowsOf (d .kind)
+
+  abbrev r : Roles rows
+  r = roles (d .kind) kind
+
+  inners-from : (i n : ℕ) → inEach (hasRole seriesRole) rows (seriesFrom d rows i n) ≡ inners d rows i n
+  unfolding seriesFrom inEach inners
+  inners-from i zero = refl
+  inners-from i (suc n) =
+      rw (r .series, inner-series d rows r (outside (d .kind) kind) i)
+      (ap (λ (l : List (Trees TagSaid)). singlesIn d rows (roleRow seriesRole rows) i (periodTree d rows i) ∷ l) (inners-from (suc i) n))
+
+  each-inner : eachSeries rows (draftContent d) ≡ inners d rows 0 (d .count)
+  unfolding eachSeries draftContent singlesIn inEach
+  each-inner =
+      rw (r .root)
+      (append-nil _
+      ∙ singles-in-each (hasRole seriesRole) d rows (seriesFrom d rows 0 (d .count)) (drop 2 rows) 2 (pairFor rows 2 0) refl (plain-intervals d rows r (drop 2 rows) (r .in-header) .0)
+      ∙ inners-from 0 (d .count))
+
+  inner-at : (i n j : ℕ) → j < n → length (those (hasRole intervalRole) rows (getD (inners d rows i n) j none)) ≡ fieldAt (d .series) (i + j) Count
+  unfolding inners
+  inner-at i zero j h = absurd (omega (arith, h))
+  inner-at i (suc n) zero h = rw (add-zero i) (series-counted d rows r i)
+  inner-at i (suc n) (suc j) h = let e : suc i + j ≡ i + suc j = omega arith in inner-at (suc i) n j (omega (arith, h)) ∙ ap (λ (k : ℕ). fieldAt (d .series) k Count) e
+
+  counts-from : (i n : ℕ) → intervalCounts rows (inners d rows i n) ≡ countsIn d i n
+  unfolding intervalCounts inners countsIn
+  counts-from i zero = refl
+  counts-from i (suc n) = rw (series-counted d rows r i) (ap (λ (l : List ℕ). fieldAt (d .series) i Count ∷ l) (counts-from (suc i) n))
+
+-- ---- the whole
+
+module _ (d g : Draft) (l : Lent d) (fit : draftLegal d ≡ true) (ns np na : ℕ) (shape : Shape) (nb : ℕ) (noted : 16 ≤ nb) (small : length (draftDocument d) ≤ 1048576)
+    (room : HasRoom (roomOf ns np na) (d .kind) (draftContent d)) (n : ℕ) (wide : cellOf headerPairs ≤ n) (shown : d .count ≤ viewRoom n .series) where
+  abbrev doc : List ℕ
+  doc = draftDocument d
+
+  abbrev o : Outcome
+  o = outcome d l fit ns np na shape nb noted small room
+
+  abbrev t : List ℕ
+  t = sheetViewed doc n .table
+
+  first-back : (i : ℕ) → i < d .count
+      → (fieldAt (o .tables .series) i FirstRow ≡ sum (take i (countsIn d 0 (d .count)))) × (fieldAt (o .tables .series) i Count ≡ fieldAt (d .series) i Count)
+  first-back i h =
+      let m = draft-series d (l .kind) in
+      let s = draft-read d l fit ns np na shape nb noted small room .tables .series i (omega (arith, m, h)) in
+      let e = each-inner d (l .kind) in
+      let z : 0 + i ≡ i = omega arith in (
+        s .begins ∙ ap (λ (x : List ℕ). sum (take i x)) (ap (intervalCounts (rowsOf (d .kind))) e ∙ counts-from d (l .kind) 0 (d .count)),
+        s .count
+            ∙ ap (λ (x : List (Trees TagSaid)). length (those (hasRole intervalRole) (rowsOf (d .kind)) (getD x i none))) e
+            ∙ inner-at d (l .kind) 0 (d .count) i h
+            ∙ ap (λ (k : ℕ). fieldAt (d .series) k Count) z,
+      )
+
+  module _ (made : MadeOf g doc o t) (kept : NoneDropped d) where
+    same-kind : d .kind ≡ g .kind
+    same-kind = sym (made .kind ∙ draft-read d l fit ns np na shape nb noted small room .kinds)
+
+    same-count : d .count ≡ g .count
+    same-count = sym (made .count ∙ draft-read d l fit ns np na shape nb noted small room .series ∙ draft-series d (l .kind))
+
+    rows-again : (i : ℕ) → i < d .count → SameRows d g i
+    rows-again i h =
+        let b = first-back i h in
+        let z : 0 + i ≡ i = omega arith in
+        let start : fieldAt (g .series) i FirstRow ≡ sum (take i (countsIn d 0 (d .count))) = ap (λ (x : List ℕ). fieldAt x i FirstRow) (made .series) ∙ b .0 in
+        record {
+          count = sym (ap (λ (x : List ℕ). fieldAt x i Count) (made .series) ∙ b .1);
+          positions = λ j c.
+              sym
+              (ap (λ (x : ℕ). getD (g .positions) (x + j) 0) start
+              ∙ ap (λ (x : List ℕ). getD x (sum (take i (countsIn d 0 (d .count))) + j) 0) (made .positions)
+              ∙ positions-back d l fit ns np na shape nb noted small room (sum (take i (countsIn d 0 (d .count))) + j)
+              ∙ ap (λ (x : List ℕ). getD x (sum (take i (countsIn d 0 (d .count))) + j) 0) (positions-turns d 0 (d .count))
+              ∙ turns-at d 0 (positionAt d) i 0 (d .count) j h (rw z c)
+              ∙ ap (λ (k : ℕ). getD (d .positions) (fieldAt (d .series) k FirstRow + j) 0) z);
+          amounts = λ j c.
+              sym
+              (ap (λ (x : ℕ). getD (g .amounts) (x + j) (pos 0)) start
+              ∙ ap (λ (x : List ℤ). getD x (sum (take i (countsIn d 0 (d .count))) + j) (pos 0)) (made .amounts)
+              ∙ amounts-back d l fit ns np na shape nb noted small room (sum (take i (countsIn d 0 (d .count))) + j)
+              ∙ ap (λ (x : List ℤ). getD x (sum (take i (countsIn d 0 (d .count))) + j) (pos 0)) (amounts-turns d 0 (d .count))
+              ∙ turns-at d (pos 0) (amountAt d) i 0 (d .count) j h (rw z c)
+              ∙ ap (λ (k : ℕ). getD (d .amounts) (fieldAt (d .series) k FirstRow + j) (pos 0)) z);
+        }
+
+    values-again : EachValue (rowsOf (d .kind)) (d .count) (λ k drops. pairValue d k ≡ pairValue g k)
+    values-again =
+        let b = texts-back d l fit n wide small shown in
+        let f = each-value (d .kind) (d .count) (λ k drops. pairFits d k ≡ true) (λ k drops h. l .values k (omega (arith, h))) in
+        let v =
+        subst (λ (m : ℕ). EachValue (rowsOf (d .kind)) m (λ k drops. ValueFrom g doc t k)) (sym same-count)
+        (subst (λ (k : ℕ). EachValue (rowsOf k) (g .count) (λ k drops. ValueFrom g doc t k)) (sym same-kind) (made .values)) in
+        record {
+          header = λ q low h j c. value-again d g doc t _ _ (f .header q low h j c) (b .header q low h j c) (v .header q low h j c) (kept .header q low h j c);
+          each = λ q low h i u j c. value-again d g doc t _ _ (f .each q low h i u j c) (b .each q low h i u j c) (v .each q low h i u j c) (kept .each q low h i u j c);
+        }
+
+    -- "gives back the same positions, amounts and texts": so much so that what was read back writes the same bytes
+    pub written-again : draftDocument d ≡ draftDocument g
+    written-again = same-document d g (l .kind) (record { kind = same-kind; count = same-count; values = values-again; rows = rows-again })
