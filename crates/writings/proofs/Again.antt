@@ -1,7 +1,7 @@
 -- Writing what was read back from a written document writes the same bytes. Assumes nothing.
-use Prim.Native.Nat.{ℕ, zero, suc, _+_, _*_, _≤_, _<_}
+use Prim.Native.Nat.{ℕ, zero, suc, _+_, _≤_, _<_}
 use mathlib.Core.Path.{_≡_, refl, sym, ap, _∙_, subst}
-use mathlib.Core.List.{List, [], _∷_, _++_, map, append-nil}
+use mathlib.Core.List.{List, [], _∷_, _++_, append-nil}
 use mathlib.Core.Bool.{Bool, true, false, cond}
 use mathlib.Core.Logic.{⊎-elim}
 use native.Mathlib.Omega.{arith}
@@ -20,8 +20,8 @@ use Rattle.series.specs.Row.{fieldAt}
 use Rattle.series.specs.declared.Field.the-variants.{FirstRow, Count}
 use Rattle.reader.specs.Reading.{roomOf}
 use Rattle.reader.specs.Answer.{Outcome}
-use Rattle.trees.specs.Trees.{Trees, none, element}
-use Rattle.contents.specs.Said.{Absent, Given, TagSaid}
+use Rattle.trees.specs.Trees.{Trees, none}
+use Rattle.contents.specs.Said.{Given, TagSaid}
 use Rattle.contents.specs.Legal.{hasRole, those, inEach, Legal, HasRoom}
 use Rattle.contents.specs.Shown.{sum, eachSeries, intervalCounts}
 use Rattle.views.specs.Layout.{headerPairs, cellOf, viewRoom}
@@ -35,7 +35,7 @@ use Rattle.drafts.specs.Written.{writtenOf}
 use Rattle.drafts.proofs.Elements.{Roles, roles, singles-in-each}
 use Rattle.drafts.proofs.Legal.{plain-intervals, series-counted, outside, inner-series}
 use Rattle.drafts.proofs.Promises.{fit-exactly, outcome, draft-read, positions-back, amounts-back}
-use Rattle.writings.specs.Back.{endsDropped, TextBack, EachValue, TextsBack}
+use Rattle.writings.specs.Back.{endsDropped, TextBack, EachValue}
 use Rattle.writings.specs.Same.{SameRows, SameGiven}
 use Rattle.writings.specs.Again.{ValueFrom, MadeOf, NoneDropped}
 use Rattle.writings.proofs.Texts.{pair-absent, pair-given, text-again, draft-series, texts-back}
