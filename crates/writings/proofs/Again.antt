@@ -82,7 +82,7 @@ module _ {A : Type 0} (d : Draft) (z : A) (f : ℕ → A) where
   turn-at j (suc n) (suc x) h = let e : suc j + x ≡ j + suc x = omega arith in turn-at (suc j) n x (omega (arith, h)) ∙ ap f e
 
 -- how many rows each of n series from series i on has
-unfoldable countsIn : Draft → ℕ → ℕ → List ℕ
+unfoldable pub countsIn : Draft → ℕ → ℕ → List ℕ
 countsIn d i zero = []
 countsIn d i (suc n) = fieldAt (d .series) i Count ∷ countsIn d (suc i) n
 
@@ -189,7 +189,7 @@ module _ (d g : Draft) (l : Lent d) (fit : draftLegal d ≡ true) (ns np na : �
   abbrev t : List ℕ
   t = sheetViewed doc n .table
 
-  first-back : (i : ℕ) → i < d .count
+  pub first-back : (i : ℕ) → i < d .count
       → (fieldAt (o .tables .series) i FirstRow ≡ sum (take i (countsIn d 0 (d .count)))) × (fieldAt (o .tables .series) i Count ≡ fieldAt (d .series) i Count)
   first-back i h =
       let m = draft-series d (l .kind) in

@@ -7,3 +7,4 @@ pub mod Last
 pub mod Texts
 pub mod Same
 pub mod Again
+pub mod Lent
