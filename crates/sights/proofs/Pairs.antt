@@ -89,8 +89,7 @@ module _ (doc : List ℕ) where
         ⊎-elim
         (λ (z : drops ≡ true).
         rw (y, z)
-        (let e : at + x .start + leadOf (quoted x s) ≡ at + (x .start + leadOf (quoted x s)) = omega arith in
-        (
+        (let e : at + x .start + leadOf (quoted x s) ≡ at + (x .start + leadOf (quoted x s)) = omega arith in (
           ap (λ (n : ℕ). partOf doc n (length (trimmedOf (quoted x s)))) e
               ∙ part-in doc s at (x .start + leadOf (quoted x s)) (length (trimmedOf (quoted x s))) stands
               ∙ trimmed-part x s,

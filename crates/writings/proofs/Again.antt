@@ -1,7 +1,7 @@
 -- Writing what was read back from a written document writes the same bytes. Assumes nothing.
-use Prim.Native.Nat.{ℕ, zero, suc, _+_, _*_, _≤_, _<_}
+use Prim.Native.Nat.{ℕ, zero, suc, _+_, _≤_, _<_}
 use mathlib.Core.Path.{_≡_, refl, sym, ap, _∙_, subst}
-use mathlib.Core.List.{List, [], _∷_, _++_, map, append-nil}
+use mathlib.Core.List.{List, [], _∷_, _++_, append-nil}
 use mathlib.Core.Bool.{Bool, true, false, cond}
 use mathlib.Core.Logic.{⊎-elim}
 use native.Mathlib.Omega.{arith}
@@ -10,7 +10,7 @@ use lib.Dec.{eqb}
 use lib.IntN.{ℤ, pos}
 use lib.ListN.{length, getD, drop, take, List·getD-append}
 use lib.Seq.{getD-append-add}
-use Rattle.lists.proofs.Cases.{bool-cases}
+use Rattle.lists.proofs.Cases.{bool-cases, never}
 use Rattle.notes.specs.declared.Shape.{Shape}
 use Rattle.escapes.specs.Escaped.{escaped}
 use Rattle.escapes.specs.Spelled.{charsOf}
@@ -20,9 +20,9 @@ use Rattle.series.specs.Row.{fieldAt}
 use Rattle.series.specs.declared.Field.the-variants.{FirstRow, Count}
 use Rattle.reader.specs.Reading.{roomOf}
 use Rattle.reader.specs.Answer.{Outcome}
-use Rattle.trees.specs.Trees.{Trees, none, element}
-use Rattle.contents.specs.Said.{Absent, Given, TagSaid}
-use Rattle.contents.specs.Legal.{hasRole, those, inEach, HasRoom}
+use Rattle.trees.specs.Trees.{Trees, none}
+use Rattle.contents.specs.Said.{Given, TagSaid}
+use Rattle.contents.specs.Legal.{hasRole, those, inEach, Legal, HasRoom}
 use Rattle.contents.specs.Shown.{sum, eachSeries, intervalCounts}
 use Rattle.views.specs.Layout.{headerPairs, cellOf, viewRoom}
 use Rattle.views.specs.Shown.{pairView}
@@ -30,14 +30,16 @@ use Rattle.views.specs.Views.{sheetViewed}
 use Rattle.drafts.specs.Draft.{Draft, isNoPair, pairValue, roleRow, pairFor, singlesIn, periodTree, seriesFrom, draftContent, draftDocument, pairFits, Lent}
 use Rattle.drafts.specs.Pairs.{hasPair}
 use Rattle.drafts.specs.Judged.{draftLegal, positionsIn, amountsIn, positionsOf, amountsOf}
+use Rattle.drafts.specs.Fit.{isLent, draftFits}
+use Rattle.drafts.specs.Written.{writtenOf}
 use Rattle.drafts.proofs.Elements.{Roles, roles, singles-in-each}
 use Rattle.drafts.proofs.Legal.{plain-intervals, series-counted, outside, inner-series}
-use Rattle.drafts.proofs.Promises.{outcome, draft-read, positions-back, amounts-back}
-use Rattle.writings.specs.Back.{endsDropped, TextBack, EachValue, TextsBack}
+use Rattle.drafts.proofs.Promises.{fit-exactly, outcome, draft-read, positions-back, amounts-back}
+use Rattle.writings.specs.Back.{endsDropped, TextBack, EachValue}
 use Rattle.writings.specs.Same.{SameRows, SameGiven}
 use Rattle.writings.specs.Again.{ValueFrom, MadeOf, NoneDropped}
 use Rattle.writings.proofs.Texts.{pair-absent, pair-given, text-again, draft-series, texts-back}
-use Rattle.writings.proofs.Same.{same-document, each-value}
+use Rattle.writings.proofs.Same.{same-content, same-document, each-value}
 
 -- ---- a value
 
@@ -80,7 +82,7 @@ module _ {A : Type 0} (d : Draft) (z : A) (f : ℕ → A) where
   turn-at j (suc n) (suc x) h = let e : suc j + x ≡ j + suc x = omega arith in turn-at (suc j) n x (omega (arith, h)) ∙ ap f e
 
 -- how many rows each of n series from series i on has
-unfoldable countsIn : Draft → ℕ → ℕ → List ℕ
+unfoldable pub countsIn : Draft → ℕ → ℕ → List ℕ
 countsIn d i zero = []
 countsIn d i (suc n) = fieldAt (d .series) i Count ∷ countsIn d (suc i) n
 
@@ -187,7 +189,7 @@ module _ (d g : Draft) (l : Lent d) (fit : draftLegal d ≡ true) (ns np na : �
   abbrev t : List ℕ
   t = sheetViewed doc n .table
 
-  first-back : (i : ℕ) → i < d .count
+  pub first-back : (i : ℕ) → i < d .count
       → (fieldAt (o .tables .series) i FirstRow ≡ sum (take i (countsIn d 0 (d .count)))) × (fieldAt (o .tables .series) i Count ≡ fieldAt (d .series) i Count)
   first-back i h =
       let m = draft-series d (l .kind) in
@@ -245,6 +247,66 @@ module _ (d g : Draft) (l : Lent d) (fit : draftLegal d ≡ true) (ns np na : �
           each = λ q low h i u j c. value-again d g doc t _ _ (f .each q low h i u j c) (b .each q low h i u j c) (v .each q low h i u j c) (kept .each q low h i u j c);
         }
 
+    given-again : SameGiven d g
+    given-again = record { kind = same-kind; count = same-count; values = values-again; rows = rows-again }
+
     -- "gives back the same positions, amounts and texts": so much so that what was read back writes the same bytes
-    pub written-again : draftDocument d ≡ draftDocument g
-    written-again = same-document d g (l .kind) (record { kind = same-kind; count = same-count; values = values-again; rows = rows-again })
+    pub written-again : draftDocument g ≡ draftDocument d
+    written-again = sym (same-document d g (l .kind) given-again)
+
+    -- which is as fit to be written,
+    pub again-legal : draftLegal g ≡ true
+    again-legal =
+        let c = same-content d g (l .kind) given-again in
+        fit-exactly g (rw (← same-kind) (l .kind)) .1
+        (subst (Legal (g .kind)) c (subst (λ (k : ℕ). Legal k (draftContent d)) same-kind (fit-exactly d (l .kind) .0 fit)))
+
+    -- so that the writer answers the same, and leaves the same in an output of m bytes, where both are lent
+    pub again-written : isLent d ≡ true → isLent g ≡ true → (m : ℕ) → writtenOf g m ≡ writtenOf d m
+    unfolding writtenOf draftFits
+    again-written a b m = rw (a, b, fit, again-legal, written-again) refl
+
+  -- there is one: the draft's own text and pairs show what the views do
+  abbrev pub own : Draft
+  own =
+      record {
+        kind = o .answer .kind;
+        text = d .text;
+        pairs = d .pairs;
+        count = o .answer .series;
+        series = o .tables .series;
+        positions = o .tables .positions;
+        amounts = o .tables .amounts;
+      }
+
+  own-value : (k : ℕ) (drops : Bool) → pairFits d k ≡ true → TextBack d doc t k drops
+      → (hasPair (d .pairs) k ≡ true → endsDropped drops (charsOf (pairView (d .text) (d .pairs) k)) ≡ charsOf (pairView (d .text) (d .pairs) k)) → ValueFrom own doc t k
+  own-value k drops f b kept =
+      ⊎-elim
+      (λ (y : hasPair (d .pairs) k ≡ true). record { there = y ∙ sym (b .there y); text = λ h. sym (text-again d k doc t drops f b y (kept y)) })
+      (λ (y : hasPair (d .pairs) k ≡ false).
+      let e = no-pair t k (b .absent y) in
+      record { there = y ∙ sym e; text = λ h. never (sym e ∙ h) })
+      (bool-cases (hasPair (d .pairs) k))
+
+  pub own-made : NoneDropped d → MadeOf own doc o t
+  own-made kept =
+      let b = texts-back d l fit n wide small shown in
+      let f = each-value (d .kind) (d .count) (λ k drops. pairFits d k ≡ true) (λ k drops h. l .values k (omega (arith, h))) in
+      let v : EachValue (rowsOf (d .kind)) (d .count) (λ k drops. ValueFrom own doc t k) =
+      record {
+        header = λ q low h j c. own-value _ _ (f .header q low h j c) (b .header q low h j c) (kept .header q low h j c);
+        each = λ q low h i u j c. own-value _ _ (f .each q low h i u j c) (b .each q low h i u j c) (kept .each q low h i u j c);
+      } in
+      let k : d .kind ≡ own .kind = sym (draft-read d l fit ns np na shape nb noted small room .kinds) in
+      let m : d .count ≡ own .count = sym (draft-read d l fit ns np na shape nb noted small room .series ∙ draft-series d (l .kind)) in
+      record {
+        kind = refl;
+        count = refl;
+        series = refl;
+        positions = refl;
+        amounts = refl;
+        values =
+            subst (λ (x : ℕ). EachValue (rowsOf (own .kind)) x (λ k drops. ValueFrom own doc t k)) m
+            (subst (λ (x : ℕ). EachValue (rowsOf x) (d .count) (λ k drops. ValueFrom own doc t k)) k v);
+      }

@@ -1,24 +1,23 @@
 -- The content of a draft has one tag in each row of single values, of the header and of each series, where one is said. Assumes nothing.
 use Prim.Native.Nat.{ℕ, zero, suc, _+_, _*_, _≤_, _<_}
-use mathlib.Core.Path.{_≡_, refl, sym, ap, _∙_, subst}
+use mathlib.Core.Path.{_≡_, refl, ap, _∙_}
 use mathlib.Core.List.{List, [], _∷_}
-use mathlib.Core.Bool.{Bool, true, false, cond}
+use mathlib.Core.Bool.{true, false, cond}
 use mathlib.Core.Logic.{⊎-elim}
 use native.Mathlib.Omega.{arith}
 use lib.Dec.{eqb, ltb}
-use lib.ListN.{length, getD, drop}
+use lib.ListN.{getD, drop}
 use borrow.Author.Tests.{eq-eqb, ne-eqb, lt-ltb, le-ltb}
 use Rattle.lists.proofs.Cases.{eqb-cases, ltb-cases}
-use Rattle.columns.specs.Columns.{roleOf, seriesRole, periodRole, intervalRole}
 use Rattle.guideline.specs.Rows.{rowsOf}
 use Rattle.series.specs.Row.{fieldAt}
 use Rattle.series.specs.declared.Field.the-variants.{FirstRow, Count}
 use Rattle.views.specs.Layout.{headerPairs, seriesPairs, firstPair}
 use Rattle.views.specs.Shown.{seriesAt}
-use Rattle.trees.specs.Trees.{Trees, none, element}
+use Rattle.trees.specs.Trees.{Trees, none}
 use Rattle.contents.specs.Said.{TagSaid}
-use Rattle.sights.specs.Values.{countsOf, partsOf, lastOf}
-use Rattle.drafts.specs.Draft.{Draft, singleTag, isSaid, bareTag, rootTag, singles, intervalsFrom, roleRow, pairFor, singlesIn, periodTree, seriesFrom, draftContent}
+use Rattle.sights.specs.Values.{partsOf, lastOf}
+use Rattle.drafts.specs.Draft.{Draft, singleTag, isSaid, bareTag, rootTag, intervalsFrom, pairFor, singlesIn, periodTree, seriesFrom, draftContent}
 use Rattle.drafts.proofs.Elements.{Roles}
 use Rattle.writings.proofs.Places.{more, seriesRow, periodRow, intervalRow, Places, in-order, Single, single}
 use Rattle.writings.proofs.Parts.{RowsHave, NoSeries, counts-plain, Elsewhere, lastIn, counts, taken, last-element, last-lacks, last-other, singles-have, singles-miss, singles-hit}

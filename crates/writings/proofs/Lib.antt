@@ -8,3 +8,4 @@ pub mod Last
 pub mod Texts
 pub mod Same
 pub mod Again
+pub mod Lent

@@ -1,27 +1,24 @@
 -- Which tag of the content of a draft comes last in a row, of the header or of a series. Assumes nothing.
-use Prim.Native.Nat.{ℕ, zero, suc, _+_, _*_, _≤_, _<_}
+use Prim.Native.Nat.{ℕ, suc, _+_, _≤_, _<_}
 use mathlib.Core.Path.{_≡_, refl, sym, ap, _∙_}
-use mathlib.Core.List.{List, [], _∷_, _++_, append-assoc}
+use mathlib.Core.List.{List, [], _∷_, _++_}
 use mathlib.Core.Bool.{Bool, true, false, cond}
 use mathlib.Core.Logic.{⊎-elim}
 use native.Mathlib.Omega.{arith}
-use lib.Dec.{eqb, leb, ltb}
+use lib.Dec.{eqb, ltb}
 use lib.ListN.{length, getD, drop, length-drop}
-use borrow.Author.Tests.{eq-eqb, ne-eqb, lt-ltb, le-ltb}
-use Rattle.lists.proofs.Cases.{bool-cases, eqb-cases, ltb-cases, never}
-use Rattle.columns.specs.Columns.{roleOf, seriesRole, periodRole, intervalRole}
+use borrow.Author.Tests.{ne-eqb}
+use Rattle.lists.proofs.Cases.{eqb-cases, ltb-cases, never}
+use Rattle.columns.specs.Columns.{roleOf, seriesRole}
 use Rattle.states.specs.Attributes.{asksV}
-use Rattle.series.specs.Row.{fieldAt}
-use Rattle.series.specs.declared.Field.the-variants.{FirstRow, Count}
-use Rattle.views.specs.Layout.{headerPairs, seriesPairs, valuesOf, firstPair}
+use Rattle.views.specs.Layout.{headerPairs, valuesOf, firstPair}
 use Rattle.views.specs.Shown.{seriesAt}
 use Rattle.trees.specs.Trees.{Trees, none, element}
 use Rattle.contents.specs.Said.{TagSaid}
-use Rattle.sights.specs.Values.{Part, part, countsOf, partsOf, lastOf}
-use Rattle.drafts.specs.Draft.{Draft, singleTag, isSaid, bareTag, rootTag, singles, intervalsFrom, roleRow, pairFor, singlesIn, periodTree, seriesFrom}
+use Rattle.sights.specs.Values.{Part, countsOf, partsOf, lastOf}
+use Rattle.drafts.specs.Draft.{Draft, singleTag, isSaid, singles}
 use Rattle.drafts.proofs.Writing.{row-there}
-use Rattle.drafts.proofs.Elements.{Roles}
-use Rattle.writings.proofs.Places.{first-next, seriesRow, periodRow, intervalRow, Places, in-order, Single, single}
+use Rattle.writings.proofs.Places.{first-next, Single}
 
 -- ---- the elements of a content, one by one
 
@@ -98,7 +95,8 @@ module _ (rows : List ℕ) where
 
 module _ (d : Draft) (rows : List ℕ) (s e : ℕ) (stop : asksV (getD rows e 0) ≡ false) (low : e < length rows)
     (ones : (r : ℕ) → s ≤ r → r < e → Single rows r) where
-  before : (r w : ℕ) → getD rows r 0 ≡ w → asksV w ≡ true → r ≤ e → r < e
+  -- a row up to e that has a `v` is before it
+  pub before : (r w : ℕ) → getD rows r 0 ≡ w → asksV w ≡ true → r ≤ e → r < e
   before r w t y l =
       ⊎-elim
       (λ (z : (r < e) × (ltb r e ≡ true)). z .0)

@@ -1,34 +1,32 @@
 -- Two drafts that give the same have the same content, and so the same document. Assumes nothing.
 use Prim.Native.Nat.{ℕ, zero, suc, _+_, _*_, _≤_, _<_}
-use mathlib.Core.Path.{_≡_, refl, sym, ap, _∙_, subst}
+use mathlib.Core.Path.{_≡_, refl, sym, ap, _∙_}
 use mathlib.Core.List.{List, [], _∷_}
 use mathlib.Core.Bool.{Bool, true, false, cond}
 use mathlib.Core.Logic.{⊎-elim}
 use native.Mathlib.Omega.{arith}
 use native.Mathlib.Nat.{add-zero}
-use lib.Dec.{eqb, ltb}
-use lib.IntN.{ℤ, pos}
+use lib.Dec.{eqb}
+use lib.IntN.{pos}
 use lib.ListN.{length, getD, drop}
 use borrow.Author.Tests.{ne-eqb}
-use Rattle.lists.proofs.Cases.{bool-cases, ltb-cases, never}
-use Rattle.columns.specs.Columns.{seriesRole, periodRole, intervalRole}
+use Rattle.lists.proofs.Cases.{bool-cases}
 use Rattle.guideline.specs.Rows.{rowsOf}
 use Rattle.states.specs.Attributes.{asksV, asksScheme}
 use Rattle.series.specs.Row.{fieldAt}
 use Rattle.series.specs.declared.Field.the-variants.{FirstRow, Count}
-use Rattle.wholes.specs.Whole.{wholeText}
-use Rattle.amounts.specs.Texts.{amountText}
-use Rattle.views.specs.Layout.{headerPairs, seriesPairs, oneIf, valuesOf, firstPair}
+use Rattle.views.specs.Layout.{headerPairs, seriesPairs, valuesOf, firstPair}
 use Rattle.trees.specs.Trees.{Trees, none, element}
-use Rattle.contents.specs.Said.{AttributeValue, Absent, TagSaid}
+use Rattle.contents.specs.Said.{TagSaid}
 use Rattle.layouts.specs.Layout.{layoutOf}
 use Rattle.sights.proofs.Slots.{in-header, in-series}
-use Rattle.drafts.specs.Draft.{Draft, pairValue, singleTag, isSaid, rootTag, bareTag, numberTag, singles, intervalsFrom, roleRow, pairFor, singlesIn, periodTree, seriesFrom, draftContent, draftDocument}
+use Rattle.drafts.specs.Draft.{Draft, pairValue, singleTag, isSaid, rootTag, bareTag, singles, intervalsFrom, pairFor, singlesIn, periodTree, seriesFrom, draftContent, draftDocument}
 use Rattle.drafts.proofs.Writing.{row-there}
 use Rattle.drafts.proofs.Elements.{Roles, roles}
 use Rattle.writings.specs.Back.{dropsAt, EachValue}
-use Rattle.writings.specs.Same.{SameRows, SameGiven}
+use Rattle.writings.specs.Same.{SameGiven}
 use Rattle.writings.proofs.Places.{first-next, seriesRow, periodRow, intervalRow, Places, places, in-order, row-place, Single}
+use Rattle.writings.proofs.Parts.{before}
 use Rattle.writings.proofs.Texts.{root-values}
 use Rattle.writings.proofs.Last.{header-ones, series-ones, period-ones}
 
@@ -53,17 +51,13 @@ module _ (d g : Draft) where
     unfolding singles
     same-singles [] r k t l u p = same
     same-singles (w ∷ ws) r k t l u p =
-        by (asksV w) refl (λ (y : asksV w ≡ true). same-singles ws (suc r) (k + valuesOf w) (there .1) (omega (arith, l)) (before y) (next (before y)))
+        by (asksV w) refl (λ (y : asksV w ≡ true). same-singles ws (suc r) (k + valuesOf w) (there .1) (omega (arith, l)) (early y) (next (early y)))
       where
         there : (getD rows r 0 ≡ w) × (ws ≡ drop (suc r) rows)
         there = row-there rows r w ws t
 
-        before : asksV w ≡ true → r < e
-        before y =
-            ⊎-elim
-            (λ (x : (r < e) × (ltb r e ≡ true)). x .0)
-            (λ (x : (e ≤ r) × (ltb r e ≡ false)). let o : r ≡ e = omega (arith, x .0, u) in never (sym stop ∙ rw (← o, there .0) y))
-            (ltb-cases r e)
+        early : asksV w ≡ true → r < e
+        early y = before d rows s e stop low ones r w (there .0) y u
 
         next : r < e → k + valuesOf w ≡ firstPair rows (suc r) + z
         next h =
@@ -78,7 +72,7 @@ module _ (d g : Draft) where
             → cond (asksV w) (cond (isSaid (singleTag d w k)) (element r (singleTag d w k) none (singles d (suc r) (k + valuesOf w) ws behind)) (singles d (suc r) (k + valuesOf w) ws behind)) behind
             ≡ cond (asksV w) (cond (isSaid (singleTag g w k)) (element r (singleTag g w k) none (singles g (suc r) (k + valuesOf w) ws back)) (singles g (suc r) (k + valuesOf w) ws back)) back
         by false y ih = rw y same
-        by true y ih = rw (y, tags (before y), ih y) refl
+        by true y ih = rw (y, tags (early y), ih y) refl
 
   -- ---- Intervals
 

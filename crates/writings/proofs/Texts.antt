@@ -1,15 +1,15 @@
 -- What is written "gives back the same .. texts, spaces at collapsed ends aside". Assumes nothing.
-use Prim.Native.Nat.{ℕ, zero, suc, _+_, _*_, _≤_, _<_}
+use Prim.Native.Nat.{ℕ, zero, suc, _+_, _≤_, _<_}
 use mathlib.Core.Path.{_≡_, refl, sym, ap, _∙_, subst}
-use mathlib.Core.List.{List, [], _∷_, _++_, append-nil}
-use mathlib.Core.Bool.{Bool, true, false, cond, not}
+use mathlib.Core.List.{List, [], _∷_, append-nil}
+use mathlib.Core.Bool.{Bool, true, false, cond}
 use mathlib.Core.Logic.{⊎-elim}
 use native.Mathlib.Omega.{arith}
-use native.Mathlib.Nat.{add-zero, le-refl}
-use lib.Dec.{eqb, leb, ltb}
+use native.Mathlib.Nat.{add-zero}
+use lib.Dec.{eqb, leb}
 use lib.ListN.{length, getD, drop}
 use borrow.Author.Tests.{ne-eqb}
-use Rattle.lists.proofs.Cases.{bool-cases, eqb-cases, ltb-cases, both-true, never}
+use Rattle.lists.proofs.Cases.{bool-cases, both-true, never}
 use Rattle.characters.specs.Says.{allChars, says}
 use Rattle.trims.specs.Trim.{dropped, trimmedOf}
 use Rattle.trims.proofs.Trimming.{trimmed-says}
@@ -17,24 +17,20 @@ use Rattle.escapes.specs.Escaped.{escaped}
 use Rattle.escapes.specs.Spelled.{spelled, unescaped, charsOf}
 use Rattle.escapes.proofs.Texts.{text-spelled}
 use Rattle.escapes.proofs.Promises.{says-escaped}
-use Rattle.columns.specs.Columns.{collapsed, roleOf, rootRole, seriesRole, intervalRole}
-use Rattle.notes.specs.declared.Shape.the-variants.{Old}
-use Rattle.series.specs.Row.{cellsOf, roomFor}
+use Rattle.columns.specs.Columns.{roleOf, rootRole, seriesRole}
 use Rattle.guideline.specs.Rows.{rowsOf}
-use Rattle.states.specs.Attributes.{asksV, asksScheme}
-use Rattle.reader.specs.Reading.{roomOf}
+use Rattle.states.specs.Attributes.{asksScheme}
 use Rattle.trees.specs.Trees.{Trees, none, element}
 use Rattle.contents.specs.Said.{AttributeValue, Absent, Given, TagSaid, given}
 use Rattle.contents.specs.Spelled.{Spells}
-use Rattle.contents.specs.Legal.{hasRole, those, Legal, HasRoom}
-use Rattle.contents.proofs.Theorems.{legal-accepted}
-use Rattle.views.specs.Layout.{headerPairs, seriesPairs, oneIf, valuesOf, firstPair, cellOf, viewRoom}
+use Rattle.contents.specs.Legal.{hasRole, those, Legal}
+use Rattle.views.specs.Layout.{headerPairs, valuesOf, firstPair, cellOf, viewRoom}
 use Rattle.views.specs.Shown.{pairView}
 use Rattle.views.specs.Views.{sheetViewed}
-use Rattle.sights.specs.Values.{partsOf, lastOf, onlyIf, withoutSpaces, valuesSaid, PairShows, valueAt, ShowsValues}
-use Rattle.sights.proofs.Promises.{readers-answer, room-series, room-intervals, shows-values}
+use Rattle.sights.specs.Values.{withoutSpaces, valuesSaid, PairShows, valueAt, ShowsValues}
+use Rattle.sights.proofs.Promises.{shows-values}
 use Rattle.sights.proofs.Slots.{in-header, in-series}
-use Rattle.sights.proofs.Witness.{legal-viewed}
+use Rattle.sights.proofs.Witness.{legal-answer, legal-viewed}
 use Rattle.drafts.specs.Draft.{Draft, isNoPair, pairValue, singleTag, isSaid, rootTag, roleRow, pairFor, singlesIn, seriesFrom, periodTree, draftContent, draftDocument, pairFits, Lent}
 use Rattle.drafts.specs.Pairs.{hasPair}
 use Rattle.drafts.specs.Judged.{draftLegal}
@@ -42,10 +38,10 @@ use Rattle.drafts.proofs.Given.{start-given}
 use Rattle.drafts.proofs.Writing.{draft-spells}
 use Rattle.drafts.proofs.Elements.{Roles, roles, singles-those}
 use Rattle.drafts.proofs.Legal.{plain-intervals, draft-legal}
-use Rattle.writings.specs.Back.{dropsAt, endsDropped, TextBack, EachValue, TextsBack}
+use Rattle.writings.specs.Back.{dropsAt, endsDropped, TextBack, TextsBack}
 use Rattle.writings.proofs.Places.{seriesRow, periodRow, intervalRow, Places, places, Single, side-header, side-series, single, row-place}
 use Rattle.writings.proofs.Parts.{RowsHave, NoSeries, lastIn}
-use Rattle.writings.proofs.Last.{inner-plain, tagFor, tagOr, last-root, last-header, last-series}
+use Rattle.writings.proofs.Last.{inner-plain, tagOr, last-root, last-header, last-series}
 
 -- ---- a pair
 
@@ -231,18 +227,7 @@ module _ (d : Draft) (l : Lent d) (fit : draftLegal d ≡ true) (n : ℕ) (wide 
   document-viewed = legal-viewed doc n wide small (d .kind) content spells legal few
 
   series-viewed : sheetViewed doc n .told .series ≡ d .count
-  series-viewed =
-      let most = viewRoom n .series in
-      let k = length (those (hasRole intervalRole) rows content) in
-      let np = length doc + k in
-      let same : roomFor (cellsOf most) ≡ most = omega arith in
-      let s = room-series (cellsOf most) np np in
-      let f = few in
-      let r : HasRoom (roomOf (cellsOf most) np np) (d .kind) content =
-      record { series = omega (arith, f, s, same); intervals = room-intervals (cellsOf most) np np k (omega arith) (omega arith) } in
-      readers-answer doc n (cellsOf most) np np same (omega arith) (omega arith) wide Old 16 (le-refl 16) .3
-      ∙ legal-accepted doc (cellsOf most) np np Old 16 (le-refl 16) small (d .kind) content spells legal r .series
-      ∙ draft-series d (l .kind)
+  series-viewed = legal-answer doc n wide small (d .kind) content spells legal few .1 ∙ draft-series d (l .kind)
 
   shows : ShowsValues doc views (d .kind) (d .count) content
   shows = subst (λ (m : ℕ). ShowsValues doc views (d .kind) m content) series-viewed (shows-values doc n wide document-viewed (d .kind) content spells legal)

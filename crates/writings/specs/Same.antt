@@ -1,7 +1,7 @@
 -- Two drafts that give the same: values, and rows of each series, wherever they stand in text and tables.
 use Prim.Native.Nat.{ℕ, _+_, _<_}
 use mathlib.Core.Path.{_≡_}
-use lib.IntN.{ℤ, pos}
+use lib.IntN.{pos}
 use lib.ListN.{getD}
 use Rattle.guideline.specs.Rows.{rowsOf}
 use Rattle.series.specs.Row.{fieldAt}
