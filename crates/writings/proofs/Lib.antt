@@ -8,4 +8,4 @@ pub mod Last
 pub mod Texts
 pub mod Same
 pub mod Again
-pub mod Lent
+pub mod Back

@@ -5,6 +5,8 @@
 --     written-laid       else the output is the document, and 0 past it
 --     written-read       which the reader accepts, given room, with the kind, the counts and the tables of the content
 --     positions-given, amounts-given   and with the positions and amounts that were given
+--     texts-back         and with the texts, which the views show (Texts)
+--     written-back       what was read back is written to the same bytes (Back)
 --     same-refusal       what of the answer depends on amounts (Amounts)
 use Prim.Native.Nat.{ℕ, _-_, _≤_, _<_, min}
 use mathlib.Core.Path.{_≡_, refl, sym, ap, _∙_}

@@ -1,4 +1,4 @@
--- What is lent, as the writer tests it and as a draft has it; and what was read back is lent again. Assumes nothing.
+-- What was read back is lent again, and written to the same bytes. Assumes nothing.
 use Prim.Native.Nat.{ℕ, zero, suc, _+_, _*_, _≤_, _<_}
 use mathlib.Core.Path.{_≡_, refl, ap, _∙_}
 use mathlib.Core.List.{List, append-nil}
@@ -24,87 +24,14 @@ use Rattle.views.specs.Layout.{headerPairs, seriesPairs, cellOf, viewRoom}
 use Rattle.views.specs.Views.{sheetViewed}
 use Rattle.drafts.specs.Draft.{Draft, roleRow, pairFor, singlesIn, periodTree, seriesFrom, draftContent, draftDocument, pairFits, RowsLent, Lent}
 use Rattle.drafts.specs.Judged.{draftLegal}
-use Rattle.drafts.specs.Fit.{isWritten, pairsFit, rowsFit, isLent}
 use Rattle.drafts.specs.Written.{writtenOf}
 use Rattle.drafts.proofs.Elements.{Roles, roles, singles-those}
 use Rattle.drafts.proofs.Legal.{plain-intervals, series-counted}
 use Rattle.drafts.proofs.Promises.{outcome, draft-read}
+use Rattle.fitting.proofs.Lent.{lent-exactly}
 use Rattle.writings.specs.Again.{MadeOf, NoneDropped}
 use Rattle.writings.proofs.Texts.{draft-series}
 use Rattle.writings.proofs.Again.{countsIn, first-back, again-written}
-
--- ---- the tests
-
-module _ (d : Draft) where
-  pairs-told : (k n : ℕ) → pairsFit d k n ≡ true → (j : ℕ) → k ≤ j → j < k + n → pairFits d j ≡ true
-  unfolding pairsFit
-  pairs-told k zero h j l u = absurd (omega (arith, l, u))
-  pairs-told k (suc n) h j l u =
-      let a = and-eq-true-iff (pairFits d k) (pairsFit d (suc k) n) .0 h in
-      ⊎-elim
-      (λ (y : (j ≡ k) × (eqb j k ≡ true)). rw (y .0) (a .0))
-      (λ (y : (j ≡ k → ⊥) × (eqb j k ≡ false)). let o = y .0 in pairs-told (suc k) n (a .1) j (omega (arith, l, o)) (omega (arith, u)))
-      (eqb-cases j k)
-
-  pairs-tested : (k n : ℕ) → ((j : ℕ) → k ≤ j → j < k + n → pairFits d j ≡ true) → pairsFit d k n ≡ true
-  unfolding pairsFit
-  pairs-tested k zero h = refl
-  pairs-tested k (suc n) h =
-      and-eq-true-iff (pairFits d k) (pairsFit d (suc k) n) .1
-      (h k (omega arith) (omega arith), pairs-tested (suc k) n (λ j l u. h j (omega (arith, l)) (omega (arith, u))))
-
-  rows-told : (i n : ℕ) → rowsFit d i n ≡ true → (j : ℕ) → i ≤ j → j < i + n → RowsLent d j
-  unfolding rowsFit
-  rows-told i zero h j l u = absurd (omega (arith, l, u))
-  rows-told i (suc n) h j l u =
-      let end = fieldAt (d .series) i FirstRow + fieldAt (d .series) i Count in
-      let a = and-eq-true-iff (leb end (length (d .positions)) && leb end (length (d .amounts))) (rowsFit d (suc i) n) .0 h in
-      let b = and-eq-true-iff (leb end (length (d .positions))) (leb end (length (d .amounts))) .0 (a .0) in
-      ⊎-elim
-      (λ (y : (j ≡ i) × (eqb j i ≡ true)). rw (y .0) (record { positions = leb-true end (length (d .positions)) (b .0); amounts = leb-true end (length (d .amounts)) (b .1) }))
-      (λ (y : (j ≡ i → ⊥) × (eqb j i ≡ false)). let o = y .0 in rows-told (suc i) n (a .1) j (omega (arith, l, o)) (omega (arith, u)))
-      (eqb-cases j i)
-
-  rows-tested : (i n : ℕ) → ((j : ℕ) → i ≤ j → j < i + n → RowsLent d j) → rowsFit d i n ≡ true
-  unfolding rowsFit
-  rows-tested i zero h = refl
-  rows-tested i (suc n) h =
-      let end = fieldAt (d .series) i FirstRow + fieldAt (d .series) i Count in
-      let here = h i (omega arith) (omega arith) in
-      and-eq-true-iff (leb end (length (d .positions)) && leb end (length (d .amounts))) (rowsFit d (suc i) n) .1 (
-        and-eq-true-iff (leb end (length (d .positions))) (leb end (length (d .amounts))) .1 (le-leb end (length (d .positions)) (here .positions), le-leb end (length (d .amounts)) (here .amounts)),
-        rows-tested (suc i) n (λ j l u. h j (omega (arith, l)) (omega (arith, u))),
-      )
-
-  abbrev many : ℕ
-  many = headerPairs + seriesPairs * d .count
-
-  pub lent-told : isLent d ≡ true → Lent d
-  unfolding isLent isWritten
-  lent-told h =
-      let x = cond (eqb (d .kind) 1) true (eqb (d .kind) 2) in
-      let y = leb (cellOf many) (length (d .pairs)) in
-      let z = leb (cellsOf (d .count)) (length (d .series)) in
-      let a = and-eq-true-iff (x && y && pairsFit d 0 many && z) (rowsFit d 0 (d .count)) .0 h in
-      let b = and-eq-true-iff (x && y && pairsFit d 0 many) z .0 (a .0) in
-      let c = and-eq-true-iff (x && y) (pairsFit d 0 many) .0 (b .0) in
-      let e = and-eq-true-iff x y .0 (c .0) in
-      record {
-        kind = e .0;
-        pairs = leb-true (cellOf many) (length (d .pairs)) (e .1);
-        values = λ k u. pairs-told 0 many (c .1) k (omega arith) (omega (arith, u));
-        series = leb-true (cellsOf (d .count)) (length (d .series)) (b .1);
-        rows = λ i u. rows-told 0 (d .count) (a .1) i (omega arith) (omega (arith, u));
-      }
-
-  pub lent-tested : Lent d → isLent d ≡ true
-  unfolding isLent isWritten
-  lent-tested l =
-      let p = le-leb (cellOf many) (length (d .pairs)) (l .pairs) in
-      let s = le-leb (cellsOf (d .count)) (length (d .series)) (l .series) in
-      let v = pairs-tested 0 many (λ j a u. l .values j (omega (arith, u))) in
-      let r = rows-tested 0 (d .count) (λ j a u. l .rows j (omega (arith, u))) in
-      rw (l .kind, p, v, s, r) refl
 
 -- ---- as many rows are read back as there are
 
@@ -190,4 +117,4 @@ module _ (d g : Draft) (l : Lent d) (fit : draftLegal d ≡ true) (ns np na : �
   pub written-back : MadeOf g doc o t → NoneDropped d → cellOf (headerPairs + seriesPairs * g .count) ≤ length (g .pairs)
       → ((k : ℕ) → suc k ≤ headerPairs + seriesPairs * g .count → pairFits g k ≡ true) → (m : ℕ) → writtenOf g m ≡ writtenOf d m
   written-back made kept pairs values m =
-      again-written d g l fit ns np na shape nb noted small room n wide shown made kept (lent-tested d l) (lent-tested g (again-lent made pairs values)) m
+      again-written d g l fit ns np na shape nb noted small room n wide shown made kept (lent-exactly d .1 l) (lent-exactly g .1 (again-lent made pairs values)) m
