@@ -1,4 +1,4 @@
-/* What the two harnesses share: blocks that are allocated to the byte, and cells that have to be 0. */
+/* What the three harnesses share: blocks that are allocated to the byte, and cells that have to be 0. */
 #include <stddef.h>
 #include <stdint.h>
 #include <stdlib.h>

@@ -1,6 +1,6 @@
 /* In rattle's own calling convention a slice is the address of a pointer and a length. This hands the slices of the C functions over in that way;
- * in the proved archive the compiler does it. AS is the beginning of the names to define, IN of those in the module. With READABLE, TOTALS or VIEWS it
- * is for the module of crate readable, totals or views, without for that of crate library. */
+ * in the proved archive the compiler does it. AS is the beginning of the names to define, IN of those in the module. With READABLE, TOTALS, VIEWS
+ * or WRITER it is for the module of crate readable, totals, views or writer, without for that of crate library. */
 #include "lumintayag.h"
 
 struct slice {
@@ -39,6 +39,25 @@ uint32_t NAMED(IN, _views)(struct slice *doc, struct slice *table, struct slice 
 uint32_t NAMED(AS, _views)(const uint8_t *doc, size_t doc_len, uint32_t *table, size_t table_len, uint32_t *answer, size_t answer_len) {
     struct slice d = {doc, doc_len}, t = {table, table_len}, r = {answer, answer_len};
     return NAMED(IN, _views)(&d, &t, &r);
+}
+
+#elif defined WRITER
+
+uint32_t NAMED(IN, _write)(uint32_t kind, struct slice *text, struct slice *pairs, uint32_t count, struct slice *series, struct slice *positions,
+                           struct slice *amounts, struct slice *out, struct slice *answer);
+size_t NAMED(IN, _unescape)(struct slice *value, struct slice *out);
+
+uint32_t NAMED(AS, _write)(uint32_t kind, const uint8_t *text, size_t text_len, const uint32_t *pairs, size_t pairs_len, uint32_t count,
+                           const uint32_t *series, size_t series_len, const uint32_t *positions, size_t positions_len, const int64_t *amounts,
+                           size_t amounts_len, uint8_t *out, size_t out_len, uint32_t *answer, size_t answer_len) {
+    struct slice t = {text, text_len}, v = {pairs, pairs_len}, s = {series, series_len}, p = {positions, positions_len}, a = {amounts, amounts_len},
+                 o = {out, out_len}, r = {answer, answer_len};
+    return NAMED(IN, _write)(kind, &t, &v, count, &s, &p, &a, &o, &r);
+}
+
+size_t NAMED(AS, _unescape)(const uint8_t *value, size_t value_len, uint8_t *out, size_t out_len) {
+    struct slice v = {value, value_len}, o = {out, out_len};
+    return NAMED(IN, _unescape)(&v, &o);
 }
 
 #else

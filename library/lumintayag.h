@@ -1,13 +1,13 @@
 /*
  * Lumintayag reads documents of Germany's Redispatch 2.0: Beschaffungsanforderung 1.0 (kind 1), Kostenblatt 1.0
- * (kind 2) and NetworkConstraintDocument 1.1a (kind 3).
+ * (kind 2) and NetworkConstraintDocument 1.1a (kind 3). It writes those of kinds 1 and 2.
  *
  * The functions below are in liblumintayag.a and liblumintayag.so. They allocate nothing, keep nothing from call
  * to call, open no file and call nothing but memset. They end for every input. What they answer and leave behind
  * is proved for every document and every length of every slice (crates/library, crates/reader, crates/notes,
- * crates/readable, crates/totals, crates/views); no input is excepted. Threads may call them at the same time, each
- * with slices of its own. A call takes 70 KB of stack at most, whatever the document; a thread that has 128 KiB has
- * enough.
+ * crates/readable, crates/totals, crates/views, crates/writer); no input is excepted. Threads may call them at the same
+ * time, each with slices of its own. A call takes 70 KB of stack at most, whatever the document; a thread that has
+ * 128 KiB has enough.
  *
  * Slices. A lent slice is two arguments: a pointer, and a length in elements (not in bytes). What no proof can see
  * is left to the caller:
@@ -15,7 +15,8 @@
  *   the slice is not const to be written. Nothing is read or written past the length.
  * - With length 0 the pointer may be NULL, as that of an empty std::vector is. With any other length it may not.
  * - No slice that is written to overlaps another slice of the same call.
- * What stands in a slice that is written to makes no difference, and need not be initialized.
+ * What stands in a slice that is written to makes no difference, and need not be initialized; lumintayag_unescape
+ * leaves what it does not write as it was.
  *
  * Document and tables hold prices, and totals are made of them: docs/PRIVACY.md says what a caller does about copies, swap and core dumps.
  */
@@ -30,12 +31,12 @@ extern "C" {
 #endif
 
 /*
- * The version of this header, a.b.c as 10000 a + 100 b + c: 0.7.0. lumintayag_version answers that of the archive
+ * The version of this header, a.b.c as 10000 a + 100 b + c: 0.8.0. lumintayag_version answers that of the archive
  * or shared object; a program that checks that the two are equal knows that they belong together.
  * A function whose arguments, rows or cells are laid out anew gets a new name, and the old name is gone: a
  * program that knows the old layout is not linked with the new one.
  */
-#define LUMINTAYAG_VERSION 700
+#define LUMINTAYAG_VERSION 800
 uint32_t lumintayag_version(void);
 
 /* A longer document is refused with 1. */
@@ -89,8 +90,9 @@ uint32_t lumintayag_version(void);
 #define LUMINTAYAG_SERIES_PAIRS 22
 #define LUMINTAYAG_VIEWS_ROOM (2 * (LUMINTAYAG_HEADER_PAIRS + LUMINTAYAG_SERIES_PAIRS * LUMINTAYAG_SERIES_ROOM))
 
-/* Numbers in the answer of lumintayag_views. */
+/* Numbers in the answer of lumintayag_views, and in that of lumintayag_write. */
 #define LUMINTAYAG_VIEWS_NUMBERS 6
+#define LUMINTAYAG_WRITE_NUMBERS 2
 
 /*
  * Refusals. The place of 2 to 9 is the index of the first byte of the item (tag, text or comment) with the first
@@ -112,6 +114,11 @@ uint32_t lumintayag_version(void);
 #define LUMINTAYAG_NOTE_TOO_SHORT 10 /* the note buffer has fewer than 16 bytes, place 0; the converter's has fewer
                                         than 24 */
 #define LUMINTAYAG_NOT_ONE_NOTE 11   /* note reader and converter only: the bytes aren't one note */
+
+/* Refusals of lumintayag_write alone, 12 before 13. They have no place. */
+#define LUMINTAYAG_CONTENT_UNFIT 12    /* no document of kind 1 or 2 that would be accepted has this content, or pairs or
+                                          rows lie past what is lent */
+#define LUMINTAYAG_NO_ROOM_TO_WRITE 13 /* the document is longer than what is lent for it, or than 1,048,576 bytes */
 
 /* Refusals of lumintayag_totals alone, 17 before 18. They have no place. */
 #define LUMINTAYAG_TOO_MANY_SERIES 17 /* more than 200 series */
@@ -149,8 +156,8 @@ enum {
  * numeric ones of legal characters, decimal (&#65;) or hexadecimal (&#x41;), with any number of leading zeros. Values
  * are judged by what they say: lengths, forms, codes, times and amounts, and whether two identifications are equal.
  * Each reference is replaced once: &amp;lt; says the four characters &lt;. What the tables show is what stands in the
- * document, with its references: a caller who compares or prints a value replaces them, as library/examples/plants.c
- * does.
+ * document, with its references: a caller who compares, prints or writes a value replaces them with lumintayag_unescape,
+ * as library/examples/plants.c does.
  *
  * The cells of a series row: row i is series[12 * i] to series[12 * i + 11]. A start is an index into the document
  * and a length is in bytes between the quotes, so what it shows is doc[start] to doc[start + length - 1], without
@@ -279,6 +286,12 @@ enum {
     LUMINTAYAG_VIEW_3_ORIGINAL_TIME_SERIES_IDENTIFICATION = 35,
     LUMINTAYAG_VIEW_3_TIME_INTERVAL = 36,
     LUMINTAYAG_VIEW_3_RESOLUTION = 37
+};
+
+/* The cells of the writer's answer. */
+enum {
+    LUMINTAYAG_WRITE_REFUSAL = 0, /* 0, 12 or 13 */
+    LUMINTAYAG_WRITE_LEN = 1      /* bytes of the document that was written; 0 on a refusal */
 };
 
 /* The cells of a total. */
@@ -419,6 +432,57 @@ uint32_t lumintayag_totals(uint32_t kind, uint32_t quarters, size_t count,
 uint32_t lumintayag_views(const uint8_t *doc, size_t doc_len,
                           uint32_t *table, size_t table_len,
                           uint32_t *answer, size_t answer_len);
+
+/*
+ * Writes a Beschaffungsanforderung (kind 1) or a Kostenblatt (kind 2), and answers the refusal: the same number as
+ * answer[0]. library/examples/write.c writes a sheet that was read, with other amounts, and one from nothing.
+ *
+ * text       the values as they are to be read, with no references: &, <, quotes and line ends stand for themselves. It is
+ *            UTF-8. What no pair shows is not looked at.
+ * pairs      start and length in the text of every value but those of Pos and Qty, laid as lumintayag_views lays them in
+ *            its table: 16 pairs for the header and 22 for each series, by the names above. 0 and 0 is a value that is
+ *            absent; any other pair is one that is there, also where it is empty: let the text begin with a byte that no
+ *            value has. Every pair of the header and of the series that are counted has to lie in the text and to show
+ *            characters of XML 1.0, also one that the kind has no value for, which is not written.
+ * count      how many series.
+ * series     rows of twelve numbers, one for each series. Of these only the first interval row and the interval count are
+ *            looked at. The rows of two series may come in any order, overlap or leave some out.
+ * positions  the Pos of each interval.
+ * amounts    at the same index its Qty, in thousandths, below 10^15 in size.
+ * out        the document, from the first byte on. Bytes past it are 0.
+ * answer     two numbers: the refusal, and the length of the document. Where answer_len is smaller, the first one; where
+ *            it is larger, the cells past the second are 0.
+ *
+ * The layout is fixed: no declaration, no text between tags, double quotes, v before codingScheme, an empty tag for a
+ * single value, and &amp; &lt; &quot; &#9; &#10; &#13; where a value has that character, and nowhere else a reference. An
+ * amount is as short as it can be: no leading zeros but one before a point, no trailing zeros of a fraction, no minus at
+ * zero. The elements of a kind come in the guideline's order; one is there where one of its pairs is.
+ *
+ * What is written is accepted by lumintayag_read_v3, given room, and gives back the same positions, amounts and values,
+ * spaces at the ends of collapsed ones aside (proved: crates/drafts).
+ *
+ * It answers 0; or 12 exactly when no document of kind 1 or 2, however long, that lumintayag_read_v3 would accept has this
+ * content, or pairs or rows lie past what is lent; or else 13 where the document is longer than out_len or 1,048,576
+ * bytes. On 12 and 13 the length is 0, and so is every byte of out.
+ */
+uint32_t lumintayag_write(uint32_t kind,
+                          const uint8_t *text, size_t text_len,
+                          const uint32_t *pairs, size_t pairs_len,
+                          uint32_t count,
+                          const uint32_t *series, size_t series_len,
+                          const uint32_t *positions, size_t positions_len,
+                          const int64_t *amounts, size_t amounts_len,
+                          uint8_t *out, size_t out_len,
+                          uint32_t *answer, size_t answer_len);
+
+/*
+ * Puts what a value of a document says into out, in UTF-8, with each reference replaced by its character, and answers how
+ * many bytes that is: never more than value_len. Where out_len is smaller, the first ones; bytes of out past them stay as
+ * they were. A byte that belongs to no character, or an & that begins no reference, says the character 0; no value of an
+ * accepted document has one.
+ */
+size_t lumintayag_unescape(const uint8_t *value, size_t value_len,
+                           uint8_t *out, size_t out_len);
 
 #ifdef __cplusplus
 }

@@ -1,7 +1,8 @@
-//! An independent reader of document 01 as 02 changes it, totals of 02, views, and generators of documents and of tables, to be held against the proved library.
+//! An independent reader of document 01 as 02 changes it, a writer and totals of 02, views, and generators of documents, drafts and tables, to be held against the proved library.
 
 pub mod digits;
 pub mod documents;
+pub mod drafts;
 pub mod model;
 pub mod random;
 pub mod references;
@@ -13,6 +14,7 @@ pub mod tables;
 pub mod totals;
 pub mod values;
 pub mod views;
+pub mod writing;
 
 #[cfg(test)]
 mod tests;

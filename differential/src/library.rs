@@ -3,8 +3,10 @@
 use differential::model::{Lengths, Outcome};
 use differential::totals::{Added, Asked};
 use differential::views::Viewed;
+use differential::writing::{Draft, Written};
 use lumintayag_sys::{
-    lumintayag_convert_note, lumintayag_read_note_v2, lumintayag_read_v3, lumintayag_readable_len, lumintayag_totals, lumintayag_views,
+    lumintayag_convert_note, lumintayag_read_note_v2, lumintayag_read_v3, lumintayag_readable_len, lumintayag_totals, lumintayag_unescape,
+    lumintayag_views, lumintayag_write,
 };
 
 /// Cells after those that are lent; none of them may change.
@@ -107,4 +109,43 @@ pub fn view(doc: &[u8], table_len: usize, answer_len: usize) -> Result<Viewed, &
     // Each length is at most that of the slice its pointer is from.
     let refusal = unsafe { lumintayag_views(doc.as_ptr(), doc.len(), table.as_mut_ptr(), table_len, answer.as_mut_ptr(), answer_len) };
     Ok(Viewed { refusal, table: lent(table, WORD)?, answer: lent(answer, WORD)? })
+}
+
+pub fn write(draft: &Draft, out_len: usize, answer_len: usize) -> Result<Written, &'static str> {
+    let (mut out, mut answer) = (full(out_len, BYTE), full(answer_len, WORD));
+    // Each length is at most that of the slice its pointer is from.
+    let refusal = unsafe {
+        lumintayag_write(
+            draft.kind,
+            draft.text.as_ptr(),
+            draft.text.len(),
+            draft.pairs.as_ptr(),
+            draft.pairs.len(),
+            draft.count,
+            draft.series.as_ptr(),
+            draft.series.len(),
+            draft.positions.as_ptr(),
+            draft.positions.len(),
+            draft.amounts.as_ptr(),
+            draft.amounts.len(),
+            out.as_mut_ptr(),
+            out_len,
+            answer.as_mut_ptr(),
+            answer_len,
+        )
+    };
+    Ok(Written { refusal, out: lent(out, BYTE)?, answer: lent(answer, WORD)? })
+}
+
+/// How many bytes a value says, and `room` bytes with the first of them: "Bytes past it stay as they were."
+pub fn unescape(value: &[u8], room: usize) -> Result<(usize, Vec<u8>), &'static str> {
+    let mut out = full(room, BYTE);
+    // Both lengths are at most those of the slices.
+    let said = unsafe { lumintayag_unescape(value.as_ptr(), value.len(), out.as_mut_ptr(), room) };
+    let mut out = lent(out, BYTE)?;
+    if out.iter().skip(said).any(|byte| *byte != BYTE) {
+        return Err("wrote past what a value says");
+    }
+    out.truncate(said);
+    Ok((said, out))
 }

@@ -1,7 +1,8 @@
-//! Reads and views generated documents with the proved library and with the model, adds up their tables and generated ones, and stops at the first difference.
+//! Reads and views generated documents with the proved library and with the model, adds up their tables and generated ones, writes them again, and stops at the first difference.
 //!
-//!     differential COUNT [SEED [FIRST]]
+//!     differential [writing] COUNT [SEED [FIRST]]
 //!
+//! With `writing` no document is read but right ones, which are written again, and drafts are written.
 //! All that is lent is full of a pattern, so that a cell which was not cleared shows; cells past the lent ones have to keep it.
 
 use differential::digits::other_digits;
@@ -16,8 +17,9 @@ use std::process::ExitCode;
 
 mod library;
 mod notes;
+mod written;
 
-const USAGE: &str = "usage: differential COUNT [SEED [FIRST]]";
+const USAGE: &str = "usage: differential [writing] COUNT [SEED [FIRST]]";
 
 /// How many documents there were of each refusal; 0 is acceptance.
 struct Tally {
@@ -38,17 +40,24 @@ struct Tally {
     /// Views by refusal, and the values that those of accepted documents show.
     views: [u64; 11],
     shown: u64,
+    written: written::Tally,
 }
 
 fn main() -> ExitCode {
-    let arguments: Vec<u64> = std::env::args().skip(1).map_while(|word| word.parse().ok()).collect();
-    let given = std::env::args().len() - 1;
-    if arguments.is_empty() || arguments.len() != given || given > 3 {
+    let mut words: Vec<String> = std::env::args().skip(1).collect();
+    let writing = words.first().is_some_and(|word| word == "writing");
+    words.drain(..usize::from(writing));
+    let arguments: Vec<u64> = words.iter().map_while(|word| word.parse().ok()).collect();
+    if arguments.is_empty() || arguments.len() != words.len() || words.len() > 3 {
         eprintln!("{USAGE}");
         return ExitCode::from(2);
     }
     let seed = arguments.get(1).copied().unwrap_or(1);
     let first = arguments.get(2).copied().unwrap_or(0);
+    let numbers = first..first.saturating_add(arguments[0]);
+    if writing {
+        return if written::all(numbers, seed) { ExitCode::SUCCESS } else { ExitCode::FAILURE };
+    }
     let mut tally = Tally {
         refusals: [0; 11],
         kinds: [0; 4],
@@ -62,9 +71,10 @@ fn main() -> ExitCode {
         tables: [0; 3],
         views: [0; 11],
         shown: 0,
+        written: written::Tally::default(),
     };
     let Some(edges) = notes::edges() else { return ExitCode::FAILURE };
-    for number in first..first.saturating_add(arguments[0]) {
+    for number in numbers {
         let made = document(seed, number);
         if !same_reading(&made, seed, number, &mut tally)
             || !notes::same(seed, number, &mut tally.notes)
@@ -72,6 +82,7 @@ fn main() -> ExitCode {
             || !same_digits(&made, seed, number, &mut tally)
             || !same_tables(seed, number, &mut tally)
             || !same_views(&made, seed, number, &mut tally)
+            || !written::same(&made.bytes, seed, number, &mut tally.written)
         {
             return ExitCode::FAILURE;
         }
@@ -98,6 +109,7 @@ fn print_tally(count: u64, edges: usize, tally: &Tally) {
     println!("generated tables: {} added up, refusal 17: {}, 18: {}", tally.tables[0], tally.tables[1], tally.tables[2]);
     let refused: Vec<String> = tally.views.iter().enumerate().skip(1).map(|(number, many)| format!("{number}: {many}")).collect();
     println!("views: {} of accepted documents, {} values; refusal {}", tally.views[0], tally.shown, refused.join(", "));
+    tally.written.print();
     println!("no difference");
 }
 

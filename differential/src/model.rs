@@ -78,7 +78,7 @@ fn after_white(doc: &[u8], at: usize) -> usize {
 }
 
 /// "Bytes are UTF-8 (RFC 3629) and XML 1.0 characters."
-fn xml_characters(bytes: &[u8]) -> bool {
+pub fn xml_characters(bytes: &[u8]) -> bool {
     match std::str::from_utf8(bytes) {
         Ok(text) => text.chars().all(is_xml_character),
         Err(_) => false,

@@ -1,7 +1,7 @@
 //! The examples of 01 and of the readings of its open points, held against the model alone.
 
-use crate::documents::{document, shape};
-use crate::model::{convert, identifications, read, read_in, read_note, Lengths, Outcome, COUNT, FIRST, LONGEST, ROW};
+use crate::documents::{document, right_document, shape};
+use crate::model::{convert, identifications, judge, read, read_in, read_note, Lengths, Outcome, COUNT, FIRST, LONGEST, ROW};
 use crate::random::Random;
 use crate::renaming::{clean, renamed};
 use crate::tables::tables;
@@ -10,6 +10,7 @@ use crate::views::{lent, view, Viewed, HEADER_CELLS, SERIES_CELLS};
 
 mod references;
 mod samples;
+mod writing;
 
 const ROOM: Lengths = Lengths { series: 64 * ROW, positions: 2048, amounts: 2048, note: 16 };
 const ROOT: &str = "<Kostenblatt DtdBDEWNachrichtenVersion=\"1.0\">";
@@ -541,6 +542,21 @@ fn generated() {
     let all = shapes.iter().chain(&spaces).chain([&after, &odd]);
     assert!(all.clone().all(|many| *many > 100), "{shapes:?} {spaces:?} {after} {odd}");
     assert_eq!(document(5, 77).bytes, document(5, 77).bytes);
+}
+
+/// Days of 92, 96 and 100 quarter hours are among the accepted documents of kind 1, and most right documents are accepted.
+#[test]
+fn generated_days() {
+    let (mut days, mut right) = ([0; 101], 0);
+    for number in 0..6_000 {
+        let room = Lengths { series: 2 * ROW, positions: 200, amounts: 200, note: 16 };
+        let [refusal, _, kind, _, _, n, _] = read(&document(5, number).bytes, &room).answer;
+        if refusal == 0 && kind == 1 {
+            days[n as usize] += 1;
+        }
+        right += usize::from(judge(&right_document(5, number), usize::MAX).refusal == 0);
+    }
+    assert!([92, 96, 100].iter().all(|n| days[*n] > 10) && right > 5_000, "{days:?} {right}");
 }
 
 #[test]

@@ -87,18 +87,23 @@ fn upto(random: &mut Random, ends: &[usize]) -> usize {
     random.within(1, end)
 }
 
+/// 2000-01-01 in minutes since 1970: days of delivery and local midnights are counted from there.
+fn from_2000() -> i64 {
+    minutes_of(2000, 1, 1)
+}
+
 fn period_text(start: i64, end: i64) -> Vec<u8> {
     format!("{}Z/{}Z", time_text(start), time_text(end)).into_bytes()
 }
 
-/// A delivery day: often one on which the clocks change, most often the shorter one, for short documents.
+/// A delivery day, in days from 2000: often one on which the clocks change, most often the shorter one, for short documents.
 fn a_delivery_day(random: &mut Random) -> i64 {
     let year = 2000 + random.below(100) as i64;
     match random.below(8) {
         0..=3 => last_sunday(year, 3),
         4 => last_sunday(year, 10),
         5 => last_sunday(year, *random.pick(&[3, 10])) + *random.pick(&[-7, -1, 1, 7]),
-        _ => a_day(random) / 1440 + 1,
+        _ => (a_day(random) - from_2000()) / 1440 + 1,
     }
 }
 
@@ -106,7 +111,7 @@ fn a_delivery_day(random: &mut Random) -> i64 {
 pub fn period(random: &mut Random, kind: usize) -> (Vec<u8>, usize) {
     if kind == 1 {
         let day = a_delivery_day(random);
-        let (start, end) = (midnight(day), midnight(day + 1));
+        let (start, end) = (from_2000() + midnight(day), from_2000() + midnight(day + 1));
         return (period_text(start, end), (end - start) as usize / 15);
     }
     let day = a_day(random);
@@ -123,7 +128,7 @@ pub fn period(random: &mut Random, kind: usize) -> (Vec<u8>, usize) {
 
 /// A period of good form that the kind doesn't take, or only just takes.
 pub fn odd_period(random: &mut Random) -> Vec<u8> {
-    let day = if random.one_in(2) { a_day(random) } else { (a_delivery_day(random) - 1) * 1440 };
+    let day = if random.one_in(2) { a_day(random) } else { from_2000() + (a_delivery_day(random) - 1) * 1440 };
     let start = day + *random.pick(&[0, 7, 1319, 1320, 1321, 1335, 1380, 1381, 1260]);
     let spans = &[
         0, 1, 14, 15, 16, 30, -15, -1440, 60, 1260, 1320, 1380, 1425, 1440, 1455, 1500, 2820, 2880, 2940, 527_025, 527_040, 527_041, 527_055,

@@ -56,27 +56,11 @@ struct offer { uint32_t i; int64_t price; };
 /* What a value says, at most 36 characters in UTF-8. */
 struct said { size_t length; char text[4 * 36]; };
 
-/* The character of the reference at the front: every `&` in a value of an accepted document begins one. */
-static unsigned long referenced(const char *s) {
-    if (s[1] == '#') return strtoul(s + (s[2] == 'x' ? 3 : 2), NULL, s[2] == 'x' ? 16 : 10);
-    return s[1] == 'l' ? '<' : s[1] == 'g' ? '>' : s[1] == 'q' ? '"' : s[2] == 'm' ? '&' : '\'';
-}
-
-static void put_character(struct said *to, unsigned long c) {
-    int more = c < 0x80 ? 0 : c < 0x800 ? 1 : c < 0x10000 ? 2 : 3;
-    to->text[to->length++] = (char)(more == 0 ? c : (0xF0u << (3 - more) & 0xFF) | c >> 6 * more);
-    while (more-- > 0) to->text[to->length++] = (char)(0x80 | (c >> 6 * more & 0x3F));
-}
-
 /* What pair k of a series says, `-` where it is absent: a value that starts at 0. */
 static struct said said_by(int k, uint32_t i) {
     const uint32_t *pair = views + LUMINTAYAG_PAIR(k, i);
-    const char *s = pair[0] == 0 ? "-" : sheet + pair[0], *end = s + (pair[0] == 0 ? 1 : pair[1]);
-    struct said said = {0, ""};
-    for (; s < end; s++) {
-        if (*s != '&') said.text[said.length++] = *s;
-        else put_character(&said, referenced(s)), s = strchr(s, ';');
-    }
+    struct said said = {1, "-"};
+    if (pair[0] != 0) said.length = lumintayag_unescape((const uint8_t *)sheet + pair[0], pair[1], (uint8_t *)said.text, sizeof said.text);
     return said;
 }
 

@@ -6,7 +6,7 @@ usage: read.py [LIBRARY]     liblumintayag.so where the loader finds it, if not 
 import ctypes
 import sys
 
-VERSION, ROW, NOTE_OLD, NOTE_ROOM, ANSWER_NUMBERS = 700, 12, 0, 16, 7  # lumintayag.h
+VERSION, ROW, NOTE_OLD, NOTE_ROOM, ANSWER_NUMBERS = 800, 12, 0, 16, 7  # lumintayag.h
 REFUSAL, PLACE, SERIES = 0, 1, 3
 
 library = ctypes.CDLL(sys.argv[1] if len(sys.argv) > 1 else "liblumintayag.so")

@@ -8,7 +8,7 @@ import re
 import sys
 from datetime import datetime, timedelta
 
-VERSION, HEADER_PAIRS, SERIES_PAIRS, VIEWS_NUMBERS = 700, 16, 22, 6  # lumintayag.h
+VERSION, HEADER_PAIRS, SERIES_PAIRS, VIEWS_NUMBERS = 800, 16, 22, 6  # lumintayag.h
 REFUSAL, PLACE, KIND, SERIES, FROM, TO = range(6)
 DOCUMENT, SENDER = 3, 7
 TIME_SERIES_IDENTIFICATION, BUSINESS_TYPE = 16, 17

@@ -3,7 +3,8 @@
 mod functions;
 
 use functions::{
-    lumintayag_convert_note, lumintayag_read_note_v2, lumintayag_read_v3, lumintayag_readable_len, lumintayag_totals, lumintayag_version, lumintayag_views,
+    lumintayag_convert_note, lumintayag_read_note_v2, lumintayag_read_v3, lumintayag_readable_len, lumintayag_totals, lumintayag_unescape,
+    lumintayag_version, lumintayag_views, lumintayag_write,
 };
 
 fn main() {
@@ -14,6 +15,8 @@ fn main() {
         lumintayag_readable_len as *const (),
         lumintayag_totals as *const (),
         lumintayag_views as *const (),
+        lumintayag_write as *const (),
+        lumintayag_unescape as *const (),
     ];
     std::hint::black_box(others);
     // It takes no argument, and every version has it.

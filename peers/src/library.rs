@@ -1,6 +1,8 @@
 //! The proved library, called as C calls it.
 
-use lumintayag_sys::{lumintayag_read_v3, lumintayag_views};
+use differential::model::LONGEST;
+use differential::writing::Draft;
+use lumintayag_sys::{lumintayag_read_v3, lumintayag_views, lumintayag_write};
 
 #[derive(Clone, Copy)]
 pub struct Answer {
@@ -52,4 +54,32 @@ pub fn views(doc: &[u8]) -> Option<(u32, Vec<u32>)> {
     // Each length is that of the slice its pointer is from.
     let refusal = unsafe { lumintayag_views(doc.as_ptr(), doc.len(), table.as_mut_ptr(), table.len(), answer.as_mut_ptr(), answer.len()) };
     (refusal == 0).then_some((answer[2], table))
+}
+
+/// What is written of a draft, in as much room as a document may take; nothing where it is refused.
+pub fn write(draft: &Draft) -> Option<Vec<u8>> {
+    let (mut out, mut answer) = (vec![0_u8; LONGEST], [0_u32; 2]);
+    // Each length is that of the slice its pointer is from.
+    let refusal = unsafe {
+        lumintayag_write(
+            draft.kind,
+            draft.text.as_ptr(),
+            draft.text.len(),
+            draft.pairs.as_ptr(),
+            draft.pairs.len(),
+            draft.count,
+            draft.series.as_ptr(),
+            draft.series.len(),
+            draft.positions.as_ptr(),
+            draft.positions.len(),
+            draft.amounts.as_ptr(),
+            draft.amounts.len(),
+            out.as_mut_ptr(),
+            out.len(),
+            answer.as_mut_ptr(),
+            answer.len(),
+        )
+    };
+    out.truncate(answer[1] as usize);
+    (refusal == 0).then_some(out)
 }

@@ -4,9 +4,10 @@
 //!
 //! What the library accepts has to be well-formed to both peers and accepted by the schema of its kind. What it refuses though the
 //! schema takes it has to fall under a rule of 01 that no schema says, and what it can't read though both peers can, under a cut of 01.
-//! The values that views show of what it accepts have to be those that expat tells.
+//! The values that views show of what it accepts have to be those that expat tells; so have those of the drafts that it writes.
 
 use differential::documents::document;
+use differential::drafts::draft;
 use differential::random::Random;
 use std::collections::BTreeMap;
 use std::process::ExitCode;
@@ -18,6 +19,7 @@ mod libxml;
 mod neighbours;
 mod tags;
 mod views;
+mod written;
 
 use library::Answer;
 use libxml::{Schema, Tree};
@@ -62,6 +64,8 @@ struct Tally {
     narrower: BTreeMap<(u32, &'static str), u64>,
     /// Values that views show.
     shown: u64,
+    /// Values of drafts that were written.
+    told: u64,
     /// Unreadable to the library, well-formed to both peers: by cut.
     cuts: BTreeMap<&'static str, u64>,
     faults: u64,
@@ -164,6 +168,9 @@ fn print_tally(title: &str, tally: &Tally) {
         println!("  well-formed to both, unreadable: {many} ({cut})");
     }
     println!("  values shown by views of accepted ones, as expat tells them: {}", tally.shown);
+    if tally.told > 0 {
+        println!("  values that were given and written, as expat tells them: {}", tally.told);
+    }
     println!("  faults: {}", tally.faults);
 }
 
@@ -187,6 +194,23 @@ fn judge_generated(judge: &Judge, count: u64, seed: u64) -> (Tally, Tally) {
         }
     }
     (made, near)
+}
+
+/// What is written of generated drafts, which has to be accepted by all, with the values that were given.
+fn judge_written(judge: &Judge, count: u64, seed: u64) -> Tally {
+    let mut tally = Tally::default();
+    for number in 0..count {
+        let draft = draft(seed, number);
+        let Some(doc) = library::write(&draft) else { continue };
+        let name = format!("seed {seed}, draft {number}");
+        let told = written::agreed(&draft, &doc);
+        tally.told += told.unwrap_or(0);
+        if judge.judge(&doc, &name, &mut tally).refusal != 0 || told.is_none() {
+            tally.faults += 1;
+            println!("FAULT {name}: what is written is not accepted, or expat tells another value");
+        }
+    }
+    tally
 }
 
 fn judge_neighbours(judge: &Judge, doc: &[u8], name: &str, random: &mut Random, near: &mut Tally) {
@@ -221,7 +245,9 @@ fn main() -> ExitCode {
     let (made, near) = judge_generated(&judge, numbers[0], numbers.get(1).copied().unwrap_or(1));
     print_tally("generated", &made);
     print_tally("neighbours of accepted ones", &near);
-    if samples.faults + made.faults + near.faults == 0 {
+    let written = judge_written(&judge, numbers[0], numbers.get(1).copied().unwrap_or(1));
+    print_tally("written", &written);
+    if samples.faults + made.faults + near.faults + written.faults == 0 {
         ExitCode::SUCCESS
     } else {
         ExitCode::FAILURE

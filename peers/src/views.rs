@@ -4,7 +4,7 @@ use crate::{expat, library};
 use differential::references::meaning;
 use differential::views::cell_of;
 
-const SERIES: [&str; 3] = ["ScheduleTimeSeries", "CostTimeSeries", "NetworkConstraintTimeSeries"];
+pub const SERIES: [&str; 3] = ["ScheduleTimeSeries", "CostTimeSeries", "NetworkConstraintTimeSeries"];
 
 /// Elements whose `v` keeps its spaces: those whose row says preserve or says nothing.
 const KEPT: &[&str] = &[

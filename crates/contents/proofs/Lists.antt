@@ -64,7 +64,7 @@ module _ {A : Type 0} where
   all-join P [] b h k = k
   all-join P (x ∷ a) b h k = (h .0, all-join P a b (h .1) k)
 
-  all-split : (P : A → Type 0) (a b : List A) → All P (a ++ b) → All P a × All P b
+  pub all-split : (P : A → Type 0) (a b : List A) → All P (a ++ b) → All P a × All P b
   unfolding All
   all-split P [] b h = (tt, h)
   all-split P (x ∷ a) b h = let k = all-split P a b (h .1) in ((h .0, k .0), k .1)

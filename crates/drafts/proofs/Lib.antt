@@ -8,3 +8,4 @@ pub mod Promises
 pub mod Examples
 pub mod Numbers
 pub mod Complete
+pub mod Given

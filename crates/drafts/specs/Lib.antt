@@ -1,2 +1,5 @@
 pub mod Draft
 pub mod Judged
+pub mod Pairs
+pub mod Fit
+pub mod Written

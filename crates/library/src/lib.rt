@@ -23,7 +23,7 @@ ghost use Rattle.library.specs.Cells.{cells, shapeOf, sevenOf, twoOf, Pe
 ghost use Rattle.library.specs.Version.{libraryVersion};
 
 // A function whose arguments, cells or rows are laid out anew gets a new name, so that no program is linked with a layout it does not know.
-const VERSION: u32 = 700;
+const VERSION: u32 = 800;
 
 // The version of the exported functions, by which a program tells whether it was compiled with the header of this archive.
 #[no_mangle]

@@ -48,3 +48,11 @@ bufferShort = 10
 -- "note reader only: the bytes aren't one note"; K9: "then 11 for bytes that are neither"
 abbrev pub notOneNote : ℕ
 notOneNote = 11
+
+-- writer only: "12 content (pairs or rows past what is lent too)"
+abbrev pub contentUnfit : ℕ
+contentUnfit = 12
+
+-- "then 13 length"
+abbrev pub noRoomToWrite : ℕ
+noRoomToWrite = 13

@@ -22,3 +22,7 @@ pub const USED_AGAIN: u32 = 9;
 pub const BUFFER_SHORT: u32 = 10;
 
 pub const NOT_ONE_NOTE: u32 = 11;
+
+pub const CONTENT_UNFIT: u32 = 12;
+
+pub const NO_ROOM_TO_WRITE: u32 = 13;

@@ -235,7 +235,8 @@ fn is_next(last: u32, p: u32) -> bool
     p as u64 == last as u64 + 1
 }
 
-fn is_position(kind: u32, quarters: u32, last: u32, p: u32) -> bool
+// Whether a Pos may come after `last`, which is 0 before the first. Ruled out: a Pos above N; the same Pos again; a gap where the kind counts.
+pub fn is_position(kind: u32, quarters: u32, last: u32, p: u32) -> bool
     ensures { λ r. ⌜ r ≡ positionFits kind quarters last p ⌝ }
 {
     if quarters < p {

@@ -9,7 +9,7 @@ use native.Mathlib.Nat.{add-zero}
 use lib.Dec.{eqb}
 use lib.ListN.{length, drop, getD, set, length-set}
 use lib.Seq.{getD-set-same, getD-set-other}
-use Rattle.lists.proofs.Cases.{bool-cases, never}
+use Rattle.lists.proofs.Cases.{bool-cases, eqb-cases, never, up}
 use Rattle.slices.specs.Part.{partOf}
 use Rattle.slices.specs.declared.Span.{Span}
 use Rattle.trims.specs.Trim.{leadOf, trimmedOf}
@@ -50,7 +50,7 @@ pair-long t k a n = length-set (set t (cellOf k) a) (cellOf k + 1) n ∙ length-
 module _ (doc : List ℕ) where
   abbrev cellsShow : ℕ → ℕ → AttributeValue → Type 0
   cellsShow a n Absent = (a ≡ 0) × (n ≡ 0)
-  cellsShow a n (Given b) = partOf doc a n ≡ b
+  cellsShow a n (Given b) = (partOf doc a n ≡ b) × (1 ≤ a)
 
   by-cells : (t : List ℕ) (k : ℕ) (v : AttributeValue) → cellsShow (getD t (cellOf k) 0) (getD t (cellOf k + 1) 0) v → PairShows doc t k v
   unfolding PairShows pairView
@@ -72,19 +72,30 @@ module _ (doc : List ℕ) where
   -- ---- a value
 
   module _ (at : ℕ) (s : List ℕ) (stands : s ≡ drop at doc) where
+    some-start : (x : Span) → there x ≡ true → 1 ≤ x .start
+    unfolding there
+    some-start x y =
+        ⊎-elim
+        (λ (z : (x .start ≡ 0) × (eqb (x .start) 0 ≡ true)). never (rw (z .1) at y))
+        (λ (z : (x .start ≡ 0 → ⊥) × (eqb (x .start) 0 ≡ false)). up 0 (omega arith) (z .0))
+        (eqb-cases (x .start) 0)
+
     said-cells : (drops : Bool) (x : Span) → cellsShow (valueStart drops at x s) (valueLength drops x s) (withoutSpaces drops (valueGiven x s))
     unfolding valueStart valueLength valueGiven withoutSpaces quoted
     said-cells drops x =
         ⊎-elim
         (λ (y : there x ≡ true).
+        let from = some-start x y in
         ⊎-elim
         (λ (z : drops ≡ true).
         rw (y, z)
-        (let e : at + x .start + leadOf (quoted x s) ≡ at + (x .start + leadOf (quoted x s)) = omega arith in
-        ap (λ (n : ℕ). partOf doc n (length (trimmedOf (quoted x s)))) e
-        ∙ part-in doc s at (x .start + leadOf (quoted x s)) (length (trimmedOf (quoted x s))) stands
-        ∙ trimmed-part x s))
-        (λ (z : drops ≡ false). rw (y, z) (part-in doc s at (x .start) (x .len) stands))
+        (let e : at + x .start + leadOf (quoted x s) ≡ at + (x .start + leadOf (quoted x s)) = omega arith in (
+          ap (λ (n : ℕ). partOf doc n (length (trimmedOf (quoted x s)))) e
+              ∙ part-in doc s at (x .start + leadOf (quoted x s)) (length (trimmedOf (quoted x s))) stands
+              ∙ trimmed-part x s,
+          omega (arith, from),
+        )))
+        (λ (z : drops ≡ false). rw (y, z) (part-in doc s at (x .start) (x .len) stands, omega (arith, from)))
         (bool-cases drops))
         (λ (y : there x ≡ false). rw y (refl, refl))
         (bool-cases (there x))

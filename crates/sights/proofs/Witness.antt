@@ -22,9 +22,10 @@ use Rattle.views.specs.Views.{sheetViewed}
 use Rattle.sights.specs.Values.{ShowsValues}
 use Rattle.sights.proofs.Promises.{readers-answer, room-series, room-intervals, shows-values}
 
-pub legal-viewed : (doc : List ℕ) (n : ℕ) → cellOf headerPairs ≤ n → length doc ≤ 1048576 → (kind : ℕ) (c : Trees TagSaid) → Spells doc kind c → Legal kind c
-    → length (those (hasRole seriesRole) (rowsOf kind) c) ≤ viewRoom n .series → sheetViewed doc n .told .refusal ≡ 0
-legal-viewed doc n wide short kind c spells legal few =
+pub legal-answer : (doc : List ℕ) (n : ℕ) → cellOf headerPairs ≤ n → length doc ≤ 1048576 → (kind : ℕ) (c : Trees TagSaid) → Spells doc kind c → Legal kind c
+    → length (those (hasRole seriesRole) (rowsOf kind) c) ≤ viewRoom n .series
+    → (sheetViewed doc n .told .refusal ≡ 0) × (sheetViewed doc n .told .series ≡ length (those (hasRole seriesRole) (rowsOf kind) c))
+legal-answer doc n wide short kind c spells legal few =
     let most = viewRoom n .series in
     let k = length (those (hasRole intervalRole) (rowsOf kind) c) in
     let np = length doc + k in
@@ -32,8 +33,12 @@ legal-viewed doc n wide short kind c spells legal few =
     let s = room-series (cellsOf most) np np in
     let room : HasRoom (roomOf (cellsOf most) np np) kind c =
     record { series = omega (arith, few, s, same); intervals = room-intervals (cellsOf most) np np k (omega arith) (omega arith) } in
-    readers-answer doc n (cellsOf most) np np same (omega arith) (omega arith) wide Old 16 (le-refl 16) .0
-    ∙ legal-accepted doc (cellsOf most) np np Old 16 (le-refl 16) short kind c spells legal room .accepted
+    let a = readers-answer doc n (cellsOf most) np np same (omega arith) (omega arith) wide Old 16 (le-refl 16) in
+    let b = legal-accepted doc (cellsOf most) np np Old 16 (le-refl 16) short kind c spells legal room in (a .0 ∙ b .accepted, a .3 ∙ b .series)
+
+pub legal-viewed : (doc : List ℕ) (n : ℕ) → cellOf headerPairs ≤ n → length doc ≤ 1048576 → (kind : ℕ) (c : Trees TagSaid) → Spells doc kind c → Legal kind c
+    → length (those (hasRole seriesRole) (rowsOf kind) c) ≤ viewRoom n .series → sheetViewed doc n .told .refusal ≡ 0
+legal-viewed doc n wide short kind c spells legal few = legal-answer doc n wide short kind c spells legal few .0
 
 -- the sheet, which has two series: 16 pairs and twice 22
 pub sheet-viewed : sheetViewed sheet 120 .told .refusal ≡ 0

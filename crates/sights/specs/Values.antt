@@ -61,10 +61,10 @@ valuesSaid w s =
     cond (eqb (roleOf w) rootRole) (s .dtd .version ∷ s .dtd .release ∷ s .dtd .message ∷ [])
     (onlyIf (asksV w) (withoutSpaces (collapsed w) (s .v)) ++ onlyIf (asksScheme w) (withoutSpaces true (s .scheme)))
 
--- "start and length between the quotes ..; 0 and 0 where absent"
+-- "start and length between the quotes ..; 0 and 0 where absent": a value that is there starts behind its quote, and so does an empty one
 unfoldable pub PairShows : List ℕ → List ℕ → ℕ → AttributeValue → Type 0
 PairShows doc t k Absent = (getD t (cellOf k) 0 ≡ 0) × (getD t (cellOf k + 1) 0 ≡ 0)
-PairShows doc t k (Given b) = pairView doc t k ≡ b
+PairShows doc t k (Given b) = (pairView doc t k ≡ b) × (1 ≤ getD t (cellOf k) 0)
 
 -- value j of an element of row w, or of none
 abbrev pub valueAt : ℕ → List TagSaid → ℕ → AttributeValue

@@ -13,9 +13,9 @@ ghost use lib.ListN.{length, getD};
 ghost use Rattle.views.specs.Layout.{oneIf, valuesOf, pairAfter, firstPair, pairIn, rowNamed};
 
 // The pairs of a header, and those of a series.
-pub(crate) const HEADER_PAIRS: usize = 16;
+pub const HEADER_PAIRS: usize = 16;
 
-pub(crate) const SERIES_PAIRS: usize = 22;
+pub const SERIES_PAIRS: usize = 22;
 
 pub(crate) fn one_if(b: bool) -> usize
     ensures one { λ r. ⌜ r ≡ oneIf b ⌝ }

@@ -1,11 +1,14 @@
 //! Amounts, which are printed where they are asked for and nowhere else.
+use core::error::Error;
 use core::fmt::{self, Write};
+use core::str::FromStr;
 
 /// A Qty, in thousandths: megawatts in a Beschaffungsanforderung, euros by the series' MeasurementUnit in a Kostenblatt, megawatts or a share by
 /// it in a NetworkConstraintDocument.
 ///
 /// [`Display`](fmt::Display) writes the exact decimal number, with as few decimals as it needs. A precision asks for at least so many, up to three;
-/// none is dropped and nothing is rounded. [`Debug`](fmt::Debug) writes no digit, so that no amount gets into a log by mistake.
+/// none is dropped and nothing is rounded. [`Debug`](fmt::Debug) writes no digit, so that no amount gets into a log by mistake. [`FromStr`] reads such a
+/// number back exactly: perhaps a minus, digits, and perhaps a point with one to three digits.
 ///
 /// ```
 /// use lumintayag::Amount;
@@ -16,8 +19,9 @@ use core::fmt::{self, Write};
 /// assert_eq!(format!("{price:>8.1}"), "   -3.75");
 /// assert_eq!(format!("{price:?}"), "Amount(..)");
 /// assert!(price < Amount::from_thousandths(0));
+/// assert_eq!("-3.75".parse(), Ok(price));
 /// ```
-#[derive(Clone, Copy, PartialEq, Eq, PartialOrd, Ord, Hash)]
+#[derive(Clone, Copy, Default, PartialEq, Eq, PartialOrd, Ord, Hash)]
 pub struct Amount(i64);
 
 impl Amount {
@@ -43,6 +47,42 @@ impl fmt::Display for Amount {
         let size = self.0.unsigned_abs();
         decimal(f, self.0 < 0, size / 1000, size % 1000)
     }
+}
+
+/// A text that is no [`Amount`]. It holds nothing of the text.
+#[derive(Clone, Copy, Debug, PartialEq, Eq, Hash)]
+pub struct NotAnAmount;
+
+impl fmt::Display for NotAnAmount {
+    fn fmt(&self, f: &mut fmt::Formatter<'_>) -> fmt::Result {
+        f.pad("not an amount with at most three decimals")
+    }
+}
+
+impl Error for NotAnAmount {}
+
+impl FromStr for Amount {
+    type Err = NotAnAmount;
+
+    fn from_str(text: &str) -> Result<Self, NotAnAmount> {
+        thousandths_of(text.as_bytes()).map(Amount).ok_or(NotAnAmount)
+    }
+}
+
+fn thousandths_of(text: &[u8]) -> Option<i64> {
+    let (sign, size) = text.strip_prefix(b"-").map_or((1, text), |size| (-1, size));
+    let (whole, fraction) = match size.iter().position(|&b| b == b'.') {
+        Some(point) => (size.get(..point)?, size.get(point + 1..)?),
+        None => (size, &b"0"[..]),
+    };
+    if whole.is_empty() || fraction.is_empty() || fraction.len() > 3 {
+        return None;
+    }
+    let thousandths = fraction.iter().chain(b"000").take(3);
+    whole.iter().chain(thousandths).try_fold(0_i64, |sum, &digit| {
+        let digit = char::from(digit).to_digit(10)?;
+        sum.checked_mul(10)?.checked_add(sign * i64::from(digit))
+    })
 }
 
 /// A number as the type's own page says it: a sign, the whole part of its size, and thousandths from 0 to 999.

@@ -4,7 +4,9 @@
 
 use crate::sheet::Tables;
 use crate::Shape;
-use lumintayag_sys::{lumintayag_convert_note, lumintayag_read_note_v2, lumintayag_read_v3, lumintayag_totals, lumintayag_views};
+use lumintayag_sys::{
+    lumintayag_convert_note, lumintayag_read_note_v2, lumintayag_read_v3, lumintayag_totals, lumintayag_unescape, lumintayag_views, lumintayag_write,
+};
 
 /// A longer document is refused with 1.
 pub const DOCUMENT_MOST: usize = 1_048_576;
@@ -28,6 +30,7 @@ pub(crate) const NOTE_NUMBERS: usize = 6;
 const CONVERTED_NUMBERS: usize = 2;
 pub(crate) const TOTAL_NUMBERS: usize = 2;
 const VIEWS_NUMBERS: usize = 6;
+const WRITE_NUMBERS: usize = 2;
 
 /// The seven numbers of the answer.
 pub(crate) fn read(
@@ -108,4 +111,38 @@ pub(crate) fn views(doc: &[u8], table: &mut [u32]) -> [u32; VIEWS_NUMBERS] {
         lumintayag_views(doc.as_ptr(), doc.len(), table.as_mut_ptr(), table.len(), answer.as_mut_ptr(), answer.len());
     }
     answer
+}
+
+/// The two numbers of the answer.
+pub(crate) fn write(kind: u32, text: &[u8], pairs: &[u32], count: u32, tables: Tables<'_>, out: &mut [u8]) -> [u32; WRITE_NUMBERS] {
+    let Tables { series, positions, amounts } = tables;
+    let mut answer = [0; WRITE_NUMBERS];
+    // SAFETY: each pointer comes with the length of the slice or array that it is of, and Rust lends the written ones to nobody else.
+    unsafe {
+        lumintayag_write(
+            kind,
+            text.as_ptr(),
+            text.len(),
+            pairs.as_ptr(),
+            pairs.len(),
+            count,
+            series.as_ptr(),
+            series.len(),
+            positions.as_ptr(),
+            positions.len(),
+            amounts.as_ptr(),
+            amounts.len(),
+            out.as_mut_ptr(),
+            out.len(),
+            answer.as_mut_ptr(),
+            answer.len(),
+        );
+    }
+    answer
+}
+
+/// How many bytes the value says, whether they found room or not.
+pub(crate) fn unescape(value: &[u8], out: &mut [u8]) -> usize {
+    // SAFETY: each pointer comes with the length of the slice that it is of, and Rust lends the written one to nobody else.
+    unsafe { lumintayag_unescape(value.as_ptr(), value.len(), out.as_mut_ptr(), out.len()) }
 }

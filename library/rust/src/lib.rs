@@ -1,6 +1,7 @@
-//! Reads documents of Germany's Redispatch 2.0 in memory: Beschaffungsanforderungen 1.0, Kostenblätter 1.0 and NetworkConstraintDocuments 1.1a.
+//! Reads documents of Germany's Redispatch 2.0 in memory: Beschaffungsanforderungen 1.0, Kostenblätter 1.0 and NetworkConstraintDocuments 1.1a. Writes those
+//! of the first two kinds.
 //!
-//! This crate is the safe face of Lumintayag's reader, whose archive it links. What the reader answers and leaves in its tables is proved, for every
+//! This crate is the safe face of Lumintayag's reader and writer, whose archive it links. What they answer and leave in what they are lent is proved, for every
 //! document and every length of every table. That ends at the archive's functions (`library/lumintayag.h`): this crate, which shows the tables row by
 //! row, is plain Rust.
 //!
@@ -58,6 +59,12 @@
 //! say: `A0&#49;` is the code A01, and two identifications that say the same are one used twice. A `&str` from a document is what stands there, with its
 //! references; [`unescaped`] tells what it says.
 //!
+//! # Writing
+//!
+//! [`Draft`] has the values of a document by name, and the intervals of its series: of a sheet that was read, with other amounts, or from
+//! nothing. It is written in a fixed layout, and what is written is accepted and says the same; a draft that no legal document says is refused with
+//! [`Refusal::ContentUnfit`]. [`write()`] does the same with tables that the caller lends.
+//!
 //! # Totals
 //!
 //! [`Sheet::totals`] adds up each series of a sheet, and all of them: every amount times the quarter hours that it stands. A [`Total`] is exact, and
@@ -72,12 +79,12 @@
 //! # What gets into a log
 //!
 //! `Debug` of every type here tells kinds, counts and places, and no byte of a document, no amount, no total and no time; nor does the text of an error.
-//! `Display` of [`Amount`], [`Total`] and [`Utc`], and what the methods of [`Series`] and of [`Views`] answer, is what the caller asked for. [`OwnedSheet`]
-//! and [`Totals`] are wiped when they are dropped, and [`wipe`] is for memory of the caller's own. `docs/PRIVACY.md` says what is left to the caller: swap, core dumps, copies.
+//! `Display` of [`Amount`], [`Total`] and [`Utc`], and what the methods of [`Series`] and of [`Views`] answer, is what the caller asked for. [`OwnedSheet`],
+//! [`Draft`] and [`Totals`] are wiped when they are dropped, and [`wipe`] is for memory of the caller's own. `docs/PRIVACY.md` says what is left to the caller: swap, core dumps, copies.
 //!
 //! # Features and requirements
 //!
-//! The crate is `no_std`, and does not panic. The default feature `alloc` adds [`OwnedSheet`]; without it the crate allocates nothing. The feature `std`,
+//! The crate is `no_std`, and does not panic. The default feature `alloc` adds [`OwnedSheet`] and [`Draft`]; without it the crate allocates nothing. The feature `std`,
 //! off by default, adds the conversion of a [`Utc`] into a `std::time::SystemTime`. A call takes 70 KB of stack at most. The environment variable
 //! `LUMINTAYAG_DIR` names the folder of the archive at build time, as a full path.
 //!
@@ -95,6 +102,8 @@ extern crate std;
 
 mod amount;
 mod answer;
+#[cfg(feature = "alloc")]
+mod draft;
 mod foreign;
 mod note;
 mod numbers;
@@ -110,9 +119,14 @@ mod unescaped;
 mod values;
 mod views;
 mod wipe;
+#[cfg(feature = "alloc")]
+mod wiped;
+mod write;
 
-pub use amount::Amount;
+pub use amount::{Amount, NotAnAmount};
 pub use answer::{read, read_with_shape, Accepted, Lent, Refused};
+#[cfg(feature = "alloc")]
+pub use draft::{Draft, SeriesDraft};
 pub use foreign::{DOCUMENT_MOST, HEADER_PAIRS, INTERVALS_ROOM, SERIES_PAIRS, SERIES_ROOM, SERIES_ROW, TOTALS_MOST};
 pub use note::{read_note, NotOneNote, Note, Shape};
 pub use numbers::{Kind, Refusal};
@@ -122,7 +136,8 @@ pub use room::Room;
 pub use sheet::{ByQuarter, Intervals, Series, SeriesIter, Sheet, Tables};
 pub use time::{Period, Utc};
 pub use totals::{totals, Total, Totals, TotalsIter};
-pub use unescaped::unescaped;
+pub use unescaped::{unescape, unescaped};
 pub use values::{HeaderValue, SeriesValue};
 pub use views::{views, SeriesViews, SeriesViewsIter, Views, ViewsRefused};
 pub use wipe::wipe;
+pub use write::{write, WriteRefused, Written};

@@ -63,7 +63,7 @@ impl fmt::Display for Kind {
     }
 }
 
-/// Why a document, a note, or tables that are to be added up are refused. In a document the first item with a fault decides; where it has several, the
+/// Why a document, a note, content that is to be written, or tables that are to be added up are refused. In a document the first item with a fault decides; where it has several, the
 /// smallest number.
 #[derive(Clone, Copy, Debug, PartialEq, Eq, Hash)]
 #[non_exhaustive]
@@ -90,6 +90,10 @@ pub enum Refusal {
     NoteTooShort,
     /// 11: the bytes aren't one note. [`read_note`](crate::read_note) tells it by its own error.
     NotOneNote,
+    /// 12: no document of kind 1 or 2, however long, that would be accepted has the content that is to be written; or pairs or rows lie past what is lent.
+    ContentUnfit,
+    /// 13: the document that is to be written is longer than what is lent for it, or than [`DOCUMENT_MOST`](crate::DOCUMENT_MOST).
+    NoRoomToWrite,
     /// 17: more than [`TOTALS_MOST`](crate::TOTALS_MOST) series are to be added up.
     TooManySeries,
     /// 18: a kind, N, rows, a Pos or an amount that is against the rules of the kind. Tables that the reader left are never refused with it.
@@ -116,13 +120,15 @@ impl Refusal {
             9 => Refusal::UsedBefore,
             10 => Refusal::NoteTooShort,
             11 => Refusal::NotOneNote,
+            12 => Refusal::ContentUnfit,
+            13 => Refusal::NoRoomToWrite,
             17 => Refusal::TooManySeries,
             18 => Refusal::WrongTables,
             _ => Refusal::Other(number),
         })
     }
 
-    /// Its number in the note.
+    /// Its number.
     pub const fn number(self) -> u32 {
         match self {
             Refusal::TooLong => 1,
@@ -136,6 +142,8 @@ impl Refusal {
             Refusal::UsedBefore => 9,
             Refusal::NoteTooShort => 10,
             Refusal::NotOneNote => 11,
+            Refusal::ContentUnfit => 12,
+            Refusal::NoRoomToWrite => 13,
             Refusal::TooManySeries => 17,
             Refusal::WrongTables => 18,
             Refusal::Other(number) => number,
@@ -143,7 +151,7 @@ impl Refusal {
     }
 }
 
-/// In the words of the program that explains notes; 17 and 18 are in no note.
+/// In the words of the program that explains notes; those from 11 on are in no note.
 impl fmt::Display for Refusal {
     fn fmt(&self, f: &mut fmt::Formatter<'_>) -> fmt::Result {
         f.pad(match self {
@@ -158,6 +166,8 @@ impl fmt::Display for Refusal {
             Refusal::UsedBefore => "a TimeSeriesIdentification was used before",
             Refusal::NoteTooShort => "the note buffer has fewer than 16 bytes",
             Refusal::NotOneNote => "the bytes are not one note",
+            Refusal::ContentUnfit => "no legal Beschaffungsanforderung or Kostenblatt has this content",
+            Refusal::NoRoomToWrite => "the document to be written is longer than its output or 1048576 bytes",
             Refusal::TooManySeries => "more than 200 series are to be added up",
             Refusal::WrongTables => "the kind, the quarter hours or the tables to be added up are against the rules of the kind",
             Refusal::Other(_) => "an unknown refusal",

@@ -3,8 +3,8 @@ use crate::answer::Told;
 use crate::once::Once;
 use crate::sheet::Tables;
 use crate::views::Seen;
+use crate::wiped::Wiped;
 use crate::{wipe, Accepted, Lent, Note, Refusal, Refused, Room, Series, SeriesIter, Shape, Sheet, Views, ViewsRefused};
-use alloc::vec;
 use alloc::vec::Vec;
 use core::fmt;
 
@@ -59,11 +59,11 @@ impl OwnedSheet {
     ///
     /// [`Refused`] says why and where.
     pub fn read_with_shape(document: Vec<u8>, room: Room, shape: Shape) -> Result<Self, Refused> {
-        let document = Wiped(document);
-        let enough = Room::of_length(document.0.len());
+        let document = Wiped::from(document);
+        let enough = Room::of_length(document.len());
         let room = Room { series: room.series.min(enough.series), intervals: room.intervals.min(enough.intervals) };
-        let (told, cells) = match Cells::filled(&document.0, room, shape) {
-            Err(refused) if refused.refusal() == Refusal::TableFull => Cells::filled(&document.0, enough, shape),
+        let (told, cells) = match Cells::filled(&document, room, shape) {
+            Err(refused) if refused.refusal() == Refusal::TableFull => Cells::filled(&document, enough, shape),
             answer => answer,
         }?;
         Ok(OwnedSheet { document: document.fitted(), cells, told, shown: Once::new() })
@@ -71,7 +71,7 @@ impl OwnedSheet {
 
     /// What the document says.
     pub fn sheet(&self) -> Sheet<'_> {
-        self.told.sheet(&self.document.0, self.cells.tables())
+        self.told.sheet(&self.document, self.cells.tables())
     }
 
     /// Where every attribute value of the document stands. The document is read once more when they are first asked for, and the table is kept.
@@ -94,8 +94,8 @@ impl OwnedSheet {
     ///
     /// None is known: the document was accepted, and the table has room for its series.
     pub fn views(&self) -> Result<Views<'_>, ViewsRefused> {
-        let shown = self.shown.get_or_make(|| Shown::of(&self.document.0, self.sheet().views_numbers()))?;
-        Ok(shown.seen.views(&self.document.0, &shown.table.0))
+        let shown = self.shown.get_or_make(|| Shown::of(&self.document, self.sheet().views_numbers()))?;
+        Ok(shown.seen.views(&self.document, &shown.table))
     }
 
     /// The note for the support desk.
@@ -110,7 +110,7 @@ impl OwnedSheet {
 
     /// The document.
     pub fn document(&self) -> &[u8] {
-        &self.document.0
+        &self.document
     }
 
     /// The room that its tables have.
@@ -122,7 +122,7 @@ impl OwnedSheet {
 /// What the sheet's `Debug` tells, and how long the document is.
 impl fmt::Debug for OwnedSheet {
     fn fmt(&self, f: &mut fmt::Formatter<'_>) -> fmt::Result {
-        f.debug_struct("OwnedSheet").field("document", &self.document.0.len()).field("room", &self.room()).field("sheet", &self.sheet()).finish()
+        f.debug_struct("OwnedSheet").field("document", &self.document.len()).field("room", &self.room()).field("sheet", &self.sheet()).finish()
     }
 }
 
@@ -145,7 +145,7 @@ impl Shown {
     /// A table of so many numbers, with the document viewed in it.
     fn of(doc: &[u8], numbers: usize) -> Result<Self, ViewsRefused> {
         let mut table = Wiped::zeros(numbers);
-        let seen = Seen::of(doc, &mut table.0)?;
+        let seen = Seen::of(doc, &mut table)?;
         Ok(Shown { table, seen })
     }
 }
@@ -170,35 +170,11 @@ impl Cells {
     fn filled(doc: &[u8], room: Room, shape: Shape) -> Result<(Told, Self), Refused> {
         let (series, positions, amounts) = (Wiped::zeros(room.series_numbers()), Wiped::zeros(room.intervals), Wiped::zeros(room.intervals));
         let mut cells = Cells { room, series, positions, amounts };
-        let told = Told::of(doc, Lent { series: &mut cells.series.0, positions: &mut cells.positions.0, amounts: &mut cells.amounts.0 }, shape)?;
+        let told = Told::of(doc, Lent { series: &mut cells.series, positions: &mut cells.positions, amounts: &mut cells.amounts }, shape)?;
         Ok((told, cells))
     }
 
     fn tables(&self) -> Tables<'_> {
-        Tables { series: &self.series.0, positions: &self.positions.0, amounts: &self.amounts.0 }
-    }
-}
-
-/// Cells that are wiped when they are dropped, as far as the vector's capacity goes. It never grows, so that it leaves nothing behind before.
-struct Wiped<T: Copy + Default>(Vec<T>);
-
-impl<T: Copy + Default> Wiped<T> {
-    fn zeros(len: usize) -> Self {
-        Wiped(vec![T::default(); len])
-    }
-
-    /// The same cells, in memory of their own size.
-    fn fitted(self) -> Self {
-        if self.0.capacity() == self.0.len() {
-            return self;
-        }
-        Wiped(self.0.as_slice().into())
-    }
-}
-
-impl<T: Copy + Default> Drop for Wiped<T> {
-    fn drop(&mut self) {
-        self.0.resize(self.0.capacity(), T::default());
-        wipe(&mut self.0);
+        Tables { series: &self.series, positions: &self.positions, amounts: &self.amounts }
     }
 }

@@ -10,7 +10,8 @@ fn part<T>(all: &[T], start: u32, len: u32) -> Option<&[T]> {
     all.get(start..start.checked_add(len as usize)?)
 }
 
-/// The three tables, filled: what was [lent](crate::Lent), to be [added up](crate::totals()) by a caller who keeps the tables and not the [`Sheet`].
+/// The three tables, filled: what was [lent](crate::Lent), to be [added up](crate::totals()) or [written](crate::write()) by a caller who keeps the tables and not
+/// the [`Sheet`].
 #[derive(Clone, Copy, PartialEq, Eq)]
 pub struct Tables<'a> {
     /// [`SERIES_ROW`] numbers for each series.

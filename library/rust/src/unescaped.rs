@@ -1,4 +1,5 @@
 //! What a value says that was read by reference.
+use crate::foreign;
 
 /// The characters that a value says: those of a view, each reference replaced by the character that it stands for, once.
 ///
@@ -21,6 +22,24 @@ pub fn unescaped(value: &str) -> impl Iterator<Item = char> + Clone + '_ {
         rest = after;
         Some(says)
     })
+}
+
+/// Puts what a value says into lent bytes, in UTF-8, by the archive's own function, and answers how many bytes that is: never more than the value has. Where
+/// fewer are lent, the first ones; bytes past them stay as they were.
+///
+/// It is for a [text that is lent to the writer](crate::write()). [`unescaped`] tells the same, character by character, but for what begins no reference:
+/// that says the character 0 here.
+///
+/// ```
+/// use lumintayag::unescape;
+///
+/// let value = "M&amp;B &#x4D;";
+/// let mut text = [0; 14];
+/// let len = unescape(value, &mut text);
+/// assert_eq!(&text[..len], b"M&B M");
+/// ```
+pub fn unescape(value: &str, out: &mut [u8]) -> usize {
+    foreign::unescape(value.as_bytes(), out)
 }
 
 /// The character at the front, and the rest.

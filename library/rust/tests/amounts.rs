@@ -2,6 +2,7 @@
 mod common;
 
 use common::amount;
+use lumintayag::{Amount, NotAnAmount};
 
 #[test]
 fn decimals() {
@@ -25,6 +26,21 @@ fn decimals() {
     for (thousandths, text) in cases {
         assert_eq!(amount(thousandths).to_string(), text);
         assert_eq!(amount(thousandths).thousandths(), thousandths);
+        assert_eq!(text.parse(), Ok(amount(thousandths)));
+    }
+}
+
+/// Exact, or none.
+#[test]
+fn read_back() {
+    for (text, thousandths) in [("-0", 0), ("-0.000", 0), ("007", 7_000), ("1.5", 1_500), ("1.50", 1_500), ("1.500", 1_500), ("0.1", 100)] {
+        assert_eq!(text.parse(), Ok(amount(thousandths)), "{text}");
+    }
+    for other in [
+        "", "-", ".", "+5", ".5", "5.", "-.5", "--5", "1.0005", "1.5000", "1,5", "1e3", " 5", "5 ", "1 000", "0x5", "٥", "1.2.3",
+        "9223372036854775.808", "-9223372036854775.809", "99999999999999999999999",
+    ] {
+        assert_eq!(other.parse::<Amount>(), Err(NotAnAmount), "{other}");
     }
 }
 

@@ -4,7 +4,7 @@ mod common;
 
 use common::two_plants;
 use lumintayag::SERIES_ROW;
-use lumintayag_sys::{lumintayag_convert_note, lumintayag_read_note_v2, lumintayag_read_v3, lumintayag_totals, lumintayag_views};
+use lumintayag_sys::{lumintayag_convert_note, lumintayag_read_note_v2, lumintayag_read_v3, lumintayag_totals, lumintayag_views, lumintayag_write};
 
 /// The numbers as far as there are cells, 0 in the cells after them, and old numbers past the slice.
 fn expected<T: Copy + From<u8>>(numbers: &[T], len: usize) -> Vec<T> {
@@ -165,5 +165,52 @@ fn views_of_every_size() {
         let said = unsafe { lumintayag_views(doc.as_ptr(), doc.len(), table.as_mut_ptr(), cells, answer.as_mut_ptr(), len) };
         assert_eq!((said, answer.to_vec()), (six[0], expected(&six, len)));
         assert!(table[cells..].iter().all(|&cell| cell == 77) && (said == 0 || table[..cells].iter().all(|&cell| cell == 0)));
+    }
+}
+
+/// An output that is too short, one that fits and one with room to spare, a refused count, and an answer of every size.
+#[test]
+fn written_of_every_size() {
+    let (doc, mut pairs) = (two_plants(), [0; 120]);
+    // SAFETY: no length is more than that of the array.
+    assert_eq!(unsafe { lumintayag_views(doc.as_ptr(), doc.len(), pairs.as_mut_ptr(), pairs.len(), [0; 1].as_mut_ptr(), 0) }, 0);
+    let mut series = [0; 2 * SERIES_ROW];
+    (series[SERIES_ROW - 1], series[2 * SERIES_ROW - 2], series[2 * SERIES_ROW - 1]) = (3, 3, 2);
+    let (positions, amounts) = ([1, 29, 96, 1, 2], [84_500, -61_250, 999_999_999_999_999, 0, -1]);
+    let write = |count, room, len| {
+        let (mut out, mut answer) = ([77; 4096], [77; 12]);
+        // SAFETY: no length is more than that of the array.
+        let said = unsafe {
+            lumintayag_write(
+                2,
+                doc.as_ptr(),
+                doc.len(),
+                pairs.as_ptr(),
+                pairs.len(),
+                count,
+                series.as_ptr(),
+                series.len(),
+                positions.as_ptr(),
+                5,
+                amounts.as_ptr(),
+                5,
+                out.as_mut_ptr(),
+                room,
+                answer.as_mut_ptr(),
+                len,
+            )
+        };
+        assert!(out[room..].iter().all(|&byte| byte == 77));
+        (said, answer.to_vec(), out[..room].to_vec())
+    };
+    let whole = write(2, 4096, 2);
+    let document = &whole.2[..whole.1[1] as usize];
+    assert!(document.ends_with(b"</Kostenblatt>"));
+    let told = [(2, document.len() - 1, 13), (2, document.len(), 0), (2, 4096, 0), (3, 4096, 12), (3, 0, 12), (2, 0, 13)];
+    for (len, (count, room, refusal)) in (0..=12).flat_map(|len| told.map(|of| (len, of))) {
+        let (said, answer, out) = write(count, room, len);
+        let put = if refusal == 0 { document } else { &[] };
+        assert_eq!((said, answer), (refusal, expected(&[refusal, put.len() as u32], len)));
+        assert!(out.starts_with(put) && out[put.len()..].iter().all(|&byte| byte == 0));
     }
 }

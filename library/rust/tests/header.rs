@@ -24,6 +24,7 @@ fn sizes() {
     assert_eq!((defined("LUMINTAYAG_HEADER_PAIRS"), defined("LUMINTAYAG_SERIES_PAIRS")), (HEADER_PAIRS, SERIES_PAIRS));
     assert_eq!(2 * (HEADER_PAIRS + SERIES_PAIRS * SERIES_ROOM), Room::EVERY.views_numbers());
     assert_eq!((defined("LUMINTAYAG_VIEWS_NUMBERS"), defined("LUMINTAYAG_FROM"), defined("LUMINTAYAG_TO")), (6, 4, 5));
+    assert_eq!((defined("LUMINTAYAG_WRITE_NUMBERS"), defined("LUMINTAYAG_WRITE_REFUSAL"), defined("LUMINTAYAG_WRITE_LEN")), (2, 0, 1));
 }
 
 /// `TimeInterval` is `TIME_INTERVAL`.
@@ -96,6 +97,8 @@ fn kinds_and_refusals() {
         ("USED_BEFORE", Refusal::UsedBefore),
         ("NOTE_TOO_SHORT", Refusal::NoteTooShort),
         ("NOT_ONE_NOTE", Refusal::NotOneNote),
+        ("CONTENT_UNFIT", Refusal::ContentUnfit),
+        ("NO_ROOM_TO_WRITE", Refusal::NoRoomToWrite),
         ("TOO_MANY_SERIES", Refusal::TooManySeries),
         ("WRONG_TABLES", Refusal::WrongTables),
     ];

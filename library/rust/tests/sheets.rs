@@ -214,7 +214,7 @@ fn numbers_and_names_of_refusals_and_kinds() {
     for number in 1..100 {
         let (refusal, kind) = (Refusal::from_number(number).expect("a refusal"), Kind::from_number(number).expect("a kind"));
         assert_eq!((refusal.number(), kind.number()), (number, number));
-        assert_eq!(matches!(refusal, Refusal::Other { .. }), !matches!(number, 1..=11 | 17 | 18));
+        assert_eq!(matches!(refusal, Refusal::Other { .. }), !matches!(number, 1..=13 | 17 | 18));
         assert_eq!(matches!(kind, Kind::Other { .. }), number > 3);
         assert!(!refusal.to_string().is_empty() && !kind.to_string().is_empty());
     }

@@ -2,7 +2,7 @@
 mod common;
 
 use common::*;
-use lumintayag::{read_note, totals, views, HeaderValue, Kind, Room, SeriesValue, Shape, Tables};
+use lumintayag::{read_note, totals, views, write, Amount, HeaderValue, Kind, Room, SeriesValue, Shape, Tables};
 use std::fmt::Debug;
 
 /// Both forms of `Debug`.
@@ -66,11 +66,33 @@ fn owned(doc: &str) -> String {
     formatted(&kept) + &formatted(&kept.views()) + &formatted(&kept)
 }
 
+/// Drafts: empty, and of a sheet.
+#[cfg(feature = "alloc")]
+fn drafts(doc: &str) -> [(&'static str, String); 2] {
+    use lumintayag::{Draft, OwnedSheet};
+    let kept = OwnedSheet::read(doc.into()).expect("accepted");
+    let draft = Draft::from_sheet(&kept.sheet());
+    let written = formatted(&draft.as_ref().map(|draft| draft.write(&mut [0; 4096]).map(|written| formatted(&written))));
+    let draft = draft.expect("a draft");
+    [("Draft", formatted(&draft) + &formatted(&Draft::new(Kind::Kostenblatt)) + &written), ("SeriesDraft", formatted(&draft.series()))]
+}
+
+/// What is written of the first series, and what is not.
+fn written(doc: &str, tables: Tables<'_>) -> [(&'static str, String); 2] {
+    let (mut pairs, mut out) = (vec![0; Room { series: 2, intervals: 0 }.views_numbers()], [0; 4096]);
+    assert!(views(doc.as_bytes(), &mut pairs).is_ok());
+    let answer = write(Kind::Kostenblatt, doc.as_bytes(), &pairs, 1, tables, &mut out);
+    let shown = formatted(&answer.expect("written")) + &formatted(&answer);
+    let refused = write(Kind::Kostenblatt, doc.as_bytes(), &pairs, 3, tables, &mut out).expect_err("a count");
+    [("Written", shown), ("WriteRefused", formatted(&refused) + &refused.to_string())]
+}
+
 /// One text for each public type, with its name.
 fn all(doc: &str, desk: &mut Desk, refused: &mut Desk) -> Vec<(&'static str, String)> {
     assert!(desk.read(doc.as_bytes()).is_ok());
     let tables = Tables { series: &desk.series, positions: &desk.positions, amounts: &desk.amounts };
     let added = formatted(&tables) + &formatted(&totals(Kind::Kostenblatt, 95, 2, tables)) + &formatted(&totals(Kind::Kostenblatt, 80, 2, tables));
+    let written = written(doc, tables);
     let lent = formatted(&desk.lent());
     let refusal = refused.read(&doc.as_bytes()[..doc.len() - 1]).expect_err("a cut");
     let deep = refused.read_in(Shape::New, &doc.as_bytes()[..doc.len() - 1]).expect_err("a cut").note();
@@ -100,9 +122,13 @@ fn all(doc: &str, desk: &mut Desk, refused: &mut Desk) -> Vec<(&'static str, Str
         ("TotalsIter", formatted(&totals.iter())),
         ("Total", formatted(&totals.sum()) + &formatted(&totals.iter().collect::<Vec<_>>()) + &formatted(&totals.get(1))),
     ];
+    all.push(("NotAnAmount", formatted(&PRICES.map(|price| [price, "x"].concat().parse::<Amount>()))));
+    all.extend(written);
     all.extend(all_views(doc));
     #[cfg(feature = "alloc")]
     all.push(("OwnedSheet", owned(doc)));
+    #[cfg(feature = "alloc")]
+    all.extend(drafts(doc));
     all.sort();
     all
 }
@@ -115,7 +141,7 @@ fn public_types() -> Vec<String> {
         let after = source.lines().filter_map(|line| line.strip_prefix("pub struct ").or(line.strip_prefix("pub enum ")));
         names.extend(after.map(|line| line.split(|c: char| !c.is_alphanumeric()).next().unwrap_or_default().to_string()));
     }
-    names.retain(|name| cfg!(feature = "alloc") || !name.starts_with("Owned"));
+    names.retain(|name| cfg!(feature = "alloc") || !(name.starts_with("Owned") || name.ends_with("Draft")));
     names.sort();
     names
 }
@@ -144,7 +170,7 @@ fn no_byte_of_a_document_and_no_amount() {
 fn the_same_for_another_sheet_of_the_same_lengths() {
     let doc = sheet();
     let other =
-        doc.replace(PRICES[0], "11111111.111").replace(PRICES[2], "0000000009.99").replace(NAMES[0], "Lieber").replace(OBJECTS[1], "A00000000Z5");
+        doc.replace(PRICES[0], "11111111.111").replace(PRICES[2], "1000000009.99").replace(NAMES[0], "Lieber").replace(OBJECTS[1], "A00000000Z5");
     let other = other.replace(DIRECTION, "A01").replace(AREA, "10YDE-VE-------2").replace(NEXT.0, NEXT.1);
     let other = SHOWN.iter().zip(OTHERS).fold(other, |doc, (old, new)| doc.replace(old, new));
     assert!(other != doc && other.len() == doc.len());

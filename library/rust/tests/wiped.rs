@@ -4,7 +4,7 @@
 mod common;
 
 use common::*;
-use lumintayag::{views, wipe, OwnedSheet, Room};
+use lumintayag::{views, wipe, Draft, OwnedSheet, Refusal, Room};
 use std::alloc::{GlobalAlloc, Layout, System};
 use std::cell::Cell;
 use std::hint::black_box;
@@ -112,6 +112,30 @@ fn views_are_wiped() {
     assert_eq!((given_back(unit), given_back(unit)), ((Some("Z02"), (0, 0)), (Some("Z02"), (0, 0))));
     assert_eq!(kept.views().map(|shown| shown.period().from().minutes()), Ok(FROM));
     assert_eq!(given_back(|| drop(kept)).1, (0, 6), "the document and its tables, the table of views and what tells where it is");
+}
+
+/// A draft of a sheet, its memory as it grows, what is lent to the writer, and the output that is larger than the document.
+#[test]
+fn drafts_are_wiped() {
+    let kept = OwnedSheet::read(document("")).expect("accepted");
+    let (mut draft, back) = given_back(|| Draft::from_sheet(&kept.sheet()).expect("viewed"));
+    assert_eq!(back.0, 0, "the table of views");
+    assert_eq!(draft.series()[0].intervals()[0], (1, amount(THOUSANDTHS)));
+    let mut grow = |position| {
+        draft.series_mut()[0].add_interval(position, amount(THOUSANDTHS));
+    };
+    let grown = given_back(|| (3..50).for_each(&mut grow)).1;
+    assert!(grown.0 == 0 && grown.1 > 2, "{grown:?}");
+    let (document, back) = given_back(|| draft.to_document().expect("written"));
+    assert!(back.0 == 0 && back.1 > 5 && holds_price(&document), "{back:?}");
+    assert_eq!(given_back(|| drop(document)).1, (1, 1), "what is written is the caller's to wipe");
+    draft.series_mut()[0].add_interval(3, amount(THOUSANDTHS));
+    let (refusal, back) = given_back(|| draft.to_document().map(|_| ()).map_err(|refused| refused.refusal()));
+    assert_eq!((refusal, back.0), (Err(Refusal::ContentUnfit), 0));
+    assert_eq!(given_back(|| draft.series_mut()[0].clear_intervals().intervals().len()), (0, (0, 1)));
+    let mut other = Draft::from_sheet(&kept.sheet()).expect("viewed");
+    other.series_mut()[0].intervals_mut()[1].1 = amount(THOUSANDTHS);
+    assert_eq!(given_back(|| drop((draft, other))).1 .0, 0);
 }
 
 #[test]

@@ -1,7 +1,7 @@
 //! Also a part of `build.rs` and of `probe.rs`, which ask an archive whether it is the one for these declarations.
 
 /// `LUMINTAYAG_VERSION` of the header: 10000 a + 100 b + c for version a.b.c.
-pub const VERSION: u32 = 700;
+pub const VERSION: u32 = 800;
 
 extern "C" {
     /// The archive's version.
@@ -60,4 +60,27 @@ extern "C" {
 
     /// Shows where each attribute value of a document stands, in a table of pairs.
     pub fn lumintayag_views(doc: *const u8, doc_len: usize, table: *mut u32, table_len: usize, answer: *mut u32, answer_len: usize) -> u32;
+
+    /// Writes a document from a text of values, a pair for each of them, and tables.
+    pub fn lumintayag_write(
+        kind: u32,
+        text: *const u8,
+        text_len: usize,
+        pairs: *const u32,
+        pairs_len: usize,
+        count: u32,
+        series: *const u32,
+        series_len: usize,
+        positions: *const u32,
+        positions_len: usize,
+        amounts: *const i64,
+        amounts_len: usize,
+        out: *mut u8,
+        out_len: usize,
+        answer: *mut u32,
+        answer_len: usize,
+    ) -> u32;
+
+    /// Puts what a value of a document says, and answers how many bytes that is.
+    pub fn lumintayag_unescape(value: *const u8, value_len: usize, out: *mut u8, out_len: usize) -> usize;
 }

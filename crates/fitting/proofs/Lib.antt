@@ -1,0 +1,13 @@
+pub mod Ampersands
+pub mod Forms
+pub mod Value
+pub mod Laid
+pub mod Singles
+pub mod Covered
+pub mod Series
+pub mod Apart
+pub mod Lent
+pub mod Exactly
+pub mod Judging
+pub mod Loops
+pub mod Whole

@@ -1,0 +1,11 @@
+pub mod Alike
+pub mod Given
+pub mod Amounts
+pub mod Promises
+pub mod Places
+pub mod Parts
+pub mod Last
+pub mod Texts
+pub mod Same
+pub mod Again
+pub mod Back

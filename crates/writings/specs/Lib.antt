@@ -1,0 +1,5 @@
+pub mod Given
+pub mod Amounts
+pub mod Back
+pub mod Same
+pub mod Again

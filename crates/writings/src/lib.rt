@@ -1,0 +1,1 @@
+// No code: what is promised of the writer. proofs/Promises.antt states it.
