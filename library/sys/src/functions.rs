@@ -61,7 +61,7 @@ extern "C" {
     /// Shows where each attribute value of a document stands, in a table of pairs.
     pub fn lumintayag_views(doc: *const u8, doc_len: usize, table: *mut u32, table_len: usize, answer: *mut u32, answer_len: usize) -> u32;
 
-    /// Writes a document of kind 1 or 2 from values in a text, pairs that show them, and tables.
+    /// Writes a document from a text of values, a pair for each of them, and tables.
     pub fn lumintayag_write(
         kind: u32,
         text: *const u8,
@@ -81,6 +81,6 @@ extern "C" {
         answer_len: usize,
     ) -> u32;
 
-    /// Puts what a value says, with every reference replaced, and answers how many bytes that is.
+    /// Puts what a value of a document says, and answers how many bytes that is.
     pub fn lumintayag_unescape(value: *const u8, value_len: usize, out: *mut u8, out_len: usize) -> usize;
 }
