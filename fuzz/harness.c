@@ -59,6 +59,7 @@ static void hold(int holds, const char *promise) {
 
 #include "references.h"
 #include "views.h"
+#include "spellings.h"
 
 typedef uint32_t reading(const uint8_t *, size_t, uint32_t *, size_t, uint32_t *, size_t, int64_t *, size_t, uint32_t, uint8_t *, size_t, uint32_t *, size_t);
 
@@ -372,18 +373,50 @@ static void judge_digits(const uint8_t *doc, struct outcome first, const uint32_
     free(other);
 }
 
-/* The same document with its values by references: what they say is judged, so that nothing but places and views differs. */
-static void judge_respelled(const uint8_t *doc, struct outcome first, const uint32_t *n) {
+/* The same document with its values spelled otherwise: what they say is judged, so that nothing but places and views differs. */
+static void judge_respelled(const uint8_t *doc, struct outcome first, const uint32_t *n, int spelling) {
     size_t own = length, rows = n[4];
-    uint8_t *other = filled(6 * own + 8, 0);
-    size_t count = respell(doc, other);
-    length = count;
+    uint8_t *other = filled(8 * own, 0);
+    length = respell(doc, spelling, other);
     struct outcome o = read_by(lumintayag_read_v3, other, 7, lent.shape, 0x33);
-    hold(o.answer[0] == 0 && o.answer[1] == count && memcmp(o.answer + 2, n + 2, 16) == 0, "a value by references is judged by what it says");
+    hold(o.answer[0] == 0 && o.answer[1] == length && memcmp(o.answer + 2, n + 2, 16) == 0, "a value by references is judged by what it says");
     hold(memcmp(o.positions, first.positions, 4 * rows) == 0 && memcmp(o.amounts, first.amounts, 8 * rows) == 0, "a number by references is the same number");
+    judge_acceptance(o, o.answer);
+    judge_views(other, NULL);
     let_go(o);
     free(other);
     length = own;
+}
+
+/* The same document, where a series is given the identification of one before, spelled otherwise and perhaps a character longer: it is refused in that tag
+ * exactly where it says what one before says. */
+static void judge_repeated(const uint8_t *doc, struct outcome first, const uint32_t *n, int spelling, int more) {
+    if (n[3] < 2) return;
+    size_t own = length, to = 1 + (size_t)spelling % (n[3] - 1), from = (size_t)spelling % to;
+    const uint32_t *target = first.series + LUMINTAYAG_SERIES_ROW * to, *before = first.series + LUMINTAYAG_SERIES_ROW * from;
+    uint8_t *other = filled(own + 9 * (size_t)before[1] + 1, 0);
+    uint32_t view[2], tag = target[0];
+    length = repeat(doc, before, target, spelling, more, other, view);
+    while (doc[tag] != '<') tag--;
+    if (length > 0) {
+        struct outcome o = read_by(lumintayag_read_v3, other, 7, lent.shape, 0x55);
+        struct said id = said_by(other, view);
+        hold((o.answer[0] == 9 && o.answer[1] == tag) == is_said_before(doc, first.series, to, id), "identifications that say the same are refused, and no others");
+        free(id.bytes);
+        let_go(o);
+    }
+    free(other);
+    length = own;
+}
+
+/* With every character by number, and in a spelling that the document's bytes choose. */
+static void judge_spellings(const uint8_t *doc, struct outcome first, const uint32_t *n) {
+    uint32_t chosen = 0;
+    for (size_t i = 0; i < length; i++) chosen = 31 * chosen + doc[i];
+    int spelling = (int)(chosen % (SPELLINGS - 1)) + 1;
+    judge_respelled(doc, first, n, FIRST_ONE + MIDDLE + LAST_ONE);
+    judge_respelled(doc, first, n, spelling);
+    for (int more = 0; more < 2; more++) judge_repeated(doc, first, n, spelling, more);
 }
 
 /* Those of ASCII's 95 printed characters that may stand in an identification which is replaced. */
@@ -434,7 +467,7 @@ int LLVMFuzzerTestOneInput(const uint8_t *data, size_t size) {
     hold(memcmp(a.answer, n, 4 * (lent.answer < 7 ? lent.answer : 7)) == 0, "the answer in fewer cells is its first numbers");
     hold(lent.answer <= 7 || is_zero(a.answer, 28, 4 * lent.answer), "cells past the seventh are 0");
     hold(b.returned == n[0], "what is returned is the refusal");
-    if (n[0] == 0) judge_acceptance(b, n), judge_digits(doc, a, n), judge_identifications(doc, a, n), judge_respelled(doc, a, n);
+    if (n[0] == 0) judge_acceptance(b, n), judge_digits(doc, a, n), judge_identifications(doc, a, n), judge_spellings(doc, a, n);
     else judge_refusal(b, n);
     refusals[n[0]]++;
     if (n[0] == 10) hold(is_zero(b.note, 0, lent.note) && is_zero(n + 1, 0, 24), "on 10 the note buffer and the other numbers are 0");
@@ -455,7 +488,7 @@ static const uint8_t ROOM[][SIZES] = {
 };
 
 /* libFuzzer's own changes break most documents. More than half of the changes are these, which keep a document near to acceptance: another value between
- * quotes, references in a value, white text or a comment after a tag, other sizes. */
+ * quotes, that of another tag too and spelled otherwise, references in a value, white text or a comment after a tag, other sizes. */
 size_t LLVMFuzzerMutate(uint8_t *data, size_t size, size_t room);
 size_t LLVMFuzzerCustomMutator(uint8_t *data, size_t size, size_t room, unsigned seed);
 
@@ -486,20 +519,46 @@ static size_t somewhere(const uint8_t *data, size_t size, uint8_t byte) {
     return found == NULL ? size : (size_t)(found - data);
 }
 
+/* The place of a value in another tag of the same name as that in which `at` stands, or in any; `size` where there is none. */
+static size_t other_value(const uint8_t *data, size_t size, size_t at) {
+    size_t from = SIZES + below(size - SIZES), name = at, count = 1;
+    while (name > SIZES && data[name] != '<') name--;
+    while (name + count < at && is_name(data[name + count])) count++;
+    const uint8_t *tag = below(4) ? memmem(data + from, size - from, data + name, count) : NULL;
+    if (tag == NULL) return somewhere(data, size, '=') + 2;
+    const uint8_t *sign = memchr(tag, '=', size - (size_t)(tag - data));
+    return sign == NULL ? size : (size_t)(sign - data) + 2;
+}
+
+/* The bytes of a value up to its quote, as they stand or with the last, one or each ASCII character by reference that is not within one. */
+static void spell_value(const uint8_t *data, size_t size, size_t from, char *text, size_t room) {
+    size_t manner = below(4), count = 0, put = 0;
+    text[0] = 0;
+    while (from + count < size && data[from + count] != data[from - 1]) count++;
+    int open = 0;
+    for (size_t i = 0, one = below(count + 1); i < count && put + 8 < room; i++) {
+        uint8_t b = data[from + i];
+        open = b == '&' || open;
+        int refers = !open && b < 0x80 && (manner == 3 || (manner == 2 && i == one) || (manner == 1 && i + 1 == count));
+        put += (size_t)snprintf(text + put, room - put, refers ? "&#%u;" : "%c", b);
+        open = b != ';' && open;
+    }
+}
+
 static size_t with_value(uint8_t *data, size_t size, size_t room) {
-    char text[64];
+    char text[256];
     size_t from = somewhere(data, size, '=') + 2;
     if (from >= size) return size;
     const uint8_t *end = memchr(data + from, data[from - 1], size - from);
     if (end == NULL) return size;
-    switch (below(4)) {
+    switch (below(5)) {
     case 0: snprintf(text, sizeof text, "%s%zu", below(3) ? "" : "-", below(1000000)); break;
     case 1: snprintf(text, sizeof text, "%s%zu.%0*zu", below(2) ? " " : "", below(1000), (int)below(5), below(1000)); break;
     case 2: snprintf(text, sizeof text, "%zu%s", below(120), below(3) ? "" : " "); break;
-    default: { /* the value of another tag */
-        size_t other = somewhere(data, size, '=') + 2, count = 0;
-        while (other + count < size && data[other + count] != data[other - 1] && count + 1 < sizeof text) count++;
-        snprintf(text, sizeof text, "%.*s", (int)count, (const char *)data + (other < size ? other : 0));
+    default: {
+        size_t other = other_value(data, size, from);
+        if (other >= size) return size;
+        spell_value(data, size, other, text, sizeof text);
     }
     }
     return replaced(data, size, room, from, (size_t)(end - data), text);
@@ -507,8 +566,9 @@ static size_t with_value(uint8_t *data, size_t size, size_t room) {
 
 /* A character of a value by reference, spaces by reference at its ends, or a reference that is right or not. */
 static size_t with_reference(uint8_t *data, size_t size, size_t room) {
-    static const char *const OTHERS[] = {"&amp;", "&lt;", "&#9;", "&#10;", "&#x10FFFF;", "&amp;lt;", "&#38;", "&bad;", "&#;", "&#xD800;", "&#xFFFE;", "&#0;",
-                                         "&#x110000;", "&#4294967361;", "&AMP;", "&#X41;", "&amp", "& amp;", "&", "&#x0000000000000000041;"};
+    static const char *const OTHERS[] = {"&amp;", "&lt;", "&gt;", "&quot;", "&apos;", "&#9;", "&#10;", "&#x10FFFF;", "&amp;lt;", "&#38;", "&bad;", "&#;",
+                                         "&#xD800;", "&#xFFFE;", "&#0;", "&#x110000;", "&#4294967361;", "&AMP;", "&#X41;", "&amp", "& amp;", "&",
+                                         "&#x0000000000000000041;"};
     char text[64];
     size_t from = somewhere(data, size, '=') + 2;
     if (from >= size) return size;
@@ -516,7 +576,7 @@ static size_t with_reference(uint8_t *data, size_t size, size_t room) {
     if (quote == NULL) return size;
     size_t end = (size_t)(quote - data), at = from + below(end - from + 1);
     switch (below(4)) {
-    case 0: return replaced(data, size, room, at, at, OTHERS[below(20)]);
+    case 0: return replaced(data, size, room, at, at, OTHERS[below(23)]);
     case 1: at = below(2) ? from : end; return replaced(data, size, room, at, at, below(2) ? "&#32;" : "&#x20;");
     default:
         if (at == end || data[at] >= 0x80 || data[at] == '&') return size;

@@ -23,10 +23,18 @@ static size_t reference_at(const uint8_t *s, size_t count, uint32_t *named) {
     return i > first && i < count && s[i] == ';' && is_xml(number) ? i + 1 : 0;
 }
 
-/* The length of the unit at the front, a byte or a whole reference, and the character or byte that it says. */
+/* The length of the character at the front in UTF-8, as far as it is there, and the character. */
+static size_t utf8_at(const uint8_t *s, size_t count, uint32_t *c) {
+    size_t many = s[0] < 0x80 ? 1 : s[0] < 0xE0 ? 2 : s[0] < 0xF0 ? 3 : 4;
+    if (many > count) many = count;
+    *c = many == 1 ? s[0] : s[0] & (0x7Fu >> many);
+    for (size_t k = 1; k < many; k++) *c = *c << 6 | (s[k] & 0x3F);
+    return many;
+}
+
+/* The length of the unit at the front, a character as it stands or a whole reference, and the character that it says. */
 static size_t unit_at(const uint8_t *s, size_t count, uint32_t *said) {
-    *said = s[0];
-    if (s[0] != '&') return 1;
+    if (s[0] != '&') return utf8_at(s, count, said);
     size_t many = reference_at(s, count, said);
     hold(many > 0, "a value of an accepted document has no other reference");
     return many;
@@ -46,7 +54,7 @@ static size_t meaning(const uint8_t *s, size_t count, uint8_t *out) {
     for (size_t i = 0; i < count;) {
         uint32_t c;
         size_t many = unit_at(s + i, count - i, &c);
-        if (many == 1) out[said++] = s[i];
+        if (s[i] != '&') memcpy(out + said, s + i, many), said += many;
         else said += put_utf8(c, out + said);
         i += many;
     }
@@ -98,42 +106,23 @@ static size_t characters_of(struct said s) {
     return many;
 }
 
+/* Whether one of the first rows shows an identification that says the same. */
+static int is_said_before(const uint8_t *doc, const uint32_t *rows, size_t count, struct said own) {
+    int is_said = 0;
+    for (size_t k = 0; k < count && !is_said; k++) {
+        struct said other = said_by(doc, rows + LUMINTAYAG_SERIES_ROW * k);
+        is_said = own.count == other.count && memcmp(own.bytes, other.bytes, own.count) == 0;
+        free(other.bytes);
+    }
+    return is_said;
+}
+
 /* The identifications of an accepted document, the first view of each row. */
 static void judge_meanings(const uint8_t *doc, const uint32_t *rows, size_t count) {
     for (size_t i = 0; i < count; i++) {
         struct said own = said_by(doc, rows + LUMINTAYAG_SERIES_ROW * i);
         hold(characters_of(own) <= 35, "an identification has at most 35 characters");
-        for (size_t k = 0; k < i; k++) {
-            struct said other = said_by(doc, rows + LUMINTAYAG_SERIES_ROW * k);
-            hold(own.count != other.count || memcmp(own.bytes, other.bytes, own.count) != 0, "no two identifications say the same");
-            free(other.bytes);
-        }
+        hold(!is_said_before(doc, rows, i, own), "no two identifications say the same");
         free(own.bytes);
     }
-}
-
-/* After a comment or a declaration that begins at `at`, else `at`. */
-static size_t passed(const uint8_t *doc, size_t at) {
-    const char *end = memcmp(doc + at, "<!--", 4) == 0 ? "-->" : memcmp(doc + at, "<?", 2) == 0 ? "?>" : NULL;
-    if (end == NULL) return at;
-    for (at += strlen(end) + 1; memcmp(doc + at, end, strlen(end)) != 0;) at++;
-    return at + strlen(end);
-}
-
-/* An accepted document with every ASCII character of its values by reference. `out` has room for six times its bytes. */
-static size_t respell(const uint8_t *doc, uint8_t *out) {
-    size_t put = 0;
-    uint8_t quote = 0;
-    for (size_t i = 0; i < length;) {
-        size_t many = quote == 0 && doc[i] == '<' ? passed(doc, i) - i : 0;
-        uint32_t said;
-        if (many == 0) many = quote != 0 ? unit_at(doc + i, length - i, &said) : 1;
-        int is_quote = doc[i] == '"' || doc[i] == '\'';
-        if (quote != 0 && doc[i] != quote && many == 1 && doc[i] < 0x80) put += (size_t)sprintf((char *)out + put, "&#%u;", doc[i]);
-        else memcpy(out + put, doc + i, many), put += many;
-        if (many == 1 && quote == 0 && is_quote) quote = doc[i];
-        else if (doc[i] == quote) quote = 0;
-        i += many;
-    }
-    return put;
 }
