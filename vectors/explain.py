@@ -20,6 +20,9 @@ REFUSALS = [
     "a value or a count is against another value",
     "a TimeSeriesIdentification was used before",
     "the note buffer has fewer than 16 bytes",
+    "the bytes are not one note",
+    "no legal Beschaffungsanforderung or Kostenblatt has this content",
+    "the document to be written is longer than its output or 1048576 bytes",
 ]
 DEPTHS = ["", "one element", "two elements", "three elements", "four elements", "five elements", "six elements", "seven elements",
           "eight elements", "nine elements", "ten elements", "eleven elements", "twelve elements"]
@@ -82,7 +85,7 @@ LINES = [
     printed(4, 65535, 1, 64, 0), printed(5, 0, 0, 0, 0), printed(6, 1234, 2, 2, 17), printed(7, 300, 1, 0, 0),
     printed(8, 9999, 2, 1, 1), printed(9, 128, 2, 1, 96), printed(10, 0, 0, 0, 0),
     # notes that no document reader gives
-    printed(11, 0, 0, 0, 0), printed(0, 0, 0, 0, 0), printed(300, 2097151, 4, 10, 2),
+    printed(11, 0, 0, 0, 0), printed(12, 0, 0, 0, 0), printed(13, 0, 2, 0, 0), printed(14, 0, 0, 0, 0), printed(0, 0, 0, 0, 0), printed(300, 2097151, 4, 10, 2),
     printed(2097151, 2097151, 2097151, 2097151, 2097151),
     # the new shape, at every depth that has a word and at some that have none
     printed(100, 0, 15871, 2, 2, 192, 0), printed(100, 3, 45, 2, 0, 0, 1), *[printed(100, 6, 1234, 2, 2, 17, d) for d in range(18)],

@@ -54,11 +54,11 @@ begins-front : (t s : List ℕ) → begins t (t ++ s) ≡ true
 unfolding begins
 begins-front t s = rw (take-append-seam t s) (same-self t)
 
-words-row : (k : ℕ) → k ≤ 10 → wordsPart k ≡ getD refusalWords k []
+words-row : (k : ℕ) → k ≤ 13 → wordsPart k ≡ getD refusalWords k []
 unfolding wordsPart
-words-row k h = rw (le-ltb 10 k h)
+words-row k h = rw (le-ltb 13 k h)
 
-words-first : (n : Note) → n .refusal ≤ 10 → begins (headPart (n .refusal) ++ getD refusalWords (n .refusal) []) (explained n) ≡ true
+words-first : (n : Note) → n .refusal ≤ 13 → begins (headPart (n .refusal) ++ getD refusalWords (n .refusal) []) (explained n) ≡ true
 unfolding explained refusalLine
 words-first n r =
     let head = headPart (n .refusal) in
@@ -70,17 +70,18 @@ words-first n r =
     ∙ sym (append-assoc head words (text ".\n" ++ after)) in
     rw (e, ← words-row (n .refusal) r) (begins-front (head ++ words) (text ".\n" ++ after))
 
-pub names-refusal : (shape : Shape) (n : Note) → AllBelow (2 ^ 21) (numbersFor shape n) → n .refusal ≤ 10
+pub names-refusal : (shape : Shape) (n : Note) → AllBelow (2 ^ 21) (numbersFor shape n) → n .refusal ≤ 13
     → begins (headPart (n .refusal) ++ getD refusalWords (n .refusal) []) (explanation (hexText (noteOf shape n))) ≡ true
 names-refusal Old n h r = rw (note-explained Old n h (λ e. omega arith)) (words-first (tellsIn Old n) r)
 names-refusal New n h r = rw (note-explained New n h (λ e. omega arith)) (words-first n r)
 
 -- some of them, computed
-pub in-words : map (λ (k : ℕ). headPart k ++ wordsPart k) (0 ∷ 6 ∷ 10 ∷ 11 ∷ [])
+pub in-words : map (λ (k : ℕ). headPart k ++ wordsPart k) (0 ∷ 6 ∷ 10 ∷ 13 ∷ 14 ∷ [])
     ≡ text "Accepted: 0, the document has no fault" ∷
     text "Refused: 6, a value is against its form or its fixed value" ∷
     text "Refused: 10, the note buffer has fewer than 16 bytes" ∷
-    text "Refused: 11, an unknown refusal" ∷ []
+    text "Refused: 13, the document to be written is longer than its output or 1048576 bytes" ∷
+    text "Refused: 14, an unknown refusal" ∷ []
 unfolding headPart wordsPart around wholeIn
 in-words = refl
 
@@ -146,7 +147,7 @@ Short m l = length l ≤ m
 
 words-size : (n : ℕ) → Short 80 (wordsPart n)
 unfolding wordsPart most
-words-size n = by-cond (Short 80) (ltb 10 n) (omega arith) (omega (arith, row-size refusalWords n))
+words-size n = by-cond (Short 80) (ltb 13 n) (omega arith) (omega (arith, row-size refusalWords n))
 
 head-size : (n : ℕ) → Short 25 (headPart n)
 unfolding headPart

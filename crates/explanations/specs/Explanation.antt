@@ -13,7 +13,7 @@ use Rattle.notes.specs.declared.NoteRead.the-variants.{Taken, NotOneNote}
 use Rattle.notes.specs.Reader.{noteIn}
 use Rattle.explanations.specs.Decimal.{around}
 
--- "Refusal numbers", in words, from 0 on: "Acceptance is number 0"
+-- "Refusal numbers", in words, from 0 on: "Acceptance is number 0"; 11 to 13 are those of the note reader and, by K6, of the writer, which no document reader gives
 abbrev pub refusalWords : List (List ℕ)
 refusalWords =
     text "the document has no fault" ∷
@@ -26,10 +26,13 @@ refusalWords =
     text "a value is outside its code list" ∷
     text "a value or a count is against another value" ∷
     text "a TimeSeriesIdentification was used before" ∷
-    text "the note buffer has fewer than 16 bytes" ∷ []
+    text "the note buffer has fewer than 16 bytes" ∷
+    text "the bytes are not one note" ∷
+    text "no legal Beschaffungsanforderung or Kostenblatt has this content" ∷
+    text "the document to be written is longer than its output or 1048576 bytes" ∷ []
 
 unfoldable pub wordsPart : ℕ → List ℕ
-wordsPart n = cond (ltb 10 n) (text "an unknown refusal") (getD refusalWords n [])
+wordsPart n = cond (ltb 13 n) (text "an unknown refusal") (getD refusalWords n [])
 
 unfoldable pub headPart : ℕ → List ℕ
 headPart n = cond (eqb n 0) (text "Accepted: 0, ") (around (text "Refused: ") n (text ", "))

@@ -83,6 +83,17 @@ fn add_words(out: &mut [u8], at: usize, n: u32) -> usize
         8 => add_text(out, at, b"a value or a count is against another value"),
         9 => add_text(out, at, b"a TimeSeriesIdentification was used before"),
         10 => add_text(out, at, b"the note buffer has fewer than 16 bytes"),
+        11 => add_text(out, at, b"the bytes are not one note"),
+        12 => add_text(
+            out,
+            at,
+            b"no legal Beschaffungsanforderung or Kostenblatt has this content",
+        ),
+        13 => add_text(
+            out,
+            at,
+            b"the document to be written is longer than its output or 1048576 bytes",
+        ),
         _ => add_text(out, at, b"an unknown refusal"),
     }
 }
