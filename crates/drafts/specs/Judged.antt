@@ -1,6 +1,6 @@
 -- K6: "The writer refuses exactly when no document of these kinds, length and room left aside, would be accepted with the given content": whether the content of a draft is
 -- legal, told value by value and series by series, with the reader's own rules.
-use Prim.Native.Nat.{ℕ, zero, suc, _+_, _<_}
+use Prim.Native.Nat.{ℕ, zero, suc, _+_}
 use mathlib.Core.List.{List, [], _∷_, _++_}
 use mathlib.Core.Bool.{Bool, true, false, cond, _&&_, not}
 use lib.Dec.{eqb, leb, ltb}

@@ -1,10 +1,10 @@
 -- What makes a content legal is what its tags say: one whose tags fit where those of a legal one fit, and say the same period, positions and identifications, is legal.
 -- Assumes nothing.
-use Prim.Native.Nat.{ℕ, _≤_}
+use Prim.Native.Nat.{ℕ}
 use mathlib.Core.Path.{_≡_, refl, sym, ap, _∙_, subst}
 use mathlib.Core.List.{List, [], _∷_, _++_, map, map-append}
-use mathlib.Core.Bool.{Bool, true, false, cond}
-use mathlib.Core.Logic.{_⊎_, inl, inr, ⊎-elim}
+use mathlib.Core.Bool.{Bool, true, false}
+use mathlib.Core.Logic.{_⊎_, ⊎-elim}
 use lib.ListN.{length, getD, length-map}
 use Rattle.lists.proofs.Cases.{bool-cases}
 use Rattle.characters.specs.Says.{says}
@@ -12,10 +12,10 @@ use Rattle.times.specs.Times.{interval}
 use Rattle.columns.specs.Columns.{periodForm, seriesRole, intervalRole, originalRole, seriesIdRole, posRole}
 use Rattle.guideline.specs.Kinds.{kindAt}
 use Rattle.guideline.specs.Rows.{rowsOf}
-use Rattle.trees.specs.Trees.{Trees, none, element, rowsTaken, Fits, EachConforms, Conforms}
+use Rattle.trees.specs.Trees.{Trees, none, element, rowsTaken, Fits, EachConforms}
 use Rattle.contents.specs.Said.{TagSaid, bytes}
 use Rattle.contents.proofs.Lists.{all-join, all-split}
-use Rattle.contents.specs.Legal.{hasRole, hasForm, those, inEach, Period, periodBy, periodIn, periodOf, quartersOf, positionOf, elementFits, Each, inTurn, countFits, SeriesFits, All, isAmong, Apart, identifications, seriesAgree, isWithdrawn, Legal}
+use Rattle.contents.specs.Legal.{hasRole, hasForm, those, inEach, Period, periodBy, periodIn, periodOf, quartersOf, positionOf, elementFits, Each, inTurn, countFits, SeriesFits, All, Apart, identifications, Legal}
 
 pub record TagAlike (kind w : ℕ) (s t : TagSaid) : Type 0 where
   pub fits : (p : Period) → elementFits kind p w s ≡ true → elementFits kind p w t ≡ true

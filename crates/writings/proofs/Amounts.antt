@@ -1,12 +1,12 @@
 -- What of the writer's answer depends on amounts: whether each is in range, and the length of the document. Assumes nothing.
 use Prim.Native.Nat.{ℕ, zero, suc, _+_, _*_}
-use mathlib.Core.Path.{_≡_, refl, sym, ap, _∙_, subst}
+use mathlib.Core.Path.{_≡_, refl, sym, ap, _∙_}
 use mathlib.Core.List.{List, [], _∷_}
 use mathlib.Core.Bool.{Bool, true, false, cond, _&&_, and-eq-true-iff}
 use mathlib.Core.Logic.{⊎-elim}
 use lib.Dec.{eqb, leb, ltb}
 use lib.IntN.{ℤ, pos, natAbs}
-use lib.ListN.{length, getD, drop}
+use lib.ListN.{length, getD}
 use Rattle.lists.proofs.Cases.{bool-cases, never}
 use Rattle.columns.specs.Columns.{intervalRole, qtyRole}
 use Rattle.guideline.specs.Rows.{rowsOf}
@@ -18,13 +18,13 @@ use Rattle.states.specs.Attributes.{asksV}
 use Rattle.views.specs.Layout.{headerPairs, seriesPairs, valuesOf, cellOf}
 use Rattle.trees.specs.Trees.{Trees, none, element}
 use Rattle.contents.specs.Said.{TagSaid}
-use Rattle.contents.specs.Legal.{hasRole, Period, positionOf, Legal}
+use Rattle.contents.specs.Legal.{hasRole}
 use Rattle.drafts.specs.Draft.{Draft, pairValue, singleTag, isSaid, rootTag, bareTag, numberTag, singles, intervalsFrom, roleRow, singlesIn, periodTree, seriesFrom, draftContent, draftDocument, pairFits}
 use Rattle.drafts.specs.Judged.{amountsFit, draftLegal}
 use Rattle.drafts.specs.Fit.{isWritten, pairsFit, rowsFit, isLent, draftFits}
 use Rattle.drafts.specs.Written.{roomIn, refusedBy, laidIn, fitWritten, writtenOf}
 use Rattle.drafts.proofs.Elements.{roles}
-use Rattle.drafts.proofs.Legal.{tags-fit, TagsFit, draft-legal, ltb-holds}
+use Rattle.drafts.proofs.Legal.{tags-fit, draft-legal, ltb-holds}
 use Rattle.drafts.proofs.Complete.{legal-draft}
 use Rattle.writings.specs.Amounts.{withAmounts, inRange}
 use Rattle.writings.proofs.Alike.{TagAlike, TreesAlike, legal-alike}

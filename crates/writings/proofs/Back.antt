@@ -2,18 +2,15 @@
 use Prim.Native.Nat.{ℕ, zero, suc, _+_, _*_, _≤_, _<_}
 use mathlib.Core.Path.{_≡_, refl, ap, _∙_}
 use mathlib.Core.List.{List, append-nil}
-use mathlib.Core.Bool.{true, false, cond, _&&_, and-eq-true-iff}
-use mathlib.Core.Logic.{⊎-elim}
+use mathlib.Core.Bool.{true, cond}
 use native.Mathlib.Omega.{arith}
 use native.Mathlib.Nat.{add-zero}
-use lib.Dec.{eqb, leb}
+use lib.Dec.{eqb}
 use lib.ListN.{length, drop, take, length-append}
-use borrow.Author.Tests.{leb-true, le-leb}
-use Rattle.lists.proofs.Cases.{eqb-cases}
 use Rattle.notes.specs.declared.Shape.{Shape}
 use Rattle.columns.specs.Columns.{seriesRole, intervalRole}
 use Rattle.guideline.specs.Rows.{rowsOf}
-use Rattle.series.specs.Row.{fieldAt, cellsOf}
+use Rattle.series.specs.Row.{fieldAt}
 use Rattle.series.specs.declared.Field.the-variants.{FirstRow, Count}
 use Rattle.reader.specs.Reading.{roomOf}
 use Rattle.reader.specs.Answer.{Outcome}
@@ -22,7 +19,7 @@ use Rattle.contents.specs.Shown.{sum}
 use Rattle.promises.proofs.Answers.{rows-kept}
 use Rattle.views.specs.Layout.{headerPairs, seriesPairs, cellOf, viewRoom}
 use Rattle.views.specs.Views.{sheetViewed}
-use Rattle.drafts.specs.Draft.{Draft, roleRow, pairFor, singlesIn, periodTree, seriesFrom, draftContent, draftDocument, pairFits, RowsLent, Lent}
+use Rattle.drafts.specs.Draft.{Draft, roleRow, pairFor, singlesIn, periodTree, seriesFrom, draftContent, draftDocument, pairFits, Lent}
 use Rattle.drafts.specs.Judged.{draftLegal}
 use Rattle.drafts.specs.Written.{writtenOf}
 use Rattle.drafts.proofs.Elements.{Roles, roles, singles-those}

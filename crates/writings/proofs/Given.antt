@@ -1,6 +1,6 @@
 -- Where a legal content has what a draft gives, the draft's own content is legal. Assumes nothing.
 use Prim.Native.Nat.{ℕ, zero, suc, _+_}
-use mathlib.Core.Path.{_≡_, refl, sym, ap, _∙_, subst}
+use mathlib.Core.Path.{_≡_, refl, sym, subst}
 use mathlib.Core.List.{List, [], _∷_}
 use mathlib.Core.Bool.{Bool, true, false, cond, _&&_, and-eq-true-iff}
 use mathlib.Core.Logic.{⊎-elim}
@@ -10,10 +10,9 @@ use borrow.Author.Tests.{eqb-true}
 use Rattle.lists.proofs.Cases.{bool-cases, eqb-cases, never}
 use Rattle.slices.specs.Same.{same}
 use Rattle.characters.specs.Says.{says}
-use Rattle.trims.specs.Trim.{dropped}
 use Rattle.numbers.specs.Amount.{amountOf}
 use Rattle.elements.specs.Names.{names, numberIn, elementNo}
-use Rattle.columns.specs.Columns.{formOf, schemeOf, roleOf, collapsed, periodForm, posForm, amountForm, rootRole, posRole, qtyRole, seriesIdRole, noForm}
+use Rattle.columns.specs.Columns.{formOf, schemeOf, roleOf, collapsed, periodForm, posForm, amountForm, posRole, qtyRole, seriesIdRole}
 use Rattle.structure.specs.Rows.{nameOf}
 use Rattle.guideline.specs.Kinds.{kindAt, kindOne, kindTwo, dtdVersion, dtdRelease, dtdMessage}
 use Rattle.guideline.specs.Rows.{beschaffungsanforderung, kostenblatt, rowsOf}
@@ -22,8 +21,8 @@ use Rattle.rules.specs.Rules.{judge, formRefusal, unless, amount, amountBy}
 use Rattle.rules.specs.declared.Held.{Held}
 use Rattle.trees.specs.Trees.{Trees, none, element}
 use Rattle.contents.specs.Said.{AttributeValue, Absent, Given, TagSaid, given, bytes}
-use Rattle.contents.specs.Legal.{hasRole, hasForm, Period, sayings, positionOf, dtdAgrees, attributesAgree, schemeFits, valueFits, fixedFits, rootFits, elementFits, Legal}
-use Rattle.drafts.specs.Draft.{Draft, noDtdSaid, singleTag, isSaid, rootTag, bareTag, numberTag, singles, intervalsFrom, singlesIn, periodTree, seriesFrom, draftContent}
+use Rattle.contents.specs.Legal.{hasRole, hasForm, Period, sayings, dtdAgrees, attributesAgree, schemeFits, valueFits, fixedFits, rootFits, elementFits, Legal}
+use Rattle.drafts.specs.Draft.{Draft, singleTag, isSaid, rootTag, bareTag, numberTag, singles, intervalsFrom, singlesIn, periodTree, seriesFrom, draftContent}
 use Rattle.views.specs.Layout.{valuesOf}
 use Rattle.drafts.specs.Fit.{isWritten}
 use Rattle.writings.specs.Given.{ValueSame, TagHas, TreesHave, HasGiven}

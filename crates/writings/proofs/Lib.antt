@@ -9,3 +9,4 @@ pub mod Texts
 pub mod Same
 pub mod Again
 pub mod Back
+pub mod Witness

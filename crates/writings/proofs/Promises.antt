@@ -8,18 +8,19 @@
 --     texts-back         and with the texts, which the views show (Texts)
 --     written-back       what was read back is written to the same bytes (Back)
 --     same-refusal       what of the answer depends on amounts (Amounts)
-use Prim.Native.Nat.{ℕ, _-_, _≤_, _<_, min}
-use mathlib.Core.Path.{_≡_, refl, sym, ap, _∙_}
-use mathlib.Core.List.{List, _++_}
-use mathlib.Core.Bool.{Bool, true, false, cond, _&&_, and-eq-true-iff}
+--     a-written, a-byte-less, a-third-kind, others-fit   drafts that meet the conditions (Witness)
+use Prim.Native.Nat.{ℕ, _-_, _≤_, _<_}
+use mathlib.Core.Path.{_≡_, refl}
+use mathlib.Core.List.{_++_}
+use mathlib.Core.Bool.{true, false, and-eq-true-iff}
 use mathlib.Core.Logic.{⊎-elim}
 use native.Mathlib.Omega.{arith}
-use lib.Dec.{eqb, leb}
-use lib.IntN.{ℤ, pos}
+use lib.Dec.{leb}
+use lib.IntN.{pos}
 use lib.ListN.{length, getD}
-use borrow.Author.Tests.{leb-true, le-leb, lt-leb}
+use borrow.Author.Tests.{lt-leb}
 use Rattle.lists.specs.Zeros.{zeros}
-use Rattle.lists.proofs.Cases.{bool-cases, leb-cases, never}
+use Rattle.lists.proofs.Cases.{bool-cases, leb-cases}
 use Rattle.notes.specs.declared.Shape.{Shape}
 use Rattle.reader.specs.Reading.{roomOf}
 use Rattle.reader.specs.Answer.{readOf}
