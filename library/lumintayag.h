@@ -459,7 +459,7 @@ uint32_t lumintayag_views(const uint8_t *doc, size_t doc_len,
  * zero. The elements of a kind come in the guideline's order; one is there where one of its pairs is.
  *
  * What is written is accepted by lumintayag_read_v3, given room, and gives back the same positions, amounts and values,
- * spaces at the ends of collapsed ones aside (proved: crates/drafts).
+ * spaces at the ends of collapsed ones aside (proved: crates/writings).
  *
  * It answers 0; or 12 exactly when no document of kind 1 or 2, however long, that lumintayag_read_v3 would accept has this
  * content, or pairs or rows lie past what is lent; or else 13 where the document is longer than out_len or 1,048,576
