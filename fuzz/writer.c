@@ -430,6 +430,13 @@ static void other_pair(struct parts p) {
     put_number(put_number(at, STARTS[k], 2), COUNTS[k], 2);
 }
 
+/* A value is that of another series, its identification as often as all others. */
+static void same_pair(struct parts p) {
+    size_t k = below(2) ? 0 : below(EACH), from = below(p.many + 1), to = below(p.many + 1);
+    if (from < p.many && to < p.many && p.pairs == HEADER + EACH * p.many)
+        memmove(p.pair + PAIR_BYTES * (HEADER + EACH * to + k), p.pair + PAIR_BYTES * (HEADER + EACH * from + k), PAIR_BYTES);
+}
+
 static void other_number(uint8_t *at, size_t bytes) {
     uint32_t number;
     memcpy(&number, at, 4);
@@ -457,12 +464,13 @@ static void other_part(uint8_t *data, size_t size) {
     static const int64_t EDGES[] = {999999999999999, -999999999999999, 1000000000000000, -1000000000000000, INT64_MIN, INT64_MAX};
     struct parts p = parts_of(data, size);
     size_t at;
-    switch (below(6)) {
+    switch (below(7)) {
     case 0: at = below(NUMBERS), data[at] = (uint8_t)(below(2) ? data[at] + below(3) - 1 : below(256)); break;
     case 1: other_pair(p); break;
     case 2: if (p.many > 0) other_number(p.series + 4 * below(2 * p.many), 4); break;
     case 3: if (p.rows > 0) other_number(p.row + ROW_BYTES * below(p.rows), 4); break;
-    case 4: if (p.rows > 0) put_number(p.row + ROW_BYTES * below(p.rows) + 4, (uint64_t)EDGES[below(6)], 8); break;
+    case 4: same_pair(p); break;
+    case 5: if (p.rows > 0) put_number(p.row + ROW_BYTES * below(p.rows) + 4, (uint64_t)EDGES[below(6)], 8); break;
     default: other_byte(p); break;
     }
 }
