@@ -443,7 +443,8 @@ uint32_t lumintayag_views(const uint8_t *doc, size_t doc_len,
  *            its table: 16 pairs for the header and 22 for each series, by the names above. 0 and 0 is a value that is
  *            absent; any other pair is one that is there, also where it is empty: let the text begin with a byte that no
  *            value has. Every pair of the header and of the series that are counted has to lie in the text and to show
- *            characters of XML 1.0, also one that the kind has no value for, which is not written.
+ *            characters of XML 1.0, also one that the kind has no value for, which is not written; DtdVersion and
+ *            DtdRelease, which these kinds refuse, are 12 where they are given.
  * count      how many series.
  * series     rows of twelve numbers, one for each series. Of these only the first interval row and the interval count are
  *            looked at. The rows of two series may come in any order, overlap or leave some out.
