@@ -1,4 +1,6 @@
 // Amounts and positions as text. Each is put into the lent bytes from the first of them on, as far as they reach; the length of the whole is answered.
+#![tactic(auto)]
+
 ghost use Rattle.std.specs.Prelude.{◌≡◌, ◌+◌, ◌<◌, ◌≤◌, length, set};
 ghost use Rattle.std.proofs.lemmas.List.Edits.{sets};
 ghost use Rattle.wholes.specs.Whole.{numeral, whole_text};

@@ -1,4 +1,6 @@
 // What stands in a tag after its name: white space, attributes, `>` or `/>`.
+#![tactic(auto)]
+
 ghost use Rattle.std.specs.Prelude.{◌≡◌, true, ◌+◌, ◌≤◌, length};
 ghost use Rattle.slices.specs.Run.{run};
 ghost use Rattle.characters.specs.Utf8.{char_use, slice_most};
@@ -124,7 +126,7 @@ fn longer_at(s: &[u8]) -> Char
     char_at(s)
 }
 
-#[derive(Drop)]
+#[derive(Clone, Copy)]
 pub enum Value {
     // so many bytes, and then the quote
     Long(usize),
@@ -156,7 +158,7 @@ fn value_at(q: u8, s: &[u8]) -> Value
 }
 
 // What stands in a tag after its name or an attribute, with the white space before it.
-#[derive(Drop)]
+#[derive(Clone, Copy)]
 pub enum Piece {
     // an attribute: where its name starts, and its length; where its value starts, and its length; the place after its closing quote
     Attribute {

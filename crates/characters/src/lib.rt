@@ -1,4 +1,6 @@
 // The XML 1.0 character at the front of a part, in UTF-8 or by a reference, and the characters that a value says.
+#![tactic(auto)]
+
 mod references;
 
 ghost use Rattle.std.specs.Prelude.{◌≡◌, ◌-◌, ◌≤◌, length};
@@ -10,7 +12,7 @@ ghost use Rattle.characters.specs.Says.{met, char_of, itself, own_byte, own_end,
 pub use references::reference_at;
 use slices::{byte_at, rest};
 
-#[derive(Drop)]
+#[derive(Clone, Copy)]
 pub enum Char {
     // its number in Unicode, and how many bytes it takes
     Is(u32, usize),
@@ -195,7 +197,7 @@ pub fn all_chars(s: &[u8]) -> bool
     true
 }
 
-#[derive(Drop)]
+#[derive(Clone, Copy)]
 pub enum Said {
     // the character, and how many bytes of the value say it
     Says(u32, usize),

@@ -1,5 +1,7 @@
 // Runs the vectors of characters. A line of standard input is a part in hexadecimal bytes; printed: the number and the length of the
 // character at its front, or `none`; whether every byte belongs to a character (1 or 0); how many characters it says.
+#![tactic(auto)]
+
 use characters::Char;
 
 fn show_number(n: u64) {

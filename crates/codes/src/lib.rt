@@ -1,4 +1,6 @@
 // Code lists, and whether a value is in one. The codes of a list are equally long, and stand in a row with single spaces between them.
+#![tactic(auto)]
+
 ghost use Rattle.std.specs.Prelude.{◌≡◌, ◌≤◌};
 ghost use Rattle.characters.specs.Says.{says};
 ghost use Rattle.codes.specs.Lists.{listed, codes_of};

@@ -1,5 +1,7 @@
 // A row of a structure table is one number of columns. The columns, and the names of what they hold: forms of `v`, code lists, roles.
 // The first four columns are read in crate structure.
+#![tactic(auto)]
+
 ghost use Rattle.std.specs.Prelude.{◌≡◌};
 ghost use Rattle.columns.specs.Columns.{form_of, collapsed, scheme_of, role_of};
 

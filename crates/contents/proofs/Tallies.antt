@@ -33,7 +33,7 @@ turn-append kind n l (x ∷ xs) ys =
 period-last : (p : Period) (ss : List TagSaid) → period_in p ss ≡ last_of p (map (λ (s : TagSaid). period_by (interval (says (bytes s.v)))) ss)
 unfolding period_in
 period-last p [] = refl
-period-last p (s ∷ ss) = period-last _ ss
+period-last p (s ∷ ss) = period-last (period_by (interval (says (bytes s.v)))) ss
 
 own-last : {A B : Type 0} (say : A → B) (t : Bool) (s : A) (d : B) → cond t (say s) d ≡ last_of d (map say (own t s))
 own-last say true s d = refl

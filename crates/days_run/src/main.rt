@@ -1,5 +1,7 @@
 // Runs every day from 2000-01-01 to 2099-12-31 as the date on which a period of kind 1 starts. Printed for each, four years to a line, is which pairs of hours
 // are taken: 1 for 22:00Z to 22:00Z of the next date, 2 for 22:00Z to 23:00Z, 4 for 23:00Z to 22:00Z, 8 for 23:00Z to 23:00Z, added up.
+#![tactic(auto)]
+
 ghost use Rattle.std.specs.Prelude.{◌≤◌, ◌<◌};
 
 use times::is_day_period;

@@ -24,7 +24,7 @@ opened-digit o c e = let r = digit-range c e in rw (ne_eqb c 0x26 (λ z. omega a
 
 alike-itself : {o : Bool} (x : List ℕ) → AlikeFrom o x x
 alike-itself [] = none
-alike-itself (b ∷ x) = same b (alike-itself x)
+alike-itself {o = o} (b ∷ x) = same b (alike-itself {o = opened o b} x)
 
 -- the same list behind them
 pub alike-append : {o : Bool} {x y : List ℕ} (z : List ℕ) → AlikeFrom o x y → AlikeFrom o (x ++ z) (y ++ z)

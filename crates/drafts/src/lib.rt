@@ -1,5 +1,7 @@
 // What is lent to the writer: the pairs of a draft, which of them are there, the text that each shows, and how they stand by the rows of the kind.
 // specs/Draft.antt has the content that a draft gives.
+#![tactic(auto)]
+
 ghost use Rattle.std.specs.Prelude.{◌≡◌, not, ◌+◌, ◌≤◌, length, get_or};
 ghost use Rattle.slices.specs.Part.{part_of};
 ghost use Rattle.drafts.specs.Draft.{is_no_pair, role_row};

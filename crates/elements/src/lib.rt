@@ -1,4 +1,6 @@
 // The elements of all kinds by number, so that the rest compares numbers and no names.
+#![tactic(auto)]
+
 ghost use Rattle.std.specs.Prelude.{◌≡◌, ◌+◌, ◌≤◌, length, drop};
 ghost use Rattle.elements.specs.Names.{element_no};
 ghost use Rattle.elements.specs.Row.{picked, told_in};

@@ -1,4 +1,6 @@
 // Values of documents: a text put with references where a byte needs one, and a value put as the bytes of what it says.
+#![tactic(auto)]
+
 ghost use Rattle.std.specs.Prelude.{◌≡◌, ◌+◌, ◌%◌, ◌≤◌, ◌<◌, min, length, set};
 ghost use Rattle.std.proofs.lemmas.List.Edits.{sets};
 ghost use Rattle.escapes.specs.Escaped.{escaped_byte, escaped};

@@ -1,4 +1,5 @@
 // Explains each line of standard input as a note, with an empty line after each explanation. It sees no document.
+#![tactic(auto)]
 
 // Writes what the note on a line means; 370 bytes have room for any explanation (`explanation-fits` of explanations).
 fn explain_line(line: &[u8]) {

@@ -28,7 +28,7 @@ use Rattle.notes.specs.declared.NoteRead.{NoteRead}
 use Rattle.notes.specs.declared.NoteRead.TheVariants.{Taken, NotOneNote}
 use Rattle.notes.specs.declared.Shape.{Shape}
 use Rattle.notes.specs.declared.Shape.TheVariants.{Old, New}
-use Rattle.notes.specs.Note.{new_mark, numbers_for, note_of, tells_in, AllBelow, IsNote}
+use Rattle.notes.specs.Note.{new_mark, numbers_for, note_of, tells_in, AllBelow}
 use Rattle.notes.specs.Reader.{note_in, six_of}
 use Rattle.notes.proofs.Promises.{fits-most, round_trip, accepts-exactly}
 use Rattle.wholes.specs.Whole.{whole_in}

@@ -1,6 +1,8 @@
 // What a note says, in words for support staff. It sees the note and no document.
 //
 // Each `add_..` puts a text into out from `at` on, as much as it has room for, and answers the place after it.
+#![tactic(auto)]
+
 ghost use Rattle.std.specs.Prelude.{◌≡◌, ◌+◌, min, length};
 ghost use Rattle.std.proofs.lemmas.List.Edits.{sets};
 ghost use Rattle.io.specs.Counts.{IsPrefixLen};

@@ -1,4 +1,6 @@
 // Whether what is lent to the writer is fit to be written: each pair and row that is counted is there, and the content is legal, judged by the reader's own rules.
+#![tactic(auto)]
+
 mod rows;
 mod values;
 

@@ -1,4 +1,6 @@
 // Forms of values that are judged character by character.
+#![tactic(auto)]
+
 ghost use Rattle.std.specs.Prelude.{◌≡◌};
 ghost use Rattle.characters.specs.Says.{says};
 ghost use Rattle.forms.specs.Forms.{identification, grid_element, market_partner, resource_object, party, quarter_hour};

@@ -2,6 +2,8 @@
 //   leading spaces and bytes left where spaces are dropped; as it stands: identification, market partner, ResourceObject, party, fixed
 //   version of kind 1, grid element, and the three fixed values of kind 3 (1 or 0); with spaces dropped: quarter hour (1 or 0), version and Pos (0 for none), amount in thousandths (`x` for none);
 //   as it stands and with spaces dropped: the numbers of the code lists that have it, each after a comma
+#![tactic(auto)]
+
 use numbers::{Amount, Number};
 
 fn print_flag(yes: bool) {

@@ -1,5 +1,7 @@
 // What the guideline says of the kinds, as data: the rows of each, as docs/GUIDELINE.md has them in sections 2 to 4, and what else differs by kind.
 // The rows of all kinds are one table. It is made once, where the reading begins, and lent down as a slice.
+#![tactic(auto)]
+
 ghost use Rattle.std.specs.Prelude.{◌≡◌, length, take, drop};
 ghost use Rattle.slices.specs.Same.{same};
 ghost use Rattle.characters.specs.Says.{says};
@@ -111,7 +113,7 @@ use pictures::is_said;
 use structure::DOCUMENT;
 
 // What a kind asks of each of the attributes that a root may have.
-#[derive(Drop)]
+#[derive(Clone, Copy)]
 pub struct Demands {
     pub version: usize,
     pub release: usize,
@@ -165,7 +167,7 @@ pub const DTD_RELEASE: usize = 1;
 pub const DTD_MESSAGE: usize = 2;
 
 // What differs by kind, but for the rows and the fixed values.
-#[derive(Drop)]
+#[derive(Clone, Copy)]
 pub struct Kind {
     // the number of the root's name
     pub root: usize,

@@ -1,6 +1,7 @@
 // Prints the rows of all kinds, a line each: row, number of the name, parent, whether it has to come, whether it may come again, form of `v`,
 // whether spaces are dropped, code list of codingScheme, role. Then for each kind whether a Period with 0, 1, 91, 92, 99, 100 Intervals may end, and
 // whether it takes another; the kind that each number tells as a root's name; and for each line of standard input its number as a name.
+#![tactic(auto)]
 
 fn print_count(n: usize) {
     lines::print_text(b" ");

@@ -1,4 +1,6 @@
 // The item at the front of the part of the document that starts after the last item.
+#![tactic(auto)]
+
 ghost use Rattle.std.specs.Prelude.{◌≡◌, cond, false, ◌+◌, ◌≤◌, ltb, length};
 ghost use Rattle.tags.specs.Tail.{ends, twice_in};
 ghost use Rattle.items.specs.Comment.{comment};
@@ -14,7 +16,7 @@ use tags::{Dtd, Known, Tail, tail_at};
 
 // A start or empty tag: `<` and the name, whose length is `name`; the values of the attributes that the guideline knows; whether it
 // has others, and whether all of those may be passed over on a root; how many bytes it takes.
-#[derive(Drop)]
+#[derive(Clone, Copy)]
 pub struct Tag {
     pub name: usize,
     pub v: Span,
@@ -25,7 +27,7 @@ pub struct Tag {
     pub len: usize,
 }
 
-#[derive(Drop)]
+#[derive(Clone, Copy)]
 pub enum Item {
     Start(Tag),
     Empty(Tag),
@@ -39,7 +41,7 @@ pub enum Item {
 }
 
 // How far a comment reaches, or that it is unreadable.
-#[derive(Drop)]
+#[derive(Clone, Copy)]
 enum Reach {
     Upto(usize),
     Unread,

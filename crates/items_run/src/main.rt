@@ -3,6 +3,8 @@
 // Of a start or an empty tag: the length of its name; start and length of the values of `v`, `codingScheme` and
 // `DtdBDEWNachrichtenVersion`, counted from its `<` (0 0 for one that is not there); whether it has other attributes, and whether all of
 // those may be passed over on a root; its length.
+#![tactic(auto)]
+
 ghost use Rattle.std.specs.Prelude.{◌+◌, ◌≤◌, length};
 
 use items::{Item, Tag};

@@ -204,26 +204,30 @@ standing a s i r e =
 
 module _ (a : TagSaid) (s : List ℕ) (i : ℕ) (r : List ℕ) (st : Stand a s i r) where
   pub attributes-read : TagWritable a → {empty : Bool} {e : ℕ} → ends s (at-close a i) ≡ closed [] empty e → ends s i ≡ closed (attributes_at a i) empty e
-  attributes-read w z =
+  attributes-read w {empty = empty} {e = e} z =
+      let scheme : List Attr = with_given (text "codingScheme") (at-scheme a i) 12 a.scheme [] in
+      let v : List Attr = with_given (text "v") (at-v a i) 1 a.v scheme in
+      let message : List Attr = with_given (text "DtdBDEWNachrichtenVersion") (at-message a i) 25 a.dtd.message v in
+      let release : List Attr = with_given (text "DtdRelease") (at-release a i) 10 a.dtd.release message in
       let g5 =
       given-read opens-scheme s (at-scheme a i) a.scheme r w.scheme st.scheme
       ∙ ap (onto_given (text "codingScheme") (at-scheme a i) 12 a.scheme) z
-      ∙ onto-closed _ _ _ a.scheme _ _ _ in
+      ∙ onto-closed (text "codingScheme") (at-scheme a i) 12 a.scheme [] empty e in
       let g4 =
       given-read opens-v s (at-v a i) a.v _ w.v st.v
       ∙ ap (onto_given (text "v") (at-v a i) 1 a.v) g5
-      ∙ onto-closed _ _ _ a.v _ _ _ in
+      ∙ onto-closed (text "v") (at-v a i) 1 a.v scheme empty e in
       let g3 =
       given-read opens-message s (at-message a i) a.dtd.message _ w.message st.message
       ∙ ap (onto_given (text "DtdBDEWNachrichtenVersion") (at-message a i) 25 a.dtd.message) g4
-      ∙ onto-closed _ _ _ a.dtd.message _ _ _ in
+      ∙ onto-closed (text "DtdBDEWNachrichtenVersion") (at-message a i) 25 a.dtd.message v empty e in
       let g2 =
       given-read opens-release s (at-release a i) a.dtd.release _ w.release st.release
       ∙ ap (onto_given (text "DtdRelease") (at-release a i) 10 a.dtd.release) g3
-      ∙ onto-closed _ _ _ a.dtd.release _ _ _ in
+      ∙ onto-closed (text "DtdRelease") (at-release a i) 10 a.dtd.release message empty e in
       given-read opens-version s i a.dtd.version _ w.version st.version
       ∙ ap (onto_given (text "DtdVersion") i 10 a.dtd.version) g2
-      ∙ onto-closed _ _ _ a.dtd.version _ _ _
+      ∙ onto-closed (text "DtdVersion") i 10 a.dtd.version release empty e
 
 -- ---- none of them stands twice
 

@@ -1,5 +1,7 @@
-// The document reader, the note reader and the converter of notes for C and Rust to call. Every lent slice is a pointer and a length there, and an answer's numbers
-// stand in a lent slice.
+// The document reader, the note reader and the converter of notes, as library_c exports them to C and Rust: each takes lent slices alone, and an answer's numbers
+// stand in one of them.
+#![tactic(auto)]
+
 ghost use Rattle.std.specs.Prelude.{◌≡◌, ◌≤◌, [], ◌∷◌, length};
 ghost use Rattle.notes.specs.Reader.{note_in};
 ghost use Rattle.notes.specs.Converter.{convert_refusal, convert_length};
@@ -16,8 +18,7 @@ use tables::{clear_numbers, set_number};
 const VERSION: u32 = 800;
 
 // The version of the exported functions, by which a program tells whether it was compiled with the header of this archive.
-#[unsafe(no_mangle)]
-pub extern "C" fn lumintayag_version() -> u32
+pub fn lumintayag_version() -> u32
     ensures { result ≡ library_version }
 {
     VERSION
@@ -66,8 +67,7 @@ fn put_answer(t: &mut [u32], a: Answer)
 // into `answer`, and answers the refusal.
 // Ruled out: a number of the answer in another one's cell; 0 for a refused document, or a refusal for an accepted one; a cell past the
 // seventh left as it was; tables or a note that are not the document reader's; a note in the other shape.
-#[unsafe(no_mangle)]
-pub extern "C" fn lumintayag_read_v3(
+pub fn lumintayag_read_v3(
     doc: &[u8],
     series: &mut [u32],
     positions: &mut [u32],
@@ -88,8 +88,7 @@ pub extern "C" fn lumintayag_read_v3(
 
 // Puts the numbers of a note of either shape into `six`, the depth last, and answers 0; where the bytes aren't one note, six zeros and 11.
 // Ruled out: numbers left in `six` on 11; 0 for bytes with anything after the note; the six in another order; a depth for an old note.
-#[unsafe(no_mangle)]
-pub extern "C" fn lumintayag_read_note_v2(note: &[u8], six: &mut [u32]) -> u32
+pub fn lumintayag_read_note_v2(note: &[u8], six: &mut [u32]) -> u32
     ensures { PermittedNote (note_in note.now) (length six.old) result six.new }
 {
     match read_note(note) {
@@ -130,13 +129,7 @@ fn put_converted(t: &mut [u32], c: Converted) -> u32
 
 // Writes the note in the shape that is asked for, the old one for 0 and the new one for any other number, puts the refusal and the note's length into `answer`, and answers the refusal.
 // Ruled out: bytes left past the note, or on a refusal; 11 where the output is too short as well; the length of the note that was read; a third cell of `answer` left as it was.
-#[unsafe(no_mangle)]
-pub extern "C" fn lumintayag_convert_note(
-    note: &[u8],
-    shape: u32,
-    out: &mut [u8],
-    answer: &mut [u32],
-) -> u32
+pub fn lumintayag_convert_note(note: &[u8], shape: u32, out: &mut [u8], answer: &mut [u32]) -> u32
     ensures { PermittedConversion note.now (shape_of shape) (length out.old) (length answer.old)
         result out.new answer.new }
 {

@@ -2,13 +2,18 @@
 //
 // No contract can say what is read from standard input or written to standard output, so those of `read_input`, `print_text`, `print_number`
 // and `print_bytes` do not; that these are safe and end is proved. The other functions are on slices, and their contracts are equations.
+#![tactic(auto)]
+
 ghost use Rattle.std.specs.Prelude.{◌≡◌, ◌+◌, ◌-◌, ◌≤◌, min, length, drop, set};
 ghost use Rattle.std.proofs.lemmas.List.Edits.{sets};
 ghost use Rattle.io.specs.Counts.{IsPrefixLen};
 ghost use Rattle.lists.specs.Zeros.{zeros};
 ghost use Rattle.lines.specs.Text.{line_of, digit_of, hex_bytes, glyph_of, hex_text};
 
-use libc::{STDIN_FILENO, STDOUT_FILENO};
+// The numbers of the open files that every program begins with.
+const STANDARD_INPUT: i32 = 0;
+
+const STANDARD_OUTPUT: i32 = 1;
 
 // Room for the input of any program here. Ruled out: another length, and a byte that is not 0.
 pub fn input_buffer() -> [u8; 262144]
@@ -23,7 +28,7 @@ pub fn input_buffer() -> [u8; 262144]
 pub fn read_input(buf: &mut [u8]) -> usize
     ensures { IsPrefixLen result buf.new }
 {
-    io::read_full(STDIN_FILENO, buf)
+    io::read_full(STANDARD_INPUT, buf)
 }
 
 // The line that begins at `at`, without its line feed; where `at` is past the end, no byte.
@@ -158,17 +163,17 @@ pub fn put_hex(s: &[u8], out: &mut [u8]) -> usize
 
 // Writes text to standard output. The contract says nothing: what is written is no answer and no lent buffer, and a write that fails is not told.
 pub fn print_text(text: &[u8]) {
-    io::write_all(STDOUT_FILENO, text);
+    io::write_all(STANDARD_OUTPUT, text);
 }
 
 // Writes n to standard output in decimal digits. The contract says nothing, for the same reason.
 pub fn print_number(n: u64) {
-    io::print_decimal(STDOUT_FILENO, n);
+    io::print_decimal(STANDARD_OUTPUT, n);
 }
 
 // Writes the bytes of s to standard output as `put_hex` has them, up to 65,536 characters. The contract says nothing, for the same reason.
 pub fn print_bytes(s: &[u8]) {
     let mut text = io::large_buffer();
     let n = put_hex(s, &mut text);
-    io::write_all(STDOUT_FILENO, &text[..n]);
+    io::write_all(STANDARD_OUTPUT, &text[..n]);
 }

@@ -1,4 +1,6 @@
 // Laws of lists and numbers that know nothing of documents (proofs/), and the one function that goes with them.
+#![tactic(auto)]
+
 ghost use Rattle.std.specs.Prelude.{◌≡◌, length};
 ghost use Rattle.lists.specs.Zeros.{zeros};
 

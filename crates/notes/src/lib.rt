@@ -1,4 +1,6 @@
 // The note, in either shape: numbers in groups of seven bits, and zeros after them.
+#![tactic(auto)]
+
 ghost use Rattle.std.specs.Prelude.{◌≡◌, ◌≤◌, min, length, set};
 ghost use Rattle.std.proofs.lemmas.List.Edits.{sets};
 ghost use Rattle.notes.specs.Note.{groups, flat, note_of, left};
@@ -8,7 +10,7 @@ ghost use Rattle.notes.specs.Converter.{converted, converted_out};
 use lists::clear_bytes;
 
 // "The note is five numbers: refusal, place, kind, series, intervals."; the new one tells besides "the count of elements open before the faulty item".
-#[derive(Drop)]
+#[derive(Clone, Copy)]
 pub struct Note {
     pub refusal: u32,
     pub place: u32,
@@ -19,7 +21,7 @@ pub struct Note {
 }
 
 // Five numbers; or "the number 100, then the old five, then the count of elements open before the faulty item".
-#[derive(Drop)]
+#[derive(Clone, Copy)]
 pub enum Shape {
     Old,
     New,
@@ -108,7 +110,7 @@ pub fn write_note(note: &mut [u8], shape: Shape, n: Note) -> usize
 }
 
 // A number that was read, with how many bytes it takes, or bytes that begin with none.
-#[derive(Drop)]
+#[derive(Clone, Copy)]
 enum Got {
     Number(u32, usize),
     Bad,
@@ -163,7 +165,7 @@ fn read_numbers(s: &[u8], ns: &mut [u32]) -> bool
 }
 
 // The numbers of a note, or bytes that "aren't one note".
-#[derive(Drop)]
+#[derive(Clone, Copy)]
 pub enum NoteRead {
     Taken(Note),
     NotOneNote,
@@ -239,7 +241,7 @@ pub fn read_note(s: &[u8]) -> NoteRead
 }
 
 // A note written in the shape that was asked for, with its length; or an output that is too short, or bytes that are no note of either shape.
-#[derive(Drop)]
+#[derive(Clone, Copy)]
 pub enum Converted {
     Turned(usize),
     OutShort,

@@ -5,6 +5,8 @@
 //   o HEX, n HEX  the first byte is how many bytes the output has (at most 48), and those after it are converted into the old shape (o) or the new one (n);
 //                 printed: the refusal's number, the note's length, and all bytes of the output
 // Any other line is printed as it is.
+#![tactic(auto)]
+
 ghost use Rattle.std.specs.Prelude.{◌<◌};
 
 use notes::{Converted, Note, NoteRead, Shape};

@@ -1,4 +1,6 @@
 // Numbers and amounts, as 01 writes them in values. Every character is read by `said_at`.
+#![tactic(auto)]
+
 ghost use Rattle.std.specs.Prelude.{◌≡◌, ◌+◌, ◌*◌, ◌<◌, ◌≤◌, ◌^◌, ltb, take, drop};
 ghost use Rattle.characters.specs.Says.{says};
 ghost use Rattle.numbers.specs.Digits.{digits, number_from, nothing_left};
@@ -10,27 +12,27 @@ use characters::{Said, said_at};
 use pictures::is_digit;
 use slices::rest;
 
-#[derive(Drop)]
+#[derive(Clone, Copy)]
 pub enum Number {
     Is(u32),
     NotNumber,
 }
 
-#[derive(Drop)]
+#[derive(Clone, Copy)]
 pub enum Amount {
     Thousandths(i64),
     NotAmount,
 }
 
 // An amount with no sign, in thousandths.
-#[derive(Drop)]
+#[derive(Clone, Copy)]
 enum Unsigned {
     Parts(u64),
     NoParts,
 }
 
 // Digits at the front of a value: how many, the number that they say, and the place of the byte after them.
-#[derive(Drop)]
+#[derive(Clone, Copy)]
 struct Digits {
     count: usize,
     value: u64,

@@ -1,5 +1,7 @@
 // Follows the count from a period's text to N, for docs/DAYS.md. A line of standard input is an interval; printed are the sum of each of its two dates, term by
 // term, the days between them, the quarter hours within the days, and N.
+#![tactic(auto)]
+
 use pictures::number_at;
 use times::Interval;
 use times::calendar::{Sum, Terms, sum_of};

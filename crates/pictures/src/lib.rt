@@ -1,4 +1,6 @@
 // A value held against a picture of its form, or against a text. All functions look at what the value says, never at its bytes.
+#![tactic(auto)]
+
 ghost use Rattle.std.specs.Prelude.{◌≡◌, ◌<◌, map};
 ghost use Rattle.slices.specs.Same.{same};
 ghost use Rattle.characters.specs.Says.{says};

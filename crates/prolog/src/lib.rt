@@ -1,11 +1,13 @@
 // Where the items of a document begin: after the byte order mark and the XML declaration.
+#![tactic(auto)]
+
 ghost use Rattle.std.specs.Prelude.{◌≡◌, ◌+◌, ◌≤◌, length};
 ghost use Rattle.prolog.specs.Prolog.{lower, utf, declared, encoded, declaration, mark_len, begin, begin_use};
 
 use attributes::{Piece, piece_at, white_len};
 use slices::{begins_with, byte_at, is_same, part, rest};
 
-#[derive(Drop)]
+#[derive(Clone, Copy)]
 pub enum Begin {
     // the place of the first item, or the end
     From(usize),

@@ -1,5 +1,7 @@
 // The fixed layout of a sheet, put into lent bytes as far as they reach: "no declaration, no text between tags, double quotes, guideline order of attributes, empty tags
 // for single values". A place is never more than one past the last byte, which stands for all that find no room.
+#![tactic(auto)]
+
 mod names;
 mod texts;
 

@@ -1,4 +1,6 @@
-// How far a document is readable, item by item, for C and Rust to call.
+// How far a document is readable, item by item.
+#![tactic(auto)]
+
 ghost use Rattle.std.specs.Prelude.{◌≡◌, ◌+◌, ◌≤◌, length};
 ghost use Rattle.readable.specs.Readable.{passed_bytes, readable};
 
@@ -37,8 +39,7 @@ fn passed_len(s: &[u8]) -> usize
 
 // The place of the first unreadable item of a document, or its length.
 // Ruled out: the place of the fault inside the item; the length for a document that is cut off in a tag.
-#[unsafe(no_mangle)]
-pub extern "C" fn lumintayag_readable_len(doc: &[u8]) -> usize
+pub fn lumintayag_readable_len(doc: &[u8]) -> usize
     ensures { result ≡ readable doc.now }
 {
     match first_item(doc) {

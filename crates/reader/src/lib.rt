@@ -1,4 +1,6 @@
 // The document reader: a sheet comes in, the lent tables are filled, and a note is written.
+#![tactic(auto)]
+
 mod rows;
 
 ghost use Rattle.std.specs.Prelude.{◌≡◌, ◌≤◌, length};
@@ -27,7 +29,7 @@ use tables::{clear_amounts, clear_numbers};
 
 // What the items of a document come to. `quarters` is N, `depth` "the count of elements open before the faulty item"; `from` and `to` are the two ends of
 // TimePeriodCovered in minutes since 2000-01-01T00:00Z, 0 on every refusal.
-#[derive(Drop)]
+#[derive(Clone, Copy)]
 pub struct Found {
     pub refusal: u32,
     pub place: u32,
@@ -41,7 +43,7 @@ pub struct Found {
 }
 
 // The answer to a document: the five numbers of the note, N, and the note's length.
-#[derive(Drop)]
+#[derive(Clone, Copy)]
 pub struct Answer {
     pub refusal: u32,
     pub place: u32,

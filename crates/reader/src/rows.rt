@@ -21,7 +21,7 @@ use tables::{set_amount, set_number};
 use trims::{leading_spaces, trimmed, without_spaces};
 
 // What an item brings, by where it goes: a field of its series' row, or the position or the amount of its interval's.
-#[derive(Drop)]
+#[derive(Clone, Copy)]
 enum Brought {
     NoCell,
     InRow(Field),

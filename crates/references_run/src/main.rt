@@ -1,5 +1,7 @@
 // Runs the vectors of references. A line of standard input is the value of an attribute in hexadecimal bytes; printed: `says` and the number of each
 // character that it says, or `none` where no tag may have it.
+#![tactic(auto)]
+
 use attributes::Piece;
 use characters::Said;
 

@@ -1,4 +1,6 @@
 // "Refusal numbers": 01's table, a name for each number. specs/Refusals.antt has the same names, each beside its sentence.
+#![tactic(auto)]
+
 pub const NO_REFUSAL: u32 = 0;
 
 pub const TOO_LONG: u32 = 1;

@@ -1,5 +1,7 @@
 // Whether a tag has an attribute twice: two by two where it has few, else by their order, in passes over the tag.
 // What the passes find is checked by its own count, so nothing is asked of the heap but that it holds names of the tag.
+#![tactic(auto)]
+
 ghost use Rattle.std.specs.Prelude.{◌≡◌, true, cond, ◌+◌, ◌*◌, ◌≤◌, ◌<◌, length};
 ghost use Rattle.tags.specs.Tail.{ends, twice_in};
 ghost use Rattle.repeats.specs.Order.{name_at, less};

@@ -1,6 +1,8 @@
 // Prints, a line for each case, what `has_twice` answers on tags that are made here. A line of n attributes has six tags: all different;
 // the first name also second, in the middle and last; the last name also before it and in the middle. The names come in rising, falling
 // and mixed order. Lines that begin with a text print what is answered on that text.
+#![tactic(auto)]
+
 ghost use Rattle.std.specs.Prelude.{◌≤◌};
 
 use repeats::has_twice;

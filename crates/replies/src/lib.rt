@@ -1,4 +1,6 @@
 // What the program prints for its input: the note of a document as a line, or that the input is too long.
+#![tactic(auto)]
+
 ghost use Rattle.std.specs.Prelude.{◌≡◌, length};
 ghost use Rattle.series.specs.Row.{cells_of};
 ghost use Rattle.notes.specs.declared.Shape.TheVariants.{Old};

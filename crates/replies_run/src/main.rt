@@ -1,4 +1,6 @@
 // Prints what is replied to short examples of the paper, and to inputs of 65,536 and of 65,537 spaces: the last is too long.
+#![tactic(auto)]
+
 use replies::print_reply;
 
 fn main() {

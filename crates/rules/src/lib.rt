@@ -1,4 +1,6 @@
 // What a row of the guideline asks of a value: its form or code list, and the values that it is held against.
+#![tactic(auto)]
+
 ghost use Rattle.std.specs.Prelude.{◌≡◌, ◌+◌, eqb};
 ghost use Rattle.characters.specs.Says.{says};
 ghost use Rattle.rules.specs.Rules.{unless, is_version, amount, form_refusal, type_no, direction_no, code_no, period_fits, position_fits, judge_period, judge_interval, judge_position, judge};
@@ -20,7 +22,7 @@ use refusals::{AGAINST_FORM, AGAINST_VALUE, NO_REFUSAL, OUTSIDE_LIST};
 use times::{Interval, interval_of, is_cost_period, is_date_time, is_day_period};
 
 // What a value is held against: the kind; TimePeriodCovered, in minutes, and its quarter hours; the last Pos, 0 before the first.
-#[derive(Drop)]
+#[derive(Clone, Copy)]
 pub struct Held {
     pub kind: u32,
     pub from: u32,
@@ -30,7 +32,7 @@ pub struct Held {
 }
 
 // The refusal's number, 0 for none, and what the value says: the two minutes of an interval, a Pos, or which code it is where later values are held against it.
-#[derive(Drop)]
+#[derive(Clone, Copy)]
 pub struct Judged {
     pub number: u32,
     pub first: u32,

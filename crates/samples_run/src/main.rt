@@ -2,12 +2,21 @@
 //   NAME refusal place kind series intervals N notelen NOTEHEX S P A
 // notelen is the note's length and NOTEHEX its bytes; S, P and A are the check numbers of the whole series, position and amount tables.
 // The lent buffers are full of old values, so that a cell that the reader leaves as it was shows. A file has at most 262,144 bytes.
+#![tactic(auto)]
+
 mod sums;
+
+ghost use Rattle.std.specs.Prelude.{◌≤◌, length, IfOk};
 
 use notes::Shape;
 use reader::Answer;
 use series::WIDTH;
 use slices::{first_at, front};
+use std::env::Env;
+use std::fs::File;
+use std::io::Read;
+use std::rt::Files;
+use std::{env, io};
 use sums::{sum_of_amounts, sum_of_numbers};
 
 fn print_field(n: u64) {
@@ -58,35 +67,49 @@ fn run_document(doc: &[u8]) {
     print_field(sum_of_amounts(&amounts) as u64);
 }
 
-fn run_sample(name: &[u8], buf: &mut [u8]) {
-    lines::print_text(front(name, first_at(b".xml", name)));
-    let file = os::open_read(name);
-    if file < 0 {
-        lines::print_text(b" is missing\n");
-        return;
+// Reads until buf is full, the file ends or a read fails, and answers how many bytes it put at the start of buf.
+fn read_full(file: &mut impl Read, buf: &mut [u8]) -> usize
+    ensures { result ≤ length buf.new }
+{
+    let mut done: usize = 0;
+    while done < buf.len() {
+        let n = file.read(&mut buf[done..]).unwrap_or(0);
+        if n == 0 {
+            break;
+        }
+        done += n;
     }
-    let n = io::read_full(file, buf);
-    libc::close(file);
-    run_document(&buf[..n]);
-    lines::print_text(b"\n");
+    done
 }
 
-fn run_argument(i: usize, buf: &mut [u8]) {
-    let mut name = io::buffer();
-    let n = os::arg(i, &mut name);
-    run_sample(&name[..n], buf);
+// The file is closed at the return.
+fn read_file(rt: &impl Files, name: &str, buf: &mut [u8]) -> io::Result<usize>
+    ensures { IfOk result (λ n. n ≤ length buf.new) }
+{
+    let mut file = File::open(rt, name)?;
+    Ok(read_full(&mut file, buf))
 }
 
-fn run_arguments(buf: &mut [u8]) {
-    let count = os::arg_count();
-    let mut i: usize = 1;
-    while i < count {
-        run_argument(i, buf);
-        i += 1;
+fn run_sample(rt: &impl Files, name: &str, buf: &mut [u8]) {
+    let bytes = name.as_bytes();
+    lines::print_text(front(bytes, first_at(b".xml", bytes)));
+    match read_file(rt, name, buf) {
+        Ok(n) => {
+            run_document(&buf[..n]);
+            lines::print_text(b"\n");
+        }
+        Err(_) => lines::print_text(b" is missing\n"),
     }
 }
 
-fn main() {
+fn run_arguments(rt: &(impl Env + Files + Alloc), buf: &mut [u8]) -> io::Result<()> {
+    for name in env::args(rt)?.skip(1) {
+        run_sample(rt, name.as_str(), buf);
+    }
+    Ok(())
+}
+
+fn main(rt: HostRuntime) -> io::Result<()> {
     let mut buf = lines::input_buffer();
-    run_arguments(&mut buf);
+    run_arguments(&rt, &mut buf)
 }

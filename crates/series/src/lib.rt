@@ -1,4 +1,6 @@
 // The row of a series in the series table: which cell holds what, and for how many rows a table has room.
+#![tactic(auto)]
+
 ghost use Rattle.std.specs.Prelude.{◌≡◌, ◌≤◌, ◌<◌};
 ghost use Rattle.series.specs.Row.{cell_of, is_view, drops_spaces, row_width, room_for, cell_at, field_at, with_field, with_view, view};
 
@@ -6,7 +8,7 @@ use slices::part;
 use tables::{number_at, set_number};
 
 // The fields of a row, in their order. The first five are views: start and length in two cells.
-#[derive(Drop)]
+#[derive(Clone, Copy)]
 pub enum Field {
     Identification,
     Object,

@@ -1,12 +1,14 @@
 // Slices read as if they had no end: a byte past the end is 0, a part past the end is empty.
 // So no caller tests a length before it looks, and no definition does.
+#![tactic(auto)]
+
 ghost use Rattle.std.specs.Prelude.{◌≡◌, ◌-◌, ◌≤◌, length, take, drop};
 ghost use Rattle.slices.specs.Bytes.{byte};
 ghost use Rattle.slices.specs.Part.{part_of};
 ghost use Rattle.slices.specs.Same.{same, begins, first_at};
 
 // Where a part of a slice stands. Of an attribute's value it is counted from the first byte of its tag, and a start of 0 says that it is not there.
-#[derive(Drop)]
+#[derive(Clone, Copy)]
 pub struct Span {
     pub start: usize,
     pub len: usize,

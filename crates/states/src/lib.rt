@@ -1,4 +1,6 @@
 // The reading state, and how each item moves it. It holds no amount.
+#![tactic(auto)]
+
 ghost use Rattle.std.specs.Prelude.{◌≡◌, ◌-◌, eqb, false, cond, get_or};
 ghost use Rattle.items.specs.Parts.{name_in};
 ghost use Rattle.columns.specs.Columns.{role_of, root_role};
@@ -31,7 +33,7 @@ use tags::Dtd;
 use times::quarter_hours;
 use trims::trimmed;
 
-#[derive(Drop)]
+#[derive(Clone, Copy)]
 pub struct State {
     // 0 before the root
     pub kind: u32,
@@ -53,7 +55,7 @@ pub struct State {
     pub seen: Seen,
 }
 
-#[derive(Drop)]
+#[derive(Clone, Copy)]
 pub struct Seen {
     // whether there is a DocStatus
     pub withdrawn: bool,
@@ -68,14 +70,14 @@ pub struct Seen {
 }
 
 // For how many series and intervals the lent tables have room.
-#[derive(Drop)]
+#[derive(Clone, Copy)]
 pub struct Room {
     pub series: usize,
     pub intervals: usize,
 }
 
 // What an item brings into the tables.
-#[derive(Drop)]
+#[derive(Clone, Copy)]
 pub enum Entry {
     Nothing,
     Series,
@@ -89,7 +91,7 @@ pub enum Entry {
     Amount,
 }
 
-#[derive(Drop)]
+#[derive(Clone, Copy)]
 pub enum Step {
     Next(State, Entry),
     Refused(u32),
@@ -377,7 +379,7 @@ fn is_cut_short(empty: bool, rows: &[usize], row: usize) -> bool
 }
 
 // What an item does to the state.
-#[derive(Drop)]
+#[derive(Clone, Copy)]
 enum Act {
     // an element begins: its tag, and whether that is an empty one
     Opens(Tag, bool),

@@ -1,10 +1,12 @@
 // The structure of a document kind, by a table of rows that the caller lends: which start tag and which end tag is due.
 // A row is a number of columns; the first four are read here, each by one function.
+#![tactic(auto)]
+
 ghost use Rattle.std.specs.Prelude.{◌≡◌, ◌<◌, ◌+◌, length, drop, get_or};
 ghost use Rattle.structure.specs.Rows.{name_of, parent_of, required, repeated, next_in, ends_in, start_of, end_at, end_of, ends_at_once, over_of};
 ghost use Rattle.structure.specs.Depth.{height_in, depth_of};
 
-#[derive(Drop)]
+#[derive(Clone, Copy)]
 pub enum Due {
     Row(usize),
     NotDue,

@@ -1,4 +1,6 @@
 // The cells of lent tables: all made 0, one set, or one read. A cell past the end is none: setting it changes nothing, and it is read as 0.
+#![tactic(auto)]
+
 ghost use Rattle.std.specs.Prelude.{◌≡◌, length, get_or, set, pos};
 ghost use Rattle.lists.specs.Zeros.{zeros};
 ghost use Rattle.tables.specs.Cells.{no_amounts};

@@ -1,4 +1,6 @@
 // A tag after its name: what is kept of its attributes, and where it ends.
+#![tactic(auto)]
+
 ghost use Rattle.std.specs.Prelude.{◌≡◌, ◌+◌, ◌≤◌, length};
 ghost use Rattle.slices.specs.Same.{same};
 ghost use Rattle.slices.specs.Text.{text};
@@ -22,7 +24,7 @@ fn is_passed_over(name: &[u8]) -> bool
 }
 
 // The values of the attributes that a root may have: DtdVersion, DtdRelease and DtdBDEWNachrichtenVersion. Which of them it has is told by its kind.
-#[derive(Drop)]
+#[derive(Clone, Copy)]
 pub struct Dtd {
     pub version: Span,
     pub release: Span,
@@ -71,7 +73,7 @@ impl Dtd {
 }
 
 // What is kept of a tag's attributes while it is read.
-#[derive(Drop)]
+#[derive(Clone, Copy)]
 pub struct Known {
     pub v: Span,
     pub coding: Span,
@@ -160,7 +162,7 @@ impl Known {
     }
 }
 
-#[derive(Drop)]
+#[derive(Clone, Copy)]
 pub enum Tail {
     // what is kept of the attributes, whether the tag is an empty one, and the place after it
     Shut(Known, bool, usize),

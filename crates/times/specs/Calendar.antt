@@ -2,7 +2,6 @@
 use Rattle.std.specs.Prelude.{ℕ, ◌+◌, ◌-◌, ◌*◌, ◌/◌, ◌%◌, Bool, cond, ◌&&◌, leb, eqb}
 use Rattle.times.specs.declared.calendar.Day.{Day}
 use Rattle.times.specs.declared.calendar.Day.TheVariants.{DayIs, NoDay}
-use Rattle.times.specs.declared.calendar.Terms.{Terms}
 use Rattle.times.specs.declared.calendar.Sum.{Sum}
 use Rattle.times.specs.declared.calendar.Sum.TheVariants.{Of, NotDate}
 

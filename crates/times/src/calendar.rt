@@ -2,7 +2,7 @@
 ghost use Rattle.std.specs.Prelude.{◌≡◌, ◌≤◌, ◌<◌};
 ghost use Rattle.times.specs.Calendar.{leap, month_days, real_date, days_before, leap_day, year_days, leap_days_before, month_start, day_number, day_of, day_count, sum_of};
 
-#[derive(Drop)]
+#[derive(Clone, Copy)]
 pub(crate) enum Day {
     // days since 2000-01-01
     DayIs(u32),
@@ -10,7 +10,7 @@ pub(crate) enum Day {
 }
 
 // The four terms of the sum.
-#[derive(Drop)]
+#[derive(Clone, Copy)]
 pub struct Terms {
     pub years: u32,
     pub leaps: u32,
@@ -18,7 +18,7 @@ pub struct Terms {
     pub days: u32,
 }
 
-#[derive(Drop)]
+#[derive(Clone, Copy)]
 pub enum Sum {
     Of(Terms),
     NotDate,

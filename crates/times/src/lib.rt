@@ -1,4 +1,6 @@
 // Date-times, intervals of minutes, and what the rules ask of a period.
+#![tactic(auto)]
+
 pub mod calendar;
 mod midnight;
 
@@ -11,14 +13,14 @@ use calendar::{Day, day_of};
 use midnight::start_of_day;
 use pictures::{fits, number_at};
 
-#[derive(Drop)]
+#[derive(Clone, Copy)]
 enum Minute {
     // minutes since 2000-01-01T00:00Z
     MinuteIs(u32),
     NoMinute,
 }
 
-#[derive(Drop)]
+#[derive(Clone, Copy)]
 pub enum Interval {
     // from, to
     Minutes(u32, u32),

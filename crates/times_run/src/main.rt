@@ -1,5 +1,7 @@
 // Runs the vectors of times. A line of standard input is a value; printed: whether it is a date-time (1 or 0); then, where it is an
 // interval, its two minutes, its quarter hours, and 1 or 0 for each of: it is a period as kind 1 asks for, as kind 2 does.
+#![tactic(auto)]
+
 use times::Interval;
 
 fn print_flag(b: bool) {

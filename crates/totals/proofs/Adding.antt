@@ -2,7 +2,6 @@
 use Prim.Native.Nat.{ℕ, zero, suc, ◌+◌, ◌-◌, ◌*◌, ◌≤◌, ◌<◌}
 use mathlib.Core.Path.{◌≡◌, refl, sym, ap, ◌∙◌}
 use mathlib.Core.List.{List, [], ◌∷◌, ◌++◌}
-use mathlib.Core.Bool.{true}
 use native.Mathlib.Omega.{arith}
 use native.Mathlib.Nat.{le_refl}
 use native.Mathlib.Numerals.{add-one}
@@ -14,13 +13,12 @@ use Rattle.series.specs.Row.{field_at}
 use Rattle.series.specs.declared.Field.TheVariants.{Count}
 use Rattle.tables.specs.Cells.{no_amounts}
 use Rattle.totals.specs.declared.sums.Words.{Words}
-use Rattle.totals.specs.Rules.{Handed, most_series, most_quarters, too_large, own_of, is_allowed}
+use Rattle.totals.specs.Rules.{Handed, most_quarters, too_large, own_of}
 use Rattle.totals.specs.Totals.{whole_of, rest_of, values_from, added, last_quarter, series_total, each_total, pairs, pair_cells}
-use Rattle.totals.specs.Shifted.{added_from, shifted_at, held_in, Holds, shift, most_held, Rising, Adds}
+use Rattle.totals.specs.Shifted.{added_from, shifted_at, held_in, Holds, shift, most_held, Adds}
 use Rattle.totals.proofs.Integers.{Less, less-add, less_zero, less-is, told}
 use Rattle.totals.proofs.Shifts.{added-most}
 use Rattle.totals.proofs.Standing.{rows-less, all-less}
-use Rattle.totals.proofs.Facts.{as-adds}
 
 -- ---- values put into blank cells
 

@@ -1,6 +1,6 @@
 -- What the tests of a series' rows tell, and which rows they allow to be added. Assumes nothing.
-use Prim.Native.Nat.{ℕ, zero, suc, ◌+◌, ◌-◌, ◌≤◌, ◌<◌}
-use mathlib.Core.Path.{◌≡◌, refl, sym, ap, ◌∙◌}
+use Prim.Native.Nat.{ℕ, ◌+◌, ◌-◌, ◌≤◌, ◌<◌}
+use mathlib.Core.Path.{◌≡◌, sym, ◌∙◌}
 use mathlib.Core.List.{List}
 use mathlib.Core.Bool.{Bool, true, false, cond}
 use mathlib.Core.Logic.{◌⊎◌, inl, inr, ⊎_elim}
@@ -9,7 +9,7 @@ use borrow.Author.Tests.{le-leb, lt-leb, eq-eqb, ne_eqb, leb-true, ltb-true, eqb
 use lib.Dec.{eqb, leb, ltb}
 use lib.IntN.{ℤ, pos}
 use lib.ListN.{length, get_or, take, drop, length-take, length-drop}
-use Rattle.lists.proofs.Cases.{eqb-cases, both_true, never}
+use Rattle.lists.proofs.Cases.{eqb-cases, both_true}
 use Rattle.series.specs.Row.{field_at, room_for}
 use Rattle.series.specs.declared.Field.TheVariants.{FirstRow, Count}
 use Rattle.totals.specs.Rules.{Handed, most_quarters, most_intervals, has_totals, period_allows, count_allowed, pos_allowed, size_allowed, row_allowed, all_below, end_row, due_row, own_of, series_allowed, is_allowed}

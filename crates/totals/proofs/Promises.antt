@@ -8,15 +8,15 @@
 use Prim.Native.Nat.{ℕ, zero, suc, ◌+◌, ◌-◌, ◌*◌, ◌/◌, ◌%◌, ◌≤◌, ◌<◌}
 use mathlib.Core.Path.{◌≡◌, refl, sym, ap, ◌∙◌}
 use mathlib.Core.List.{List, [], ◌∷◌, ◌++◌}
-use mathlib.Core.Bool.{Bool, true, false, cond}
+use mathlib.Core.Bool.{true, false, cond}
 use mathlib.Core.Logic.{⊎_elim}
 use native.Mathlib.Omega.{arith}
 use native.Mathlib.Nat.{div-add-mod', mod-lt}
 use borrow.Author.Tests.{lt-ltb, le-ltb, le-leb, ne_eqb}
 use lib.Dec.{eqb}
-use lib.IntN.{ℤ, pos, negsuc, neg_ℤ, ◌+ℤ◌, ◌*ℤ◌, +ℤ_assoc, +ℤ_comm}
-use lib.ListN.{length, get_or, take, replicate}
-use Rattle.lists.proofs.Cases.{ltb-cases, bool_cases, by_cond, never, zero-not-one}
+use lib.IntN.{ℤ, pos, negsuc, ◌+ℤ◌, ◌*ℤ◌, +ℤ_assoc, +ℤ_comm}
+use lib.ListN.{length, get_or, take}
+use Rattle.lists.proofs.Cases.{ltb-cases, bool_cases, by_cond}
 use Rattle.series.specs.Row.{field_at, room_for}
 use Rattle.series.specs.declared.Field.TheVariants.{Count}
 use Rattle.tables.specs.Cells.{no_amounts}

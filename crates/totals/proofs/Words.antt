@@ -2,7 +2,7 @@
 use Prim.Native.Nat.{ℕ, ◌+◌, ◌*◌, ◌/◌, ◌%◌, ◌≤◌, ◌<◌}
 use mathlib.Core.Path.{◌≡◌, sym, ap, ◌∙◌}
 use native.Mathlib.Omega.{arith}
-use native.Mathlib.Nat.{div-add-mod', mod-lt, mul-le-mul, add-mul, mul_assoc, mul_comm}
+use native.Mathlib.Nat.{div-add-mod', mod-lt, mul-le-mul, add-mul, mul_assoc}
 use Rattle.totals.specs.Rules.{most_quarters, too_large}
 use Rattle.totals.specs.Shifted.{shift}
 

@@ -1,4 +1,6 @@
 // The totals of the series that stand in the tables of the document reader, whose fields crate series knows. Nothing else of the reader is asked for.
+#![tactic(auto)]
+
 mod allowed;
 mod sums;
 
@@ -16,8 +18,7 @@ const MOST_SERIES: usize = 200;
 // the one after it, and those of the total of all series in `sum`. 17 or 18 is answered where they are refused, and 0 otherwise.
 // Ruled out: a rest that is cut off towards 0, so that -0.001 were 0; the last amount of a series that stops at its own Pos and not at N; rows that two
 // series share; a total left in a cell on a refusal, or past the last series.
-#[unsafe(no_mangle)]
-pub extern "C" fn lumintayag_totals(
+pub fn lumintayag_totals(
     kind: u32,
     quarters: u32,
     count: usize,

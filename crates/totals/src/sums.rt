@@ -17,7 +17,7 @@ pub(crate) const TOO_LARGE: u64 = 1_000_000_000_000_000;
 const SHIFT: u64 = 1_000_000_000_000;
 
 // 1000 times `whole` and `rest`, which is below 1000.
-#[derive(Drop)]
+#[derive(Clone, Copy)]
 pub(crate) struct Words {
     whole: u64,
     rest: u64,

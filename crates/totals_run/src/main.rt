@@ -4,11 +4,13 @@
 //   the positions
 //   the amounts, in thousandths
 // Printed: the answer, the cells of the totals, and those of the sum. Every cell that a case does not set was something else than 0.
+#![tactic(auto)]
+
 ghost use Rattle.std.specs.Prelude.{◌≤◌, ◌<◌, length};
 
 use series::Field;
 
-#[derive(Drop)]
+#[derive(Clone, Copy)]
 struct Number {
     negative: bool,
     size: u64,

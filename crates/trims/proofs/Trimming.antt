@@ -3,18 +3,18 @@
 use Prim.Native.Nat.{ℕ, zero, suc, pred, ◌+◌, ◌-◌, ◌≤◌, ◌<◌}
 use mathlib.Core.Path.{◌≡◌, refl, sym, ap, ◌∙◌}
 use mathlib.Core.List.{List, [], ◌∷◌}
-use mathlib.Core.Bool.{Bool, true, false, cond, not}
+use mathlib.Core.Bool.{true, false, cond, not}
 use mathlib.Core.Logic.{◌⊎◌, inl, inr, ⊎_elim}
 use native.Mathlib.Omega.{arith}
 use native.Mathlib.Nat.{le_refl}
 use lib.Dec.{eqb}
 use lib.ListN.{length, take, drop, drop_of_length-le, length-drop, length-take}
 use lib.Seq.{drop-drop, take_all, length-take-le}
-use borrow.Author.Tests.{eq-eqb, ne_eqb, eqb-true, eqb-false}
+use borrow.Author.Tests.{eq-eqb, ne_eqb, eqb-false}
 use Rattle.lists.proofs.Cases.{bool_cases, eqb-cases, ltb-cases, past-cond, both_true, never}
 use Rattle.slices.specs.Bytes.{byte}
 use Rattle.slices.proofs.Bytes.{byte-drop}
-use Rattle.characters.specs.Says.{met, char_of, said_at, says}
+use Rattle.characters.specs.Says.{said_at, says}
 use Rattle.characters.specs.declared.Said.{Said}
 use Rattle.characters.specs.declared.Said.TheVariants.{Says, Over}
 use Rattle.characters.proofs.Low.{char-low}

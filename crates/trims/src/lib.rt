@@ -1,4 +1,6 @@
 // What is left of a value where its spaces are dropped, whether they stand as they are or are named by a reference.
+#![tactic(auto)]
+
 ghost use Rattle.std.specs.Prelude.{◌≡◌, ◌≤◌, length};
 ghost use Rattle.trims.specs.Trim.{lead_of, kept_bytes, cut_trail, trimmed_of};
 ghost use Rattle.trims.specs.Short.{bare, bare_at_ends};

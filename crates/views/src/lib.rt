@@ -1,5 +1,7 @@
 // Every attribute value of a sheet, where it stands: a document comes in, the reader judges it, and a second walk over the items of an accepted one fills the
 // lent table of pairs.
+#![tactic(auto)]
+
 mod cells;
 mod layout;
 
@@ -110,8 +112,7 @@ fn put_six(t: &mut [u32], f: Found)
 // kind, series and the period's two ends into `answer`, and answers the refusal.
 // Ruled out: the value of a comment shown; OutArea in InArea's pair; a space kept where the row drops it; a pair left behind by a refused document; a pair of
 // another series; a cell of `answer` past the sixth left as it was.
-#[unsafe(no_mangle)]
-pub extern "C" fn lumintayag_views(doc: &[u8], table: &mut [u32], answer: &mut [u32]) -> u32
+pub fn lumintayag_views(doc: &[u8], table: &mut [u32], answer: &mut [u32]) -> u32
     ensures { PermittedViews (views_of doc.now table.old) (length answer.old)
         result table.new answer.new }
 {

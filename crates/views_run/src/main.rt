@@ -2,6 +2,8 @@
 //   three bytes in hexadecimal digits: how many cells the table has, highest byte first, and how many the answer
 //   the document
 // Printed: what is answered, the cells of the answer, and those of the table. Every cell that is lent was something else than 0.
+#![tactic(auto)]
+
 ghost use Rattle.std.specs.Prelude.{◌≤◌, ◌<◌};
 
 fn wide(b: u8) -> usize

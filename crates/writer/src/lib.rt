@@ -1,4 +1,6 @@
 // The writer: a draft is judged, then put into the lent output; and a value of a document is put as the text that it says, so that what was read can be written.
+#![tactic(auto)]
+
 ghost use Rattle.std.specs.Prelude.{◌≡◌, ◌≤◌, length};
 ghost use Rattle.escapes.specs.Spelled.{unescaped};
 ghost use Rattle.drafts.specs.Fit.{draft_of};
@@ -70,8 +72,7 @@ fn put_two(t: &mut [u32], refusal: u32, len: u32)
 // Writes a Beschaffungsanforderung or Kostenblatt into `out` from a text of unescaped values, a pair (start and length in the text) for each value as
 // `lumintayag_views` lays them, and the tables that the reader fills; puts refusal and length into `answer`, and answers the refusal.
 // Ruled out: a document that the reader would refuse; 12 where a legal document has this content; 13 before 12; a byte left behind in the output of a refusal, or past the document.
-#[unsafe(no_mangle)]
-pub extern "C" fn lumintayag_write(
+pub fn lumintayag_write(
     kind: u32,
     text: &[u8],
     pairs: &[u32],
@@ -101,8 +102,7 @@ pub extern "C" fn lumintayag_write(
 
 // Puts what a value of a document says into `out`, as far as there is room, and answers how many bytes that is: no more than the value has. Bytes past it stay as they were.
 // Ruled out: a reference left as it is; a length that counts only what found room.
-#[unsafe(no_mangle)]
-pub extern "C" fn lumintayag_unescape(value: &[u8], out: &mut [u8]) -> usize
+pub fn lumintayag_unescape(value: &[u8], out: &mut [u8]) -> usize
     ensures { PermittedText value.now out.old result out.new }
 {
     put_unescaped(out, value)

@@ -15,7 +15,7 @@ use Rattle.views.specs.Layout.{header_pairs, values_of, first_pair}
 use Rattle.views.specs.Shown.{series_at}
 use Rattle.trees.specs.Trees.{Trees, none, element}
 use Rattle.contents.specs.Said.{TagSaid}
-use Rattle.sights.specs.Values.{Part, counts_of, parts_of, last_of}
+use Rattle.sights.specs.Values.{Part, counts_of, parts_of, last_of, stands_in}
 use Rattle.drafts.specs.Draft.{Draft, single_tag, is_said, singles}
 use Rattle.drafts.proofs.Writing.{row-there}
 use Rattle.writings.proofs.Places.{first_next, Single}
@@ -30,7 +30,7 @@ RowsHave P (element r s i a) = P r × RowsHave P i × RowsHave P a
 last-append : (rows : List ℕ) (q m : ℕ) (x : List TagSaid) (ps qs : List (Part TagSaid)) → last_of rows q m x (ps ++ qs) ≡ last_of rows q m (last_of rows q m x ps) qs
 unfolding last_of
 last-append rows q m x [] qs = refl
-last-append rows q m x (p ∷ ps) qs = last-append rows q m _ ps qs
+last-append rows q m x (p ∷ ps) qs = last-append rows q m (cond (stands_in rows q m p) (p.said ∷ []) x) ps qs
 
 module _ (rows : List ℕ) where
   -- no series is opened in row r

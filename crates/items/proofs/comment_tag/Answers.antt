@@ -1,0 +1,24 @@
+use native.Mathlib.Omega.{arith}
+use borrow.Author.Tests.{eq-eqb, ne_eqb}
+use Rattle.items.specs.Item.{comment_item, comment_tag}
+use borrow.Author.Rules.{rules}
+use Rattle.items.proofs.comment_tag.Goals as goal
+
+pub overflow_add-result : goal.overflow_add-result
+overflow_add-result c = omega (arith, rw c.in-Upto.is at c.comment_at.ensures.size)
+
+pub returns-in-Upto : goal.returns-in-Upto
+unfolding comment_tag comment_item
+returns-in-Upto c = record { item = simp (c.in-Upto.is, ← c.comment_at.ensures.reach, ← c.rest.ensures.list, eq-eqb _ _ c.if-byte_at-eq45-2.true, ← c.byte_at-then-byte_at-eq45.ensures, eq-eqb _ _ c.if-byte_at-eq45.true, ← c.byte_at.ensures); size = omega (arith, rw c.in-Upto.is at c.comment_at.ensures.size) }
+
+pub returns-in-Unread : goal.returns-in-Unread
+unfolding comment_tag comment_item
+returns-in-Unread c = record { item = simp (c.in-Unread.is, ← c.comment_at.ensures.reach, ← c.rest.ensures.list, eq-eqb _ _ c.if-byte_at-eq45-2.true, ← c.byte_at-then-byte_at-eq45.ensures, eq-eqb _ _ c.if-byte_at-eq45.true, ← c.byte_at.ensures); size = omega (arith, rw c.in-Unread.is at c.comment_at.ensures.size) }
+
+pub returns-else-byte_at-eq45-2 : goal.returns-else-byte_at-eq45-2
+unfolding comment_tag comment_item
+returns-else-byte_at-eq45-2 c = record { item = simp (ne_eqb _ _ c.if-byte_at-eq45-2.false, ← c.byte_at-then-byte_at-eq45.ensures, eq-eqb _ _ c.if-byte_at-eq45.true, ← c.byte_at.ensures); size = search rules }
+
+pub returns-else-byte_at-eq45 : goal.returns-else-byte_at-eq45
+unfolding comment_tag comment_item
+returns-else-byte_at-eq45 c = record { item = simp (ne_eqb _ _ c.if-byte_at-eq45.false, ← c.byte_at.ensures); size = search rules }

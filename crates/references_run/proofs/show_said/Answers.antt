@@ -1,0 +1,10 @@
+-- `references_run::show_said` is safe and ends: each turn passes what says a character. Assumes nothing.
+use Prim.Native.Nat.{◌-◌}
+use native.Mathlib.Omega.{arith}
+use Rattle.references_run.proofs.show_said.Goals as goal
+
+pub overflow_add-i : goal.overflow_add-i
+overflow_add-i c = omega (arith, rw c.in-Says.is at c.said_at.ensures.size)
+
+pub loop-i-smaller : goal.loop-i-smaller
+loop-i-smaller c = omega (arith, rw c.in-Says.is at c.said_at.ensures.size)

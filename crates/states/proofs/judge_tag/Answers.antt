@@ -1,0 +1,19 @@
+use borrow.Author.Tests.{eq-eqb, ne_eqb}
+use Rattle.states.specs.Attributes.{also_scheme, judge_tag}
+use Rattle.states.proofs.judge_tag.Goals as goal
+
+pub returns-then-is_dtd_fixed : goal.returns-then-is_dtd_fixed
+unfolding judge_tag also_scheme
+returns-then-is_dtd_fixed c = simp (c.if-is_dtd_fixed.true, ← c.is_dtd_fixed.ensures, c.if-is_root.true, ← c.is_root.ensures)
+
+pub returns-then-is_root : goal.returns-then-is_root
+unfolding judge_tag also_scheme
+returns-then-is_root c = simp (c.if-is_dtd_fixed.false, ← c.is_dtd_fixed.ensures, c.if-is_root.true, ← c.is_root.ensures)
+
+pub returns-then-form-eq-NO_FORM : goal.returns-then-form-eq-NO_FORM
+unfolding judge_tag also_scheme
+returns-then-form-eq-NO_FORM c = simp (eq-eqb _ _ c.if-form-eq-NO_FORM.true, ← c.form_of-form.ensures, c.if-is_root.false, ← c.is_root.ensures)
+
+pub returns : goal.returns
+unfolding judge_tag also_scheme
+returns c = simp (← c.least_of.ensures, ← c.scheme_refusal.ensures, ← c.judge_value-j.ensures, ← c.value_of.ensures, ne_eqb _ _ c.if-form-eq-NO_FORM.false, ← c.form_of-form.ensures, c.if-is_root.false, ← c.is_root.ensures)

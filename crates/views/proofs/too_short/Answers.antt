@@ -1,0 +1,10 @@
+use Rattle.reader.specs.Reading.{refused_at}
+use Rattle.states.specs.Moves.{begun}
+use Rattle.guideline.specs.Rows.{rows_of}
+use Rattle.structure.specs.Depth.{height_in, depth_of}
+use mathlib.Core.Path.{refl}
+use Rattle.views.proofs.too_short.Goals as goal
+
+pub returns : goal.returns
+unfolding refused_at begun depth_of height_in rows_of
+returns c = refl
