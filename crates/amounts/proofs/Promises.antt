@@ -27,8 +27,7 @@ use Rattle.trims.specs.Trim.{dropped}
 use Rattle.numbers.specs.Digits.{digits, number_from, nothing_left, only_digits}
 use Rattle.numbers.specs.Number.{number_form, at_most_nine, number_within, number_of}
 use Rattle.numbers.specs.Amount.{minus, unsigned, fraction_form, unsigned_form, written_amount, filled, thousandths, signed, amount_of}
-use Rattle.numbers.specs.declared.Amount.TheVariants.{Thousandths}
-use Rattle.numbers.specs.declared.Number.TheVariants.{Is}
+use Rattle.std.specs.Prelude.{Some}
 use Rattle.wholes.specs.Whole.{whole_in, whole_text}
 use Rattle.amounts.specs.Texts.{decimals, pointed, fraction_text, unsigned_text, amount_text}
 use Rattle.amounts.specs.Shortest.{Shortest, whole_digits, fraction_digits}
@@ -60,7 +59,7 @@ unfolding unsigned_text fraction_text
 text-shape n b = refl
 
 -- "It is stored in thousandths": the reader takes the text of an amount for the amount
-pub read_back : (m : ℤ) → nat_abs m < 10 ^ 15 → amount_of (amount_text m) ≡ Thousandths m
+pub read_back : (m : ℤ) → nat_abs m < 10 ^ 15 → amount_of (amount_text m) ≡ Some m
 unfolding amount_text signed
 read_back (pos n) h = ap amount_of (text-shape n false) ∙ amount-is (text-parts n h) false ∙ rw (text-value n)
 read_back (negsuc n) h = ap amount_of (text-shape (suc n) true) ∙ amount-is (text-parts (suc n) h) true ∙ rw (text-value (suc n))
@@ -84,7 +83,7 @@ amount-shortest (negsuc n) h = rw (text-shape (suc n) true) (shape-shortest (suc
 -- ---- no other text is
 
 -- a text that is taken for m is written
-taken-written : (t : List ℕ) {m : ℤ} → amount_of t ≡ Thousandths m → written_amount t ≡ true
+taken-written : (t : List ℕ) {m : ℤ} → amount_of t ≡ Some m → written_amount t ≡ true
 unfolding amount_of
 taken-written t e =
     ⊎_elim (λ (y : written_amount t ≡ true). y) (λ (y : written_amount t ≡ false). let z = rw y at e in absurd (zero-not-one (cc))) (bool_cases (written_amount t))
@@ -109,7 +108,7 @@ signed-least false n = omega arith
 signed-least true zero = omega arith
 signed-least true (suc n) = omega arith
 
-module _ (t : List ℕ) (m : ℤ) (e : amount_of t ≡ Thousandths m) where
+module _ (t : List ℕ) (m : ℤ) (e : amount_of t ≡ Some m) where
   s : Shaped t
   s = shaped t (taken-written t e)
 
@@ -169,7 +168,7 @@ amount-length (negsuc n) h = omega (arith, unsigned-length (suc n) h)
 -- ---- positions
 
 -- "one to five digits, no leading zero"
-pub position-back : (n : ℕ) → 1 ≤ n → n ≤ 99999 → number_of (whole_text n) 5 ≡ Is n
+pub position-back : (n : ℕ) → 1 ≤ n → n ≤ 99999 → number_of (whole_text n) 5 ≡ Some n
 unfolding number_of at_most_nine number_within number_form
 position-back n l h =
     let few = whole-few 4 n (omega arith) in
@@ -182,7 +181,7 @@ position-back n l h =
     )
 
 -- no other text is taken for the position
-pub only-position : (t : List ℕ) (n : ℕ) → number_of t 5 ≡ Is n → t ≡ whole_text n
+pub only-position : (t : List ℕ) (n : ℕ) → number_of t 5 ≡ Some n → t ≡ whole_text n
 unfolding number_of at_most_nine number_within number_form
 only-position t n e = ⊎_elim (λ (y : number_form 5 t ≡ true). yes y) (λ (y : number_form 5 t ≡ false). let z = rw y at e in absurd (zero-not-one (cc))) (bool_cases (number_form 5 t))
   where
@@ -206,10 +205,10 @@ pub position-said : (n : ℕ) → (says (whole_text n) ≡ whole_text n) × (dro
 position-said n = let p = digits-plain (whole_text n) (whole-digits n) in (plain-said (whole_text n) p, plain-kept (whole_text n) p)
 
 -- so the document reader, which judges a value by what it says without the spaces at its ends, has the amount and the position from it
-pub amount-in-value : (m : ℤ) → nat_abs m < 10 ^ 15 → amount_of (dropped (says (amount_text m))) ≡ Thousandths m
+pub amount-in-value : (m : ℤ) → nat_abs m < 10 ^ 15 → amount_of (dropped (says (amount_text m))) ≡ Some m
 amount-in-value m h = let p = amount-said m in rw (p.0, p.1) (read_back m h)
 
-pub position-in-value : (n : ℕ) → 1 ≤ n → n ≤ 99999 → number_of (dropped (says (whole_text n))) 5 ≡ Is n
+pub position-in-value : (n : ℕ) → 1 ≤ n → n ≤ 99999 → number_of (dropped (says (whole_text n))) 5 ≡ Some n
 position-in-value n l h = let p = position-said n in rw (p.0, p.1) (position-back n l h)
 
 -- ---- some amounts

@@ -15,7 +15,7 @@ use Rattle.lists.proofs.Cases.{bool_cases, past-cond, both_true, never}
 use Rattle.characters.specs.References.{digit}
 use Rattle.numbers.specs.Digits.{digits, number_from, nothing_left, only_digits}
 use Rattle.numbers.specs.Amount.{minus, unsigned, fraction_form, unsigned_form, written_amount, filled, thousandths, signed, amount_of}
-use Rattle.numbers.specs.declared.Amount.TheVariants.{Thousandths}
+use Rattle.std.specs.Prelude.{Some}
 use Rattle.numbers.proofs.Reading.{digit-range, digits-none}
 use Rattle.amounts.specs.Texts.{pointed}
 use Rattle.amounts.specs.Shortest.{whole_digits, fraction_digits}
@@ -116,7 +116,7 @@ module _ {w f : List ℕ} (p : Parts w f) where
       let e = all-counted 3 f p.after p.few in
       rw (unsigned_is b, take-is, drop-is, pointed-drop f, e, take-length f) (worth-after (number_from 0 w) f p.few)
 
-  pub amount-is : (b : Bool) → amount_of (shape b w f) ≡ Thousandths (signed b (number_from 0 w * 1000 + worth f))
+  pub amount-is : (b : Bool) → amount_of (shape b w f) ≡ Some (signed b (number_from 0 w * 1000 + worth f))
   unfolding amount_of
   amount-is b = rw (written_is b, minus_is b, value-is b)
 

@@ -6,6 +6,7 @@ use mathlib.Core.Bool.{true}
 use mathlib.Core.Logic.{⊎_elim}
 use lib.Dec.{eqb}
 use lib.ListN.{length, drop, get_or-eq_default}
+use Rattle.std.specs.Prelude.{Option, Some, None}
 use Rattle.lists.proofs.Cases.{bool_cases, by_cond, past-cond, leb-cases, zero-not-one}
 use Rattle.slices.specs.Bytes.{byte}
 use Rattle.slices.specs.Run.{run}
@@ -13,8 +14,6 @@ use Rattle.attributes.specs.Names.{name_start, name_byte, white}
 use Rattle.attributes.specs.Attribute.{quote, opening, value, attribute_end, attribute_quote, attribute_name, attribute, piece_after, piece}
 use Rattle.attributes.specs.declared.Piece.{Piece}
 use Rattle.attributes.specs.declared.Piece.TheVariants.{Attribute, Close, CloseEmpty, Torn}
-use Rattle.attributes.specs.declared.Value.{Value}
-use Rattle.attributes.specs.declared.Value.TheVariants.{Long, Broken}
 
 module _ (a l v m k : ℕ) where
   not-close : (n : ℕ) → Close n ≡ Attribute a l v m k → ⊥
@@ -26,10 +25,10 @@ module _ (a l v m k : ℕ) where
   not-torn : Torn ≡ Attribute a l v m k → ⊥
   not-torn e = zero-not-one (cc)
 
-  end-name : (w n o : ℕ) (x : Value) → attribute_end w n o x ≡ Attribute a l v m k → (w ≡ a) × (n ≡ l)
+  end-name : (w n o : ℕ) (x : Option ℕ) → attribute_end w n o x ≡ Attribute a l v m k → (w ≡ a) × (n ≡ l)
   unfolding attribute_end
-  end-name w n o (Long j) e = ((cc), (cc))
-  end-name w n o Broken e = absurd (not-torn e)
+  end-name w n o (Some j) e = ((cc), (cc))
+  end-name w n o None e = absurd (not-torn e)
 
   quote-name : (t : List ℕ) (w n o : ℕ) → attribute_quote t w n o ≡ Attribute a l v m k → (w ≡ a) × (n ≡ l)
   unfolding attribute_quote

@@ -8,6 +8,7 @@ use native.Mathlib.Omega.{arith}
 use lib.Dec.{eqb}
 use lib.ListN.{length, drop, take}
 use borrow.Author.Tests.{le-ltb, lt-ltb, ne_eqb, eqb-true}
+use Rattle.std.specs.Prelude.{Some}
 use Rattle.lists.proofs.Cases.{bool_cases, leb-cases, ltb-cases, eqb-cases, never, both_true}
 use Rattle.slices.specs.Bytes.{byte}
 use Rattle.slices.specs.Run.{run}
@@ -19,7 +20,6 @@ use Rattle.characters.specs.Says.{met}
 use Rattle.attributes.specs.Names.{name_start, name_byte, white}
 use Rattle.slices.specs.Part.{part_of}
 use Rattle.attributes.specs.Attribute.{quote, plain, value_next, value_over, value, opening_from, opening, attribute_end, attribute_quote, attribute_name, attribute, piece_after, piece}
-use Rattle.attributes.specs.declared.Value.TheVariants.{Long}
 use Rattle.attributes.specs.declared.Piece.TheVariants.{Attribute, Close, CloseEmpty}
 use Rattle.attributes.proofs.Values.{plain_step}
 use Rattle.attributes.specs.Short.{common, opens_v, v_upto, v_len}
@@ -55,7 +55,7 @@ unfolding plain
 quote-plain = refl
 
 -- common bytes up to a double quote are a value
-common-value : (u : List ℕ) (at : ℕ) → byte u (run common u) ≡ 0x22 → walk met (value_next 0x22) value_over at 0 u ≡ Long (at + run common u)
+common-value : (u : List ℕ) (at : ℕ) → byte u (run common u) ≡ 0x22 → walk met (value_next 0x22) value_over at 0 u ≡ Some (at + run common u)
 unfolding byte walk
 common-value [] at e = absurd (omega (arith, e))
 common-value (b ∷ t) at e =
@@ -65,12 +65,12 @@ common-value (b ∷ t) at e =
     let n : run common (b ∷ t) ≡ suc (run common t) = run_by common b t y in
     let step : value_next 0x22 at (met (b ∷ t)) ≡ go 1 (at + 1) =
     plain_step 0x22 at (b ∷ t) (common-plain b y) ∙ rw (ne_eqb b 0x22 (λ z. omega (arith, i.0, z))) in
-    rw (walk, step) (common-value t (at + 1) (rw n at e) ∙ ap Long (rw n (omega arith))))
+    rw (walk, step) (common-value t (at + 1) (rw n at e) ∙ ap Some (rw n (omega arith))))
     (λ d.
     let n : run common (b ∷ t) ≡ 0 = run_by common b t d in
     let q : b ≡ 0x22 = rw n at e in
-    let step : value_next 0x22 at (met (b ∷ t)) ≡ stop (Long at) = plain_step 0x22 at (b ∷ t) (rw q quote-plain) ∙ rw q in
-    rw (walk, step) (ap Long (rw n (omega arith))))
+    let step : value_next 0x22 at (met (b ∷ t)) ≡ stop (Some at) = plain_step 0x22 at (b ∷ t) (rw q quote-plain) ∙ rw q in
+    rw (walk, step) (ap Some (rw n (omega arith))))
     (bool_cases (common b))
 
 -- the bytes of ` v="`, one by one
@@ -113,7 +113,7 @@ v-piece t {r} e h =
     let u = upto t e h in
     let n = run common (drop 4 t) in
     let q : byte (drop 4 t) n ≡ 0x22 = byte-drop t 4 n ∙ ap (byte t) (omega arith) ∙ u.1 in
-    let v : value 0x22 (drop 4 t) ≡ Long n = common-value (drop 4 t) 0 q ∙ ap Long (omega arith) in
+    let v : value 0x22 (drop 4 t) ≡ Some n = common-value (drop 4 t) 0 q ∙ ap Some (omega arith) in
     let a : n ≡ r - 1 = omega (arith, u.2) in
     let b : 4 + n + 1 ≡ r + 4 = omega (arith, u.2) in
     ap piece (opens t u.0) ∙ opened (drop 4 t) ∙ ap (attribute_end 1 1 4) v ∙ ap (λ (k : ℕ). Attribute 1 1 4 k (4 + n + 1)) a ∙ ap (Attribute 1 1 4 (r - 1)) b

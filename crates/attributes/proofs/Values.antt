@@ -3,26 +3,23 @@ use Prim.Native.Nat.{ℕ, ◌+◌, ◌-◌, ◌≤◌, ◌<◌}
 use mathlib.Core.Path.{◌≡◌, refl, sym, ap, ◌∙◌}
 use mathlib.Core.List.{List}
 use mathlib.Core.Bool.{Bool, true, false, cond}
-use mathlib.Core.Logic.{◌⊎◌, inl, inr, ⊎_elim}
+use mathlib.Core.Logic.{⊎_elim}
 use native.Mathlib.Omega.{arith}
 use lib.Dec.{eqb, ltb}
 use lib.ListN.{length, take, drop, get_or}
 use lib.Seq.{drop-cons}
-use borrow.Author.Tests.{le-leb, lt-leb, lt-ltb, le-ltb, eq-eqb, ne_eqb, eqb-true, eqb-false, ltb-true, ltb-false}
-use Rattle.lists.proofs.Cases.{bool_cases, ltb-cases, eqb-cases, past-cond, never}
+use borrow.Author.Tests.{le-leb, lt-leb, lt-ltb, eq-eqb, ne_eqb, eqb-true, eqb-false, ltb-true, ltb-false}
+use Rattle.std.specs.Prelude.{Option, Some, None}
+use Rattle.lists.proofs.Cases.{ltb-cases, eqb-cases, past-cond, never}
 use Rattle.lists.proofs.Loans.{rest_part}
 use Rattle.slices.specs.Bytes.{byte}
-use Rattle.slices.specs.Walk.{WalkStep, go, stop}
+use Rattle.slices.specs.Walk.{go, stop}
 use Rattle.characters.specs.Utf8.{control, single, char_at}
 use Rattle.characters.specs.References.{reference_at}
-use Rattle.characters.specs.Says.{Met, referred, standing, met}
-use Rattle.characters.specs.declared.Char.{Char}
-use Rattle.characters.specs.declared.Char.TheVariants.{Is, NoChar}
+use Rattle.characters.specs.Says.{referred, standing, met}
 use Rattle.characters.proofs.Ascii.{char-ascii, char-printed}
 use Rattle.characters.proofs.Low.{char-low}
 use Rattle.attributes.specs.Attribute.{quote, fit, standing_next, referred_next, value_next, plain, longer}
-use Rattle.attributes.specs.declared.Value.{Value}
-use Rattle.attributes.specs.declared.Value.TheVariants.{Long, Broken}
 
 -- ---- what is met
 
@@ -57,7 +54,7 @@ plain-range b e =
     let amp = past-cond (eqb b 0x26) (λ z. never z) lt.1 in
     (ltb-false b 0x20 low.0, ltb-true b 0x80 amp.1, eqb-false b 0x3C lt.0, eqb-false b 0x26 amp.0)
 
-pub plain_step : (q at : ℕ) (s : List ℕ) → plain (byte s 0) ≡ true → value_next q at (met s) ≡ cond (eqb (byte s 0) q) (stop (Long at)) (go 1 (at + 1))
+pub plain_step : (q at : ℕ) (s : List ℕ) → plain (byte s 0) ≡ true → value_next q at (met s) ≡ cond (eqb (byte s 0) q) (stop (Some at)) (go 1 (at + 1))
 unfolding value_next standing_next
 plain_step q at s p =
     let r = plain-range (byte s 0) p in
@@ -66,7 +63,7 @@ plain_step q at s p =
 -- ---- any other
 
 -- a byte below 80 that is neither plain nor `&`
-broken-step : (q at b : ℕ) → b < 0x80 → (b ≡ 0x26 → ⊥) → plain b ≡ false → standing_next q at (single b) ≡ stop Broken
+broken-step : (q at b : ℕ) → b < 0x80 → (b ≡ 0x26 → ⊥) → plain b ≡ false → standing_next q at (single b) ≡ stop None
 unfolding plain single control fit standing_next
 broken-step q at b high amp p =
     ⊎_elim
@@ -96,9 +93,9 @@ high-step : (q at : ℕ) (s : List ℕ) → quote q ≡ true → 0x80 ≤ byte s
 unfolding standing_next referred_next
 high-step q at s quotes high = by (char_at s) refl
   where
-    by : (x : Char) → char_at s ≡ x → standing_next q at x ≡ referred_next at x
-    by NoChar e = refl
-    by (Is c n) e =
+    by : (x : Option (ℕ × ℕ)) → char_at s ≡ x → standing_next q at x ≡ referred_next at x
+    by None e = refl
+    by (Some (c, n)) e =
         let r = quote-range q quotes in
         let l : 0x80 ≤ c = ⊎_elim (λ y. let z = (char-low s e y.0).0 in absurd (omega (arith, z, y.0))) (λ y. y.0) (ltb-cases c 0x80) in
         rw (fit-other c (omega arith) (λ z. omega (arith, z)), ne_eqb c q (λ z. omega (arith, z, r.1)))
@@ -128,9 +125,9 @@ module _ (q at : ℕ) (s : List ℕ) (i : ℕ) (h : i < length s) {t : Bool} (e 
   told : (u : Bool) → t ≡ u → plain (byte there 0) ≡ u
   told u y = ap plain (front-byte s i h) ∙ sym e ∙ y
 
-  pub plain_here : t ≡ true → value_next q at (met there) ≡ cond (eqb (get_or s i 0) q) (stop (Long at)) (go 1 (at + 1))
+  pub plain_here : t ≡ true → value_next q at (met there) ≡ cond (eqb (get_or s i 0) q) (stop (Some at)) (go 1 (at + 1))
   plain_here y = rw (← front-byte s i h) (plain_step q at there (told true y))
 
   -- x is what `longer_at` answered
-  pub longer-here : {x : Char} → quote q ≡ true → t ≡ false → x ≡ longer there → value_next q at (met there) ≡ referred_next at x
+  pub longer-here : {x : Option (ℕ × ℕ)} → quote q ≡ true → t ≡ false → x ≡ longer there → value_next q at (met there) ≡ referred_next at x
   longer-here quotes y f = longer-step q at there quotes (told false y) ∙ ap (referred_next at) (sym f)

@@ -1,16 +1,12 @@
 -- What stands in a tag after its name: white space, and then an attribute, `>` or `/>`.
-use Rattle.std.specs.Prelude.{ℕ, ◌+◌, List, Bool, true, false, cond, drop, eqb, ltb}
+use Rattle.std.specs.Prelude.{ℕ, ◌+◌, List, Bool, true, false, cond, drop, eqb, ltb, Option, Some, None}
 use Rattle.slices.specs.Bytes.{byte}
 use Rattle.slices.specs.Run.{run}
 use Rattle.slices.specs.Walk.{WalkStep, go, stop, walk}
 use Rattle.characters.specs.Utf8.{char_at}
 use Rattle.characters.specs.References.{reference_at}
 use Rattle.characters.specs.Says.{Met, referred, standing, met}
-use Rattle.characters.specs.declared.Char.{Char}
-use Rattle.characters.specs.declared.Char.TheVariants.{Is, NoChar}
 use Rattle.attributes.specs.Names.{name_start, name_byte, white}
-use Rattle.attributes.specs.declared.Value.{Value}
-use Rattle.attributes.specs.declared.Value.TheVariants.{Long, Broken}
 use Rattle.attributes.specs.declared.Piece.{Piece}
 use Rattle.attributes.specs.declared.Piece.TheVariants.{Attribute, Close, CloseEmpty, Torn}
 
@@ -23,22 +19,22 @@ unfoldable pub fit : ℕ → Bool
 fit c = cond (eqb c 0x3C) false (cond (eqb c 0x09) false (cond (eqb c 0x0A) false (cond (eqb c 0x0D) false true)))
 
 -- a value: characters that may stand in it, and references, up to the quote q. K4: "2 for any other reference", which makes the item unreadable
-unfoldable pub standing_next : ℕ → ℕ → Char → WalkStep ℕ Value
-standing_next q at (Is c n) = cond (fit c) (cond (eqb c q) (stop (Long at)) (go n (at + n))) (stop Broken)
-standing_next q at NoChar = stop Broken
+unfoldable pub standing_next : ℕ → ℕ → Option (ℕ × ℕ) → WalkStep ℕ (Option ℕ)
+standing_next q at (Some (c, n)) = cond (fit c) (cond (eqb c q) (stop (Some at)) (go n (at + n))) (stop None)
+standing_next q at None = stop None
 
-unfoldable pub referred_next : ℕ → Char → WalkStep ℕ Value
-referred_next at (Is c n) = go n (at + n)
-referred_next at NoChar = stop Broken
+unfoldable pub referred_next : ℕ → Option (ℕ × ℕ) → WalkStep ℕ (Option ℕ)
+referred_next at (Some (c, n)) = go n (at + n)
+referred_next at None = stop None
 
-unfoldable pub value_next : ℕ → ℕ → Met → WalkStep ℕ Value
+unfoldable pub value_next : ℕ → ℕ → Met → WalkStep ℕ (Option ℕ)
 value_next q at (referred x) = referred_next at x
 value_next q at (standing x) = standing_next q at x
 
-unfoldable pub value_over : ℕ → Value
-value_over at = Broken
+unfoldable pub value_over : ℕ → Option ℕ
+value_over at = None
 
-unfoldable pub value : ℕ → List ℕ → Value
+unfoldable pub value : ℕ → List ℕ → Option ℕ
 value q s = walk met (value_next q) value_over 0 0 s
 
 -- the place of the opening quote, after the name that ends before a, white space, `=` and white space; with no `=` it is 0, where a piece has white space and no quote
@@ -49,9 +45,9 @@ unfoldable pub opening : List ℕ → ℕ → ℕ
 opening s a = opening_from s (a + run white (drop a s))
 
 -- An attribute that starts w bytes on: a name of n bytes, `=`, a quoted value. o is the place of the opening quote.
-unfoldable pub attribute_end : ℕ → ℕ → ℕ → Value → Piece
-attribute_end w n v (Long m) = Attribute w n v m (v + m + 1)
-attribute_end w n v Broken = Torn
+unfoldable pub attribute_end : ℕ → ℕ → ℕ → Option ℕ → Piece
+attribute_end w n v (Some m) = Attribute w n v m (v + m + 1)
+attribute_end w n v None = Torn
 
 unfoldable pub attribute_quote : List ℕ → ℕ → ℕ → ℕ → Piece
 attribute_quote s w n o = cond (quote (byte s o)) (attribute_end w n (o + 1) (value (byte s o) (drop (o + 1) s))) Torn
@@ -73,9 +69,9 @@ unfoldable pub piece : List ℕ → Piece
 piece s = piece_after s (run white s)
 
 -- how far a value and a piece reach
-abbrev pub value_end : Value → ℕ
-value_end (Long m) = m
-value_end Broken = 0
+abbrev pub value_end : Option ℕ → ℕ
+value_end (Some m) = m
+value_end None = 0
 
 abbrev pub piece_use : Piece → ℕ
 piece_use (Attribute w n v m e) = e
@@ -97,5 +93,5 @@ unfoldable pub plain : ℕ → Bool
 plain b = cond (ltb b 0x20) false (cond (eqb b 0x3C) false (cond (eqb b 0x26) false (ltb b 0x80)))
 
 -- what stands at any other byte: a reference, a character of several bytes, or nothing that may
-unfoldable pub longer : List ℕ → Char
-longer s = cond (eqb (byte s 0) 0x26) (reference_at s) (cond (ltb (byte s 0) 0x80) NoChar (char_at s))
+unfoldable pub longer : List ℕ → Option (ℕ × ℕ)
+longer s = cond (eqb (byte s 0) 0x26) (reference_at s) (cond (ltb (byte s 0) 0x80) None (char_at s))

@@ -7,6 +7,7 @@ use mathlib.Core.Logic.{◌⊎◌, inl, inr, ⊎_elim}
 use native.Mathlib.Omega.{arith}
 use lib.ListN.{length, drop}
 use lib.Seq.{drop-drop, ext_get_or}
+use Rattle.std.specs.Prelude.{Result, Ok, Err}
 use Rattle.lists.proofs.Cases.{bool_cases, never}
 use Rattle.slices.specs.Bytes.{byte}
 use Rattle.items.specs.Item.{item, is_readable, item_end}
@@ -15,8 +16,6 @@ use Rattle.items.specs.declared.Item.{Item}
 use Rattle.items.specs.declared.Item.TheVariants.{Start, Empty, End, Text, Comment, Unreadable}
 use Rattle.items.specs.declared.Tag.{Tag}
 use Rattle.prolog.specs.Prolog.{begin}
-use Rattle.prolog.specs.declared.Begin.{Begin}
-use Rattle.prolog.specs.declared.Begin.TheVariants.{From, Misdeclared}
 use Rattle.reader.specs.Items.{Placed, items_after, items_from}
 use Rattle.slices.proofs.Bytes.{byte-drop}
 use Rattle.digits.specs.Unseen.{Unseen}
@@ -170,19 +169,19 @@ module _ (name : List ℕ) where
 
 pub record SameItems (name : List ℕ) (R : List ℕ → List ℕ → Type 0) (x y : List ℕ) : Type 0 where
   pub from : ℕ
-  pub first : begin x ≡ From from
-  pub second : begin y ≡ From from
+  pub first : begin x ≡ Ok from
+  pub second : begin y ≡ Ok from
   pub items : Aligned name R x y (items_from x from) (items_from y from)
 
 pub aligned : (name : List ℕ) {R : List ℕ → List ℕ → Type 0} → Unseen R → (x y : List ℕ) → Replaced name R x y → (x ≡ y) ⊎ SameItems name R x y
 unfolding items_from InTagsAfter JoinsAfter byte
 aligned name {R} u x y d = by (begin x) refl
   where
-    by : (b : Begin) → begin x ≡ b → (x ≡ y) ⊎ SameItems name R x y
-    by (From n) e =
+    by : (b : Result ℕ ℕ) → begin x ≡ b → (x ≡ y) ⊎ SameItems name R x y
+    by (Ok n) e =
         let j : Joins name R y (items_from x n) = rw e at d.values in
         let differ : (p : ℕ) → n + 0 ≤ p → (byte x p ≡ byte y p) ⊎ InTags (InTag name) (items_from x n) p = λ p l. rw e at (d.places p) in
         let same = begin-same x y n d.long
         (λ i l. ⊎_elim (λ q. q) (λ z. let q = tags-from name (drop n x) 0 n i (rw e at z) in absurd (omega (arith, q, l))) (d.places i)) e in
         inr (record { from = n; first = e; second = same; items = align name u x y (drop n x) (drop n y) (long-drop x y n d.long) 0 n refl refl differ j })
-    by (Misdeclared q) e = inl (ext_get_or 0 x y d.long (λ i l. ⊎_elim (λ z. z) (λ z. absurd (rw e at z)) (d.places i)))
+    by (Err q) e = inl (ext_get_or 0 x y d.long (λ i l. ⊎_elim (λ z. z) (λ z. absurd (rw e at z)) (d.places i)))

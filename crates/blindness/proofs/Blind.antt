@@ -11,6 +11,7 @@ use lib.Dec.{eqb, ltb}
 use native.Mathlib.Nat.{le_refl}
 use lib.ListN.{length, get_or, drop, replicate, length-replicate, length-map, length-drop, get_or-map, get_or-eq_default}
 use borrow.Author.Tests.{eqb-true, eq-eqb, ltb-false}
+use Rattle.std.specs.Prelude.{Result, Ok, Err}
 use Rattle.lists.specs.Zeros.{zeros}
 use Rattle.slices.specs.Text.{text}
 use Rattle.lists.proofs.Cases.{bool_cases, leb-cases, ltb-cases}
@@ -22,8 +23,6 @@ use Rattle.trims.specs.Trim.{drop_lead, drop_trail, dropped}
 use Rattle.numbers.specs.Digits.{digits}
 use Rattle.numbers.specs.Amount.{minus, unsigned, unsigned_form, written_amount, amount_of}
 use Rattle.prolog.specs.Prolog.{begin}
-use Rattle.prolog.specs.declared.Begin.{Begin}
-use Rattle.prolog.specs.declared.Begin.TheVariants.{From, Misdeclared}
 use Rattle.tables.specs.Cells.{no_amounts}
 use Rattle.states.specs.Moves.{begun}
 use Rattle.states.specs.declared.Entry.TheVariants.{Amount}
@@ -65,13 +64,13 @@ unfolding unsourced
 none_said doc na = sym (map_same (amount_at doc) na absent (pos 0) (nothing_said doc))
 
 module _ (doc : List ℕ) (ns np na : ℕ) where
-  into-said : (b : Begin) → (read_after doc (blank ns np na) b).tables.amounts ≡ map (amount_at doc) (sources_from doc ns np na b)
+  into-said : (b : Result ℕ ℕ) → (read_after doc (blank ns np na) b).tables.amounts ≡ map (amount_at doc) (sources_from doc ns np na b)
   unfolding read_after sources_from items_from blank
-  into-said (From n) =
+  into-said (Ok n) =
       ap (λ (o : Out). o.tables.amounts) (items-read doc ns np na n)
       ∙ ap (λ (ams : List ℤ). (items_out doc ns np na n ams).tables.amounts) (none_said doc na)
       ∙ run-said doc (room_of ns np na) (items_from doc n) (parts-after doc (drop n doc) 0 n refl) begun (zeros ns) (zeros np) (unsourced na)
-  into-said (Misdeclared p) = none_said doc na
+  into-said (Err p) = none_said doc na
 
   -- on every refusal there are none
   chosen-said : (t : Bool) (a : Tables) (so : List Span) → a.amounts ≡ map (amount_at doc) so
@@ -115,7 +114,7 @@ room_fits ns np na = ⊎_elim (λ l. rw l.1 l.0) (λ l. rw l.1 (le_refl na)) (le
 
 module _ (doc : List ℕ) (ns np na : ℕ) where
   -- of a document that is accepted: its sources, and the number of its intervals
-  abbrev Sourced : Begin → Type 0
+  abbrev Sourced : Result ℕ ℕ → Type 0
   Sourced b =
       ((k : ℕ) → get_or (sources_from doc ns np na b) k absent ≡ get_or (qty_values_after doc b) k absent)
       × ((read_after doc (blank ns np na) b).found.intervals ≡ length (qty_values_after doc b))
@@ -124,10 +123,10 @@ module _ (doc : List ℕ) (ns np na : ℕ) where
   unfolding begun
   begun-low n few short = let cut = length-drop n doc in omega (arith, few, cut, short)
 
-  begin-sourced : length doc ≤ 1048576 → (b : Begin) → (read_after doc (blank ns np na) b).found.refusal ≡ 0 → Sourced b
+  begin-sourced : length doc ≤ 1048576 → (b : Result ℕ ℕ) → (read_after doc (blank ns np na) b).found.refusal ≡ 0 → Sourced b
   unfolding read_after sources_from qty_values_after unsourced items_from refused_at
-  begin-sourced short (Misdeclared p) e = absurd (omega (arith, e))
-  begin-sourced short (From n) e =
+  begin-sourced short (Err p) e = absurd (omega (arith, e))
+  begin-sourced short (Ok n) e =
       let few = items-few (drop n doc) 0 n in
       let r = order doc (room_of ns np na) (items_from doc n) begun (zeros ns) (zeros np) (no_amounts na) (unsourced na) 0
       (record {
@@ -137,7 +136,7 @@ module _ (doc : List ℕ) (ns np na : ℕ) where
         empty = λ j l. none-at na j;
       })
       (rw (items-read doc ns np na n) at e) in (
-        λ k. let z : 0 + k ≡ k = omega arith in ap (λ (m : ℕ). get_or (sources_from doc ns np na (From n)) m absent) (sym z) ∙ r.0.1 k,
+        λ k. let z : 0 + k ≡ k = omega arith in ap (λ (m : ℕ). get_or (sources_from doc ns np na (Ok n)) m absent) (sym z) ∙ r.0.1 k,
         ap (λ (o : Out). o.found.intervals) (items-read doc ns np na n) ∙ r.1 ∙ (let z : 0 + length (qty_values (items_from doc n)) ≡ length (qty_values (items_from doc n)) = omega arith in z),
       )
 

@@ -8,6 +8,7 @@ use native.Mathlib.Omega.{arith}
 use lib.Dec.{eqb}
 use lib.ListN.{length, get_or}
 use borrow.Author.Tests.{eq-eqb, ne_eqb, eqb-true, not-true}
+use Rattle.std.specs.Prelude.{Option, Some, None}
 use Rattle.lists.proofs.Cases.{bool_cases, by_cond, eqb-cases, zero-not-one}
 use Rattle.slices.specs.Same.{same}
 use Rattle.slices.proofs.Sames.{same_self, same-equal}
@@ -18,15 +19,13 @@ use Rattle.items.specs.declared.Tag.{Tag}
 use Rattle.items.specs.declared.Item.{Item}
 use Rattle.items.specs.declared.Item.TheVariants.{Start, Empty, End, Text, Comment, Unreadable}
 use Rattle.structure.specs.Rows.{name_of, ends_at_once, start_of, end_of, closes_document, over_of}
-use Rattle.structure.specs.declared.Due.{Due}
-use Rattle.structure.specs.declared.Due.TheVariants.{Row, NotDue}
 use Rattle.structure.proofs.Means.{start-means}
 use Rattle.columns.specs.Columns.{form_of, role_of}
 use Rattle.guideline.specs.Kinds.{is_kind}
 use Rattle.guideline.specs.Rows.{beschaffungsanforderung, kostenblatt, network_constraint_document, rows_of}
 use Rattle.guideline.proofs.Each.{of-table}
 use Rattle.guideline.proofs.Roots.{no_start, no_end}
-use Rattle.rules.specs.declared.Judged.{Judged}
+use Rattle.rules.specs.Judged.{Judged}
 use Rattle.states.specs.Moves.{begun, cut_short, start_judged, at_row, one_series, one_interval, one_original, last_pos, covering, kept, entered, entry_of, started_by, started_at, started, closed_at, end_refusal, after_end_at, after_end, moved, root_kind, kind_told, step}
 use Rattle.states.specs.Constraints.{noticed}
 use Rattle.states.specs.declared.State.{State}
@@ -34,8 +33,7 @@ use Rattle.states.specs.declared.Seen.{Seen}
 use Rattle.states.specs.declared.Room.{Room}
 use Rattle.states.specs.declared.Entry.{Entry}
 use Rattle.states.specs.declared.Entry.TheVariants.{Nothing, Amount}
-use Rattle.states.specs.declared.Step.{Step}
-use Rattle.states.specs.declared.Step.TheVariants.{Next, Refused}
+use Rattle.states.specs.Step.{Step, Next, Refused}
 use Rattle.states.proofs.Judgements.{judged-passed, interval-room, one-more}
 use Rattle.blindness.specs.Readable.{tag_named, named_qty}
 use Rattle.blindness.proofs.Names.{name-one}
@@ -137,7 +135,7 @@ role-told kind n r e =
 -- ---- a start tag, or the start in an empty one
 
 -- the row that it takes is one of the table's
-row_inside : (rows : List ℕ) (r : ℕ) (o : Bool) (name q : ℕ) → start_of rows r o name ≡ Row q → q < length rows
+row_inside : (rows : List ℕ) (r : ℕ) (o : Bool) (name q : ℕ) → start_of rows r o name ≡ Some q → q < length rows
 row_inside rows r true name q e = (start-means rows r name q true e).1.within
 row_inside rows r false name q e =
     let d = start-means rows r name q false e in ⊎_elim (λ g. rw g.itself d.0) (λ g. g.1.within) d.1
@@ -196,7 +194,7 @@ module _ (x : State) (kind : ℕ) (room : Room) (c : ℕ)
         }
 
   start-good : (t : Tag) (s : List ℕ) (empty : Bool) (b : Bool) → b ≡ same (part_of s 1 t.name) (text "Qty")
-      → ((q : ℕ) → start_of (rows_of kind) x.row x.inside (element_no (part_of s 1 t.name)) ≡ Row q → kind ≡ 0 → ⊥)
+      → ((q : ℕ) → start_of (rows_of kind) x.row x.inside (element_no (part_of s 1 t.name)) ≡ Some q → kind ≡ 0 → ⊥)
       → Good c room x.intervals b (started x kind (rows_of kind) (element_no (part_of s 1 t.name)) t s empty room)
   unfolding started started_at started_by Good entered
   start-good t s empty b eb root = by (start_of (rows_of kind) x.row x.inside name) refl
@@ -204,10 +202,10 @@ module _ (x : State) (kind : ℕ) (room : Room) (c : ℕ)
       name : ℕ
       name = element_no (part_of s 1 t.name)
 
-      by : (d : Due) → start_of (rows_of kind) x.row x.inside (element_no (part_of s 1 t.name)) ≡ d
+      by : (d : Option ℕ) → start_of (rows_of kind) x.row x.inside (element_no (part_of s 1 t.name)) ≡ d
           → Good c room x.intervals b (started_at x kind (rows_of kind) t s empty room d)
-      by NotDue z = λ e. omega (arith, e)
-      by (Row q) z =
+      by None z = λ e. omega (arith, e)
+      by (Some q) z =
           let rows = rows_of kind in
           let w = get_or rows q 0 in
           let l = row_inside rows x.row x.inside (element_no (part_of s 1 t.name)) q z in
@@ -236,12 +234,12 @@ end-good : (x : State) (room : Room) (c : ℕ) → Counted c room x → (name : 
 unfolding after_end after_end_at closed_at Good is_kind
 end-good x room c k name = by (end_of (rows_of x.kind) x.row x.inside name) refl
   where
-    rooted : (q : ℕ) → end_of (rows_of x.kind) x.row x.inside name ≡ Row q → x.kind ≡ 0 → q ≡ 0
-    rooted q z e = let u : NotDue ≡ Row q = sym (no_end 0 refl x.row x.inside name) ∙ rw e at z in absurd (zero-not-one (cc))
+    rooted : (q : ℕ) → end_of (rows_of x.kind) x.row x.inside name ≡ Some q → x.kind ≡ 0 → q ≡ 0
+    rooted q z e = let u : None ≡ Some q = sym (no_end 0 refl x.row x.inside name) ∙ rw e at z in absurd (zero-not-one (cc))
 
-    by : (d : Due) → end_of (rows_of x.kind) x.row x.inside name ≡ d → Good c room x.intervals false (after_end_at x (rows_of x.kind) d)
-    by NotDue z = λ e. omega (arith, e)
-    by (Row q) z =
+    by : (d : Option ℕ) → end_of (rows_of x.kind) x.row x.inside name ≡ d → Good c room x.intervals false (after_end_at x (rows_of x.kind) d)
+    by None z = λ e. omega (arith, e)
+    by (Some q) z =
         ⊎_elim
         (λ y. rw y.1
         (record {
@@ -281,9 +279,9 @@ module _ (x : State) (room : Room) (c : ℕ) (k : Counted c room x) (low : x.int
       (k.count ∙ ap (λ (b : Bool). c + to_come b) (sym (same-waits x k.root (kind_told x i s) (kind-same x i s))))
       k.fits low t s empty (same (part_of s 1 t.name) (text "Qty")) refl none
     where
-      none : (q : ℕ) → start_of (rows_of (kind_told x i s)) x.row x.inside (element_no (part_of s 1 t.name)) ≡ Row q → kind_told x i s ≡ 0 → ⊥
+      none : (q : ℕ) → start_of (rows_of (kind_told x i s)) x.row x.inside (element_no (part_of s 1 t.name)) ≡ Some q → kind_told x i s ≡ 0 → ⊥
       none q z e =
-          let u : NotDue ≡ Row q = sym (no_start 0 refl x.row x.inside (element_no (part_of s 1 t.name))) ∙ rw e at z in
+          let u : None ≡ Some q = sym (no_start 0 refl x.row x.inside (element_no (part_of s 1 t.name))) ∙ rw e at z in
           zero-not-one (cc)
 
   kind-end : (i : Item) → root_kind i s ≡ 0 → kind_told x i s ≡ x.kind
@@ -325,9 +323,9 @@ pub over-waits : (x : State) → over_of (rows_of x.kind) x.row x.inside ≡ tru
 unfolding over_of closes_document
 over-waits x h = by (end_of (rows_of x.kind) x.row x.inside 255) refl h
   where
-    by : (d : Due) → end_of (rows_of x.kind) x.row x.inside 255 ≡ d → closes_document d ≡ true → waiting x ≡ false
-    by (Row q) z t =
+    by : (d : Option ℕ) → end_of (rows_of x.kind) x.row x.inside 255 ≡ d → closes_document d ≡ true → waiting x ≡ false
+    by (Some q) z t =
         let e : q ≡ 0 = eqb-true q 0 t in
         let w = end-waits (rows_of x.kind) (all_tested x.kind) x.row x.inside 255 q z in
         sym (rw e at w) ∙ root-waits x.kind false
-    by NotDue z t = absurd (zero-not-one (cc))
+    by None z t = absurd (zero-not-one (cc))

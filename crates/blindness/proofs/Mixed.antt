@@ -7,6 +7,7 @@ use mathlib.Core.Bool.{Bool, true, false, cond}
 use mathlib.Core.Logic.{◌⊎◌, inl, inr, ⊎_elim}
 use native.Mathlib.Omega.{arith}
 use lib.ListN.{length, drop, length-take}
+use Rattle.std.specs.Prelude.{Result, Ok, Err}
 use Rattle.lists.proofs.Cases.{bool_cases, by_cond, leb-cases, ltb-cases, never}
 use Rattle.slices.specs.Bytes.{byte}
 use Rattle.slices.specs.Part.{part_of}
@@ -20,8 +21,6 @@ use Rattle.items.specs.declared.Item.{Item}
 use Rattle.items.specs.declared.Item.TheVariants.{Start, Empty, End, Text, Comment, Unreadable}
 use Rattle.items.specs.Item.{is_readable}
 use Rattle.prolog.specs.Prolog.{begin}
-use Rattle.prolog.specs.declared.Begin.{Begin}
-use Rattle.prolog.specs.declared.Begin.TheVariants.{From, Misdeclared}
 use Rattle.characters.specs.References.{digit}
 use Rattle.reader.specs.Items.{Placed, items_after, items_from}
 use Rattle.digits.specs.Items.{InSpan, InV, JoinsV, value_in}
@@ -112,10 +111,10 @@ tags-told (x ∷ xs) p =
     (bool_cases (is_readable x.item)))
     (here-told x p)
 
-after-told : (doc : List ℕ) (b : Begin) (p : ℕ) → Told (InTagsAfter InQty doc b p)
+after-told : (doc : List ℕ) (b : Result ℕ ℕ) (p : ℕ) → Told (InTagsAfter InQty doc b p)
 unfolding InTagsAfter
-after-told doc (From n) p = tags-told (items_from doc n) p
-after-told doc (Misdeclared q) p = inr (λ h. h)
+after-told doc (Ok n) p = tags-told (items_from doc n) p
+after-told doc (Err q) p = inr (λ h. h)
 
 told : {A : Type 0} → Told A → Bool
 told (inl a) = true
@@ -129,10 +128,10 @@ unfolding InTags
 tags-qty [] p h = h
 tags-qty (x ∷ xs) p h = ⊎_elim (λ z. inl (z.0, z.1, z.2.0)) (λ z. inr (z.0, tags-qty xs p z.1)) h
 
-after-qty : (doc : List ℕ) (b : Begin) (p : ℕ) → InTagsAfter InQty doc b p → InTagsAfter (InTag (text "Qty")) doc b p
+after-qty : (doc : List ℕ) (b : Result ℕ ℕ) (p : ℕ) → InTagsAfter InQty doc b p → InTagsAfter (InTag (text "Qty")) doc b p
 unfolding InTagsAfter
-after-qty doc (From n) p h = tags-qty (items_from doc n) p h
-after-qty doc (Misdeclared q) p h = h
+after-qty doc (Ok n) p h = tags-qty (items_from doc n) p h
+after-qty doc (Err q) p h = h
 
 byte-part : (s : List ℕ) (v : Span) (j : ℕ) → j < v.len → byte (value_in s v) j ≡ byte s (v.start + j)
 unfolding part_of
@@ -213,10 +212,10 @@ module _ (x y : List ℕ) (long : length x ≡ length y) where
     λ z. joins t (pred (item_end (item at (b ∷ t)))) (suc at) (tail_of x at b t e) (behind at b t e d),
   )
 
-  joins_after : (b : Begin) → ((p : ℕ) → Apart (InTagsAfter InQty x b p) p) → JoinsAfter (text "Qty") (AlikeFrom false) x y b
+  joins_after : (b : Result ℕ ℕ) → ((p : ℕ) → Apart (InTagsAfter InQty x b p) p) → JoinsAfter (text "Qty") (AlikeFrom false) x y b
   unfolding JoinsAfter InTagsAfter items_from
-  joins_after (From n) d = joins (drop n x) 0 n refl (λ p l. d p)
-  joins_after (Misdeclared q) d = tt
+  joins_after (Ok n) d = joins (drop n x) 0 n refl (λ p l. d p)
+  joins_after (Err q) d = tt
 
   replaced : ((p : ℕ) → Apart (InTagsAfter InQty x (begin x) p) p) → Replaced (text "Qty") (AlikeFrom false) x y
   replaced d =

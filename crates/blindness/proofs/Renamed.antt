@@ -7,6 +7,7 @@ use mathlib.Core.Bool.{Bool, true, false, cond}
 use mathlib.Core.Logic.{◌⊎◌, inl, inr, ⊎_elim}
 use native.Mathlib.Omega.{arith}
 use lib.ListN.{length, drop, get_or}
+use Rattle.std.specs.Prelude.{Result, Ok, Err}
 use Rattle.lists.proofs.Cases.{bool_cases, never, zero-not-one}
 use Rattle.slices.specs.Part.{part_of}
 use Rattle.slices.specs.Same.{same}
@@ -21,8 +22,6 @@ use Rattle.items.specs.Parts.{span_of}
 use Rattle.items.specs.declared.Item.{Item}
 use Rattle.items.specs.declared.Item.TheVariants.{Start, Empty, End, Text, Comment, Unreadable}
 use Rattle.prolog.specs.Prolog.{begin}
-use Rattle.prolog.specs.declared.Begin.{Begin}
-use Rattle.prolog.specs.declared.Begin.TheVariants.{From, Misdeclared}
 use Rattle.structure.specs.Rows.{name_of}
 use Rattle.columns.specs.Columns.{form_of, collapsed, role_of}
 use Rattle.guideline.specs.Rows.{beschaffungsanforderung, kostenblatt, network_constraint_document, rows_of}
@@ -88,10 +87,10 @@ module _ (name : List ℕ) where
       (λ z. inr (z.0, in-tags xs v z.1 p h))
       (one_of x xs v m)
 
-  in_after : (doc : List ℕ) (b : Begin) (v : Span) → OneSpan v (values_named_after name doc b) → (p : ℕ) → InSpan p v → InTagsAfter (InTag name) doc b p
+  in_after : (doc : List ℕ) (b : Result ℕ ℕ) (v : Span) → OneSpan v (values_named_after name doc b) → (p : ℕ) → InSpan p v → InTagsAfter (InTag name) doc b p
   unfolding values_named_after InTagsAfter
-  in_after doc (From n) v m p h = in-tags (items_from doc n) v m p h
-  in_after doc (Misdeclared q) v m p h = absurd m
+  in_after doc (Ok n) v m p h = in-tags (items_from doc n) v m p h
+  in_after doc (Err q) v m p h = absurd m
 
   -- R joins what stands in x at each of these places to what stands there in y
   module _ (R : List ℕ → List ℕ → Type 0) (x y : List ℕ) where
@@ -113,10 +112,10 @@ module _ (name : List ℕ) where
       λ e. joins xs h.1 (λ v m. f v (later-one p xs v e m)),
     )
 
-    joins_after : (b : Begin) → ((v : Span) → OneSpan v (values_named_after name x b) → R (quoted v x) (quoted v y)) → JoinsAfter name R x y b
+    joins_after : (b : Result ℕ ℕ) → ((v : Span) → OneSpan v (values_named_after name x b) → R (quoted v x) (quoted v y)) → JoinsAfter name R x y b
     unfolding values_named_after JoinsAfter items_from
-    joins_after (From n) f = joins (items_from x n) (parts-after x (drop n x) 0 n refl) f
-    joins_after (Misdeclared q) f = tt
+    joins_after (Ok n) f = joins (items_from x n) (parts-after x (drop n x) 0 n refl) f
+    joins_after (Err q) f = tt
 
 -- ---- the rows of a TimeSeriesIdentification
 

@@ -16,8 +16,7 @@ use Rattle.states.specs.declared.State.{State}
 use Rattle.states.specs.declared.Room.{Room}
 use Rattle.states.specs.declared.Entry.{Entry}
 use Rattle.states.specs.declared.Entry.TheVariants.{Nothing, Series, Identification, Object, BusinessType, Direction, Area, Interval, Position, Amount}
-use Rattle.states.specs.declared.Step.{Step}
-use Rattle.states.specs.declared.Step.TheVariants.{Next, Refused}
+use Rattle.states.specs.Step.{Step, Next, Refused}
 use Rattle.reader.specs.Items.{Placed, items_after}
 use Rattle.reader.specs.Rows.{brought_by, quoted, amounts_with, series_after, positions_after, amounts_after, used_before}
 use Rattle.reader.specs.Reading.{tab, Out, without_used, step_of, tables_after, read_items}

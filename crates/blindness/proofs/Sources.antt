@@ -4,19 +4,18 @@ use mathlib.Core.List.{List, [], ◌∷◌}
 use mathlib.Core.Bool.{cond}
 use lib.ListN.{set, replicate}
 use lib.Dec.{eqb}
+use Rattle.std.specs.Prelude.{Result, Ok, Err}
 use Rattle.items.specs.Parts.{span_of}
 use Rattle.lists.specs.Zeros.{zeros}
 use Rattle.tags.specs.Known.{absent}
 use Rattle.slices.specs.declared.Span.{Span}
 use Rattle.prolog.specs.Prolog.{begin}
-use Rattle.prolog.specs.declared.Begin.{Begin}
-use Rattle.prolog.specs.declared.Begin.TheVariants.{From, Misdeclared}
 use Rattle.states.specs.Moves.{begun}
 use Rattle.states.specs.declared.State.{State}
 use Rattle.states.specs.declared.Room.{Room}
 use Rattle.states.specs.declared.Entry.{Entry}
 use Rattle.states.specs.declared.Entry.TheVariants.{Nothing, Series, Identification, Object, BusinessType, Direction, Area, Interval, Position, Amount}
-use Rattle.states.specs.declared.Step.TheVariants.{Next, Refused}
+use Rattle.states.specs.Step.{Next, Refused}
 use Rattle.notes.specs.declared.Shape.{Shape}
 use Rattle.reader.specs.Items.{Placed, items_from}
 use Rattle.reader.specs.Rows.{series_after}
@@ -48,9 +47,9 @@ sources_in doc room (x ∷ xs) st series t =
 unfoldable pub unsourced : ℕ → List Span
 unsourced na = replicate na absent
 
-unfoldable pub sources_from : List ℕ → ℕ → ℕ → ℕ → Begin → List Span
-sources_from doc ns np na (From n) = sources_in doc (room_of ns np na) (items_from doc n) begun (zeros ns) (unsourced na)
-sources_from doc ns np na (Misdeclared p) = unsourced na
+unfoldable pub sources_from : List ℕ → ℕ → ℕ → ℕ → Result ℕ ℕ → List Span
+sources_from doc ns np na (Ok n) = sources_in doc (room_of ns np na) (items_from doc n) begun (zeros ns) (unsourced na)
+sources_from doc ns np na (Err p) = unsourced na
 
 -- for tables of these lengths; on every refusal no cell has a source
 unfoldable pub source_table : List ℕ → ℕ → ℕ → ℕ → Shape → ℕ → List Span

@@ -8,6 +8,7 @@ use native.Mathlib.Omega.{arith}
 use lib.Dec.{eqb}
 use lib.ListN.{get_or}
 use borrow.Author.Tests.{eq-eqb, eqb-true, not-true}
+use Rattle.std.specs.Prelude.{Option, Some, None}
 use Rattle.lists.proofs.Cases.{by_cond, both_true, eqb-cases, never, zero-not-one}
 use Rattle.slices.specs.Same.{same}
 use Rattle.slices.specs.Text.{text}
@@ -18,8 +19,6 @@ use Rattle.items.specs.declared.Tag.{Tag}
 use Rattle.items.specs.declared.Item.{Item}
 use Rattle.items.specs.declared.Item.TheVariants.{Start, Empty, End, Text, Comment, Unreadable}
 use Rattle.structure.specs.Rows.{name_of, start_of, end_of}
-use Rattle.structure.specs.declared.Due.{Due}
-use Rattle.structure.specs.declared.Due.TheVariants.{Row, NotDue}
 use Rattle.structure.proofs.Means.{start-means}
 use Rattle.columns.specs.Columns.{form_of, collapsed, role_of}
 use Rattle.guideline.specs.Rows.{beschaffungsanforderung, kostenblatt, network_constraint_document, rows_of}
@@ -31,8 +30,7 @@ use Rattle.states.specs.declared.State.{State}
 use Rattle.states.specs.declared.Room.{Room}
 use Rattle.states.specs.declared.Entry.{Entry}
 use Rattle.states.specs.declared.Entry.TheVariants.{Nothing, Series, Identification, Object, BusinessType, Direction, Area, Interval, Position, Amount}
-use Rattle.states.specs.declared.Step.{Step}
-use Rattle.states.specs.declared.Step.TheVariants.{Next, Refused}
+use Rattle.states.specs.Step.{Step, Next, Refused}
 use Rattle.reader.specs.Rows.{quoted}
 use Rattle.characters.specs.Says.{says}
 use Rattle.trims.specs.Trim.{dropped}
@@ -45,7 +43,7 @@ use Rattle.blindness.proofs.Names.{name-one}
 use Rattle.blindness.proofs.Pairs.{TagSays, Says}
 
 -- the row that a start tag takes bears its name
-pub row-named : (rows : List ℕ) (r : ℕ) (o : Bool) (name q : ℕ) → start_of rows r o name ≡ Row q → name_of (get_or rows q 0) ≡ name
+pub row-named : (rows : List ℕ) (r : ℕ) (o : Bool) (name q : ℕ) → start_of rows r o name ≡ Some q → name_of (get_or rows q 0) ≡ name
 row-named rows r true name q e = (start-means rows r name q true e).1.named
 row-named rows r false name q e =
     ⊎_elim (λ g. rw g.itself g.named) (λ g. g.1.named) (start-means rows r name q false e).1
@@ -130,7 +128,7 @@ module _ (name : List ℕ) (R : List ℕ → List ℕ → Type 0) (brought : Ent
 
     module _ (x : State) (kind : ℕ) (empty : Bool) (room : Room) where
       -- the row that a tag of the name takes
-      row-blind : (r : ℕ) → start_of rows x.row x.inside (element_no (part_of s 1 t.name)) ≡ Row r → part_of s 1 t.name ≡ name → BlindRow (get_or rows r 0)
+      row-blind : (r : ℕ) → start_of rows x.row x.inside (element_no (part_of s 1 t.name)) ≡ Some r → part_of s 1 t.name ≡ name → BlindRow (get_or rows r 0)
       row-blind r q e = blind.each r (row-named rows x.row x.inside (element_no (part_of s 1 t.name)) r q ∙ ap element_no e)
 
       start-same : started x kind rows (element_no (part_of s 1 t.name)) t s empty room ≡ started x kind rows (element_no (part_of s' 1 t.name)) t s' empty room
@@ -139,19 +137,19 @@ module _ (name : List ℕ) (R : List ℕ → List ℕ → Type 0) (brought : Ent
           by (start_of rows x.row x.inside (element_no (part_of s 1 t.name))) refl
           ∙ ap (λ (n : List ℕ). started x kind rows (element_no n) t s' empty room) p.parts.name
         where
-          by : (d : Due) → start_of rows x.row x.inside (element_no (part_of s 1 t.name)) ≡ d
+          by : (d : Option ℕ) → start_of rows x.row x.inside (element_no (part_of s 1 t.name)) ≡ d
               → started_at x kind rows t s empty room d ≡ started_at x kind rows t s' empty room d
-          by (Row r) q = rw (judge-tag (get_or rows r 0) (held_of x kind) (row-blind r q))
-          by NotDue q = refl
+          by (Some r) q = rw (judge-tag (get_or rows r 0) (held_of x kind) (row-blind r q))
+          by None q = refl
 
       start-brings : part_of s 1 t.name ≡ name → Brings (started x kind rows (element_no (part_of s 1 t.name)) t s empty room)
       unfolding started started_at started_by Brings
       start-brings e = by (start_of rows x.row x.inside (element_no (part_of s 1 t.name))) refl
         where
-          by : (d : Due) → start_of rows x.row x.inside (element_no (part_of s 1 t.name)) ≡ d → Brings (started_at x kind rows t s empty room d)
-          by (Row r) q =
+          by : (d : Option ℕ) → start_of rows x.row x.inside (element_no (part_of s 1 t.name)) ≡ d → Brings (started_at x kind rows t s empty room d)
+          by (Some r) q =
               let j = start_judged x kind rows r t s empty room in by_cond Brings (eqb j.number 0) ((row-blind r q e).brings j.first) tt
-          by NotDue q = tt
+          by None q = tt
 
       -- the name of any other tag is not that of such a row
       start-other : (element_no name ≡ 0 → ⊥) → (part_of s 1 t.name ≡ name → ⊥)
@@ -159,24 +157,24 @@ module _ (name : List ℕ) (R : List ℕ → List ℕ → Type 0) (brought : Ent
       unfolding started started_at started_by Others
       start-other known h = by (start_of rows x.row x.inside (element_no (part_of s 1 t.name))) refl
         where
-          by : (d : Due) → start_of rows x.row x.inside (element_no (part_of s 1 t.name)) ≡ d → Others (started_at x kind rows t s empty room d)
-          by (Row r) q =
+          by : (d : Option ℕ) → start_of rows x.row x.inside (element_no (part_of s 1 t.name)) ≡ d → Others (started_at x kind rows t s empty room d)
+          by (Some r) q =
               let j = start_judged x kind rows r t s empty room in
               by_cond Others (eqb j.number 0)
               (λ z.
               let e = row-named rows x.row x.inside (element_no (part_of s 1 t.name)) r q in
               h (name-one (part_of s 1 t.name) name (sym e ∙ blind.alone r j.first z) known))
               tt
-          by NotDue q = tt
+          by None q = tt
 
   -- an end tag brings nothing
   end-other : (Nothing ≡ brought → ⊥) → (x : State) (rows : List ℕ) (n : ℕ) → Others (after_end x rows n)
   unfolding after_end after_end_at Others
   end-other some x rows n = by (end_of rows x.row x.inside n)
     where
-      by : (d : Due) → Others (after_end_at x rows d)
-      by (Row r) = by_cond Others (eqb (end_refusal x rows r) 0) some tt
-      by NotDue = tt
+      by : (d : Option ℕ) → Others (after_end_at x rows d)
+      by (Some r) = by_cond Others (eqb (end_refusal x rows r) 0) some tt
+      by None = tt
 
   module _ (kinds : BlindKinds) (x : State) (s s' : List ℕ) (room : Room) where
     abbrev stepped : Item → List ℕ → Step

@@ -8,12 +8,12 @@ use native.Mathlib.Omega.{arith}
 use lib.Dec.{eqb, ltb}
 use lib.ListN.{length, get_or}
 use borrow.Author.Tests.{eq-eqb, ne_eqb, lt-ltb, eqb-true, ltb-true, not-true}
+use Rattle.std.specs.Prelude.{Some}
 use Rattle.lists.proofs.Below.{every, below}
 use Rattle.lists.proofs.Cases.{eqb-cases, zero-not-one, both_true, where-true}
 use Rattle.slices.specs.Same.{same}
 use Rattle.elements.specs.Names.{names, number_in, element_no}
 use Rattle.structure.specs.Rows.{name_of, parent_of, required, repeated, ends_in, ends_at_once, start_of, end_of}
-use Rattle.structure.specs.declared.Due.TheVariants.{Row}
 use Rattle.structure.proofs.Means.{start-means, end-means}
 use Rattle.columns.specs.Columns.{role_of}
 use Rattle.guideline.specs.Rows.{beschaffungsanforderung, kostenblatt, network_constraint_document, rows_of}
@@ -107,7 +107,7 @@ module _ (rows : List ℕ) (pass : tested rows ≡ true) where
       (both_true (cond (eqb (parent_of (at q)) r) (due (role_of (at q)) (waits (at r) true)) true) (start-test r q l g)).1 (lt-ltb r q b))
       (eq-eqb (parent_of (at q)) (parent_of (at r)) e)
 
-  pub start-due : (r : ℕ) (o : Bool) (name q : ℕ) → start_of rows r o name ≡ Row q → due (role_of (at q)) (waits (at r) o) ≡ true
+  pub start-due : (r : ℕ) (o : Bool) (name q : ℕ) → start_of rows r o name ≡ Some q → due (role_of (at q)) (waits (at r) o) ≡ true
   start-due r true name q e =
       let d = start-means rows r name q true e in open-due r q d.0 d.1.within d.1.stands
   start-due r false name q e =
@@ -153,7 +153,7 @@ module _ (rows : List ℕ) (pass : tested rows ≡ true) where
   unmet r q f c =
       let z : ◌≡◌ {A = Bool} true false = sym f.2 ∙ c (r + 1) (omega arith) f.0 f.1 in zero-not-one (cc)
 
-  pub end-waits : (r : ℕ) (o : Bool) (name q : ℕ) → end_of rows r o name ≡ Row q → waits (at q) false ≡ waits (at r) o
+  pub end-waits : (r : ℕ) (o : Bool) (name q : ℕ) → end_of rows r o name ≡ Some q → waits (at q) false ≡ waits (at r) o
   end-waits r true name q e =
       let d = end-means rows r name q true e in
       ⊎_elim

@@ -7,10 +7,10 @@ use mathlib.Core.Logic.{⊎_elim}
 use lib.IntN.{ℤ, pos}
 use lib.Dec.{eqb, ltb}
 use lib.ListN.{length, length-replicate}
+use Rattle.std.specs.Prelude.{Ok}
 use Rattle.lists.specs.Zeros.{zeros}
 use Rattle.lists.proofs.Cases.{bool_cases}
 use Rattle.prolog.specs.Prolog.{begin}
-use Rattle.prolog.specs.declared.Begin.TheVariants.{From}
 use Rattle.tables.specs.Cells.{no_amounts}
 use Rattle.states.specs.Moves.{begun}
 use Rattle.states.specs.declared.Room.{Room}
@@ -101,7 +101,7 @@ module _ (name : List ℕ) (R : List ℕ → List ℕ → Type 0) (brought : Ent
 
   module _ (h : SameItems name R x y) where
     runs : Same (items_out x ns np na h.from (no_amounts na)) (items_out y ns np na h.from (no_amounts na))
-        × (sources_from x ns np na (From h.from) ≡ sources_from y ns np na (From h.from))
+        × (sources_from x ns np na (Ok h.from) ≡ sources_from y ns np na (Ok h.from))
     unfolding sources_from
     runs =
         let r = run-same name R brought rows x y shown (room_of ns np na) d.long h.items begun

@@ -1,6 +1,6 @@
 -- "Readable Qty digits: bytes `0` to `9` between the quotes of the attribute `v` in a start or empty tag named `Qty` that is itself readable and stands
 -- before the first unreadable item."
-use Rattle.std.specs.Prelude.{ℕ, ◌+◌, ◌-◌, ◌≡◌, List, [], ◌∷◌, Bool, true, false, ◌⊎◌, length}
+use Rattle.std.specs.Prelude.{ℕ, ◌+◌, ◌-◌, ◌≡◌, List, [], ◌∷◌, Bool, true, false, ◌⊎◌, length, Result, Ok, Err}
 use Rattle.slices.specs.Bytes.{byte}
 use Rattle.slices.specs.Same.{same}
 use Rattle.slices.specs.Text.{text}
@@ -10,8 +10,6 @@ use Rattle.items.specs.Parts.{span_of}
 use Rattle.items.specs.declared.Item.{Item}
 use Rattle.items.specs.declared.Item.TheVariants.{Start, Empty, End, Text, Comment, Unreadable}
 use Rattle.prolog.specs.Prolog.{begin}
-use Rattle.prolog.specs.declared.Begin.{Begin}
-use Rattle.prolog.specs.declared.Begin.TheVariants.{From, Misdeclared}
 use Rattle.characters.specs.References.{digit}
 use Rattle.reader.specs.Items.{Placed, items_from}
 use Rattle.digits.specs.Items.{InV, value_in}
@@ -36,9 +34,9 @@ InTags P [] p = ⊥
 InTags P (x ∷ xs) p = ((i : ℕ) × (p ≡ x.at + i) × P x.item x.rest i) ⊎ ((is_readable x.item ≡ true) × InTags P xs p)
 
 -- of the items of a document, of which there are none where the XML declaration is unreadable
-unfoldable pub InTagsAfter : (Item → List ℕ → ℕ → Type 0) → List ℕ → Begin → ℕ → Type 0
-InTagsAfter P doc (From n) p = InTags P (items_from doc n) p
-InTagsAfter P doc (Misdeclared q) p = ⊥
+unfoldable pub InTagsAfter : (Item → List ℕ → ℕ → Type 0) → List ℕ → Result ℕ ℕ → ℕ → Type 0
+InTagsAfter P doc (Ok n) p = InTags P (items_from doc n) p
+InTagsAfter P doc (Err q) p = ⊥
 
 abbrev pub named_qty : Item → List ℕ → Bool
 named_qty x s = tag_named (text "Qty") x s

@@ -1,14 +1,12 @@
 -- "Replace only the TimeSeriesIdentification values in tags before the first unreadable item, by a one-to-one rule over those in the document, each with
 -- the same number of bytes and characters, with values that before and after are legal XML characters in UTF-8 and hold no `&`, `<`, quote or control
 -- byte."
-use Rattle.std.specs.Prelude.{ℕ, ◌≡◌, List, [], ◌∷◌, cond, ◌⊎◌, length}
+use Rattle.std.specs.Prelude.{ℕ, ◌≡◌, List, [], ◌∷◌, cond, ◌⊎◌, length, Result, Ok, Err}
 use Rattle.slices.specs.Bytes.{byte}
 use Rattle.slices.specs.Text.{text}
 use Rattle.slices.specs.declared.Span.{Span}
 use Rattle.items.specs.Item.{is_readable}
 use Rattle.prolog.specs.Prolog.{begin}
-use Rattle.prolog.specs.declared.Begin.{Begin}
-use Rattle.prolog.specs.declared.Begin.TheVariants.{From, Misdeclared}
 use Rattle.reader.specs.Items.{Placed, items_from}
 use Rattle.reader.specs.Rows.{quoted}
 use Rattle.digits.specs.Items.{InSpan}
@@ -24,9 +22,9 @@ values_named name (x ∷ xs) =
     let rest = cond (is_readable x.item) (values_named name xs) [] in
     cond (tag_named name x.item x.rest) (value_at x ∷ rest) rest
 
-unfoldable pub values_named_after : List ℕ → List ℕ → Begin → List Span
-values_named_after name doc (From n) = values_named name (items_from doc n)
-values_named_after name doc (Misdeclared p) = []
+unfoldable pub values_named_after : List ℕ → List ℕ → Result ℕ ℕ → List Span
+values_named_after name doc (Ok n) = values_named name (items_from doc n)
+values_named_after name doc (Err p) = []
 
 -- "the TimeSeriesIdentification values in tags before the first unreadable item", due or not
 unfoldable pub identifications_in : List ℕ → List Span

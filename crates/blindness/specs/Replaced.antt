@@ -1,10 +1,8 @@
 -- A document y that is x with other values of `v` in the readable tags of one name.
-use Rattle.std.specs.Prelude.{ℕ, ◌≡◌, List, [], ◌∷◌, true, ◌⊎◌, length, drop}
+use Rattle.std.specs.Prelude.{ℕ, ◌≡◌, List, [], ◌∷◌, true, ◌⊎◌, length, drop, Result, Ok, Err}
 use Rattle.slices.specs.Bytes.{byte}
 use Rattle.items.specs.Item.{is_readable}
 use Rattle.prolog.specs.Prolog.{begin}
-use Rattle.prolog.specs.declared.Begin.{Begin}
-use Rattle.prolog.specs.declared.Begin.TheVariants.{From, Misdeclared}
 use Rattle.reader.specs.Items.{Placed, items_from}
 use Rattle.digits.specs.Items.{JoinsV}
 use Rattle.blindness.specs.Readable.{tag_named, InTag, InTagsAfter}
@@ -16,9 +14,9 @@ module _ (name : List ℕ) (R : List ℕ → List ℕ → Type 0) where
   Joins y (p ∷ xs) =
       (tag_named name p.item p.rest ≡ true → JoinsV R p.item p.rest (drop p.at y)) × (is_readable p.item ≡ true → Joins y xs)
 
-  unfoldable pub JoinsAfter : List ℕ → List ℕ → Begin → Type 0
-  JoinsAfter x y (From n) = Joins y (items_from x n)
-  JoinsAfter x y (Misdeclared q) = Unit {0}
+  unfoldable pub JoinsAfter : List ℕ → List ℕ → Result ℕ ℕ → Type 0
+  JoinsAfter x y (Ok n) = Joins y (items_from x n)
+  JoinsAfter x y (Err q) = Unit {0}
 
   pub record Replaced (x y : List ℕ) : Type 0 where
     pub long : length x ≡ length y

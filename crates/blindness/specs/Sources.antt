@@ -1,14 +1,12 @@
 -- Which Qty value says the amount in a cell of the amount table. "Intervals take one position and one amount at the same index. .. Rows come in document
 -- order.", and each Interval has one Qty: so row k has its amount from Qty number k of the document, both counted from 0.
-use Rattle.std.specs.Prelude.{ℕ, ◌+◌, List, [], ◌∷◌, cond, ℤ, eqb}
+use Rattle.std.specs.Prelude.{ℕ, ◌+◌, List, [], ◌∷◌, cond, ℤ, eqb, Result, Ok, Err}
 use Rattle.items.specs.Parts.{span_of}
 use Rattle.characters.specs.Says.{says}
 use Rattle.slices.specs.declared.Span.{Span}
 use Rattle.trims.specs.Trim.{dropped}
 use Rattle.numbers.specs.Amount.{amount_of}
 use Rattle.prolog.specs.Prolog.{begin}
-use Rattle.prolog.specs.declared.Begin.{Begin}
-use Rattle.prolog.specs.declared.Begin.TheVariants.{From, Misdeclared}
 use Rattle.notes.specs.declared.Shape.{Shape}
 use Rattle.reader.specs.Items.{Placed, items_from}
 use Rattle.reader.specs.Rows.{quoted, thousandths_of}
@@ -24,9 +22,9 @@ unfoldable pub qty_values : List Placed → List Span
 qty_values [] = []
 qty_values (x ∷ xs) = let rest = qty_values xs in cond (named_qty x.item x.rest) (value_at x ∷ rest) rest
 
-unfoldable pub qty_values_after : List ℕ → Begin → List Span
-qty_values_after doc (From n) = qty_values (items_from doc n)
-qty_values_after doc (Misdeclared p) = []
+unfoldable pub qty_values_after : List ℕ → Result ℕ ℕ → List Span
+qty_values_after doc (Ok n) = qty_values (items_from doc n)
+qty_values_after doc (Err p) = []
 
 -- the sources of the amounts of a document that is accepted; on every refusal there are none
 unfoldable pub sources_of : List ℕ → ℕ → ℕ → ℕ → Shape → ℕ → List Span

@@ -1,8 +1,8 @@
 -- Two values that say the same: the loop that compares them, and what their last bytes tell. Assumes nothing.
-use Prim.Native.Nat.{ℕ, zero, suc, pred, ◌+◌, ◌-◌, ◌≤◌, ◌<◌}
+use Prim.Native.Nat.{ℕ, zero, suc, pred, min, ◌+◌, ◌-◌, ◌≤◌, ◌<◌}
 use mathlib.Core.Path.{◌≡◌, refl, sym, ap, subst, ◌∙◌}
 use mathlib.Core.List.{List, [], ◌∷◌}
-use mathlib.Core.Bool.{Bool, true, false, cond, not}
+use mathlib.Core.Bool.{Bool, true, false, cond}
 use mathlib.Core.Logic.{⊎_elim}
 use native.Mathlib.Omega.{arith}
 use lib.Dec.{leb, eqb}
@@ -10,16 +10,14 @@ use native.Mathlib.Numerals.{add-one}
 use lib.ListN.{length, get_or, drop, drop_of_length-le, length-drop}
 use lib.Seq.{drop-cons, drop-drop}
 use borrow.Author.Tests.{le-leb, lt-leb, eq-eqb, ne_eqb, eqb-false}
-use Rattle.lists.proofs.Cases.{bool_cases, eqb-cases, ltb-cases, past-cond, never, zero-not-one}
+use Rattle.std.specs.Prelude.{Option, Some, None}
+use Rattle.lists.proofs.Cases.{bool_cases, eqb-cases, ltb-cases, past-cond, never, zero-not-one, leb-cases}
 use Rattle.slices.specs.Bytes.{byte}
 use Rattle.slices.specs.Same.{same}
 use Rattle.slices.proofs.Bytes.{byte-drop}
 use Rattle.slices.proofs.Sames.{same-equal}
 use Rattle.characters.specs.Says.{met, char_of, itself, own_byte, own_end, other_byte, ends_otherwise, own_len, said_by, said_at, says}
-use Rattle.characters.specs.declared.Said.{Said}
-use Rattle.characters.specs.declared.Said.TheVariants.{Says, Over}
-use Rattle.characters.specs.declared.Char.TheVariants.{Is, NoChar}
-use Rattle.characters.proofs.Units.{itself-range, met-itself, unit-last}
+use Rattle.characters.proofs.Units.{not-some, itself-range, met-itself, unit-last}
 use Rattle.characters.proofs.Saying.{says-char, says-over, says_none, said-end, said-by, said-not-over, said-there, Uttered, unit, stray, uttered, said-some-bytes, said-inside}
 
 -- ---- the loop: i bytes of the one and k of the other have said the same
@@ -33,23 +31,23 @@ module _ {a b : List ℕ} where
 
   module _ {i k : ℕ} (w : Abreast a b i k) where
     -- x is what the call on the rest of a answered, y that on the rest of b
-    module _ {x : Said} (h : i < length a) (e : x ≡ said_at (drop i a)) where
+    module _ {x : Option (ℕ × ℕ)} (h : i < length a) (e : x ≡ said_at (drop i a)) where
       more : 0 < length (drop i a)
       more = rw length-drop (omega arith)
 
-      pub abreast-never : x ≡ Over → ⊥
+      pub abreast-never : x ≡ None → ⊥
       abreast-never q = said-not-over (drop i a) more (sym e ∙ q)
 
-      module _ {c n : ℕ} (q : x ≡ Says c n) where
+      module _ {c n : ℕ} (q : x ≡ Some (c, n)) where
         first : says (drop i a) ≡ c ∷ says (drop (i + n) a)
         first = let m = said-some-bytes (drop i a) more (sym e ∙ q) in rw (← drop-drop n i a) (says-char (drop i a) c n more (sym e ∙ q) m)
 
-        module _ {y : Said} (f : y ≡ said_at (drop k b)) where
-          pub abreast-over : y ≡ Over → false ≡ same (says a) (says b)
+        module _ {y : Option (ℕ × ℕ)} (f : y ≡ said_at (drop k b)) where
+          pub abreast-over : y ≡ None → false ≡ same (says a) (says b)
           unfolding same
           abreast-over r = rw (first, says-over (drop k b) (sym f ∙ r)) at w.left
 
-          module _ {d m : ℕ} (r : y ≡ Says d m) where
+          module _ {d m : ℕ} (r : y ≡ Some (d, m)) where
             some : 0 < length (drop k b)
             some = said-there (drop k b) (sym f ∙ r)
 
@@ -76,9 +74,9 @@ module _ {a b : List ℕ} where
         (λ y. rw (le-leb (length b) k y.0) (rw (said-end a i h, said-end b k y.0) at w.left))
         (ltb-cases k (length b))
       where
-        by : (y : Said) → said_at (drop k b) ≡ y → k < length b → false ≡ same (says a) (says b)
-        by Over q l = absurd (said-not-over (drop k b) (rw length-drop (omega arith)) q)
-        by (Says d m) q l =
+        by : (y : Option (ℕ × ℕ)) → said_at (drop k b) ≡ y → k < length b → false ≡ same (says a) (says b)
+        by None q l = absurd (said-not-over (drop k b) (rw length-drop (omega arith)) q)
+        by (Some (d, m)) q l =
             let some : 0 < length (drop k b) = rw length-drop (omega arith) in
             let z = says-char (drop k b) d m some q (said-some-bytes (drop k b) some q) in
             rw (said-end a i h, z) at w.left
@@ -136,15 +134,20 @@ module _ {a b : List ℕ} where
   owned-start = record { first = omega arith; second = omega arith; total = omega arith }
 
   module _ {i : ℕ} (w : Owned a b i) where
-    pub owned-end : length a ≤ i → i ≡ own_len a b
+    -- one of them ends
+    pub owned-end : min (length a) (length b) ≤ i → i ≡ own_len a b
     unfolding own_len
-    owned-end h = let z : own_len (drop i a) (drop i b) ≡ 0 = rw (drop_of_length-le a h) in omega (arith, z, w.total)
+    owned-end h = ⊎_elim by-first by-second (leb-cases (length a) i)
+      where
+        by-first : (y : (length a ≤ i) × (leb (length a) i ≡ true)) → i ≡ own_len a b
+        by-first y = let z : own_len (drop i a) (drop i b) ≡ 0 = rw (drop_of_length-le a y.0) in omega (arith, z, w.total)
+
+        by-second : (y : (i < length a) × (leb (length a) i ≡ false)) → i ≡ own_len a b
+        by-second y =
+            let z : own_len (drop i a) (drop i b) ≡ 0 = rw (drop_of_length-le b {i = i} (omega (arith, y.0)), drop-cons a i 0 y.0) in
+            omega (arith, z, w.total)
 
     module _ (h : i < length a) where
-      pub owned-short : length b ≤ i → i ≡ own_len a b
-      unfolding own_len
-      owned-short k = let z : own_len (drop i a) (drop i b) ≡ 0 = rw (drop_of_length-le b k, drop-cons a i 0 h) in omega (arith, z, w.total)
-
       module _ (k : i < length b) where
         pub owned-other : (get_or a i 0 ≡ get_or b i 0 → ⊥) → i ≡ own_len a b
         unfolding own_len
@@ -220,13 +223,12 @@ last_step n ih (b ∷ t) d l h = by (said_at (b ∷ t)) refl
         (unit-last v q)
     alone {c} {m} (stray q e o) z =
         let f : length v - 1 ≡ 0 = omega (arith, o, z) in
-        let g : char_of (met v) ≡ Is (byte v 0) 1 = met-itself v (ap (λ (k : ℕ). itself (byte v k)) (sym f) ∙ own.1) in
-        let bad : NoChar ≡ Is (byte v 0) 1 = sym q ∙ g in
-        absurd (zero-not-one (cc))
+        let g : char_of (met v) ≡ Some (byte v 0, 1) = met-itself v (ap (λ (k : ℕ). itself (byte v k)) (sym f) ∙ own.1) in
+        absurd (not-some (sym q ∙ g))
 
-    by : (x : Said) → said_at v ≡ x → last_or d (says v) ≡ own_end v
-    by Over q = absurd (said-not-over v (omega arith) q)
-    by (Says c m) q =
+    by : (x : Option (ℕ × ℕ)) → said_at v ≡ x → last_or d (says v) ≡ own_end v
+    by None q = absurd (said-not-over v (omega arith) q)
+    by (Some (c, m)) q =
         let some : 0 < length v = omega arith in
         let m1 = said-some-bytes v some q in
         let m2 = said-inside v some q in

@@ -8,12 +8,11 @@ use native.Mathlib.Omega.{arith}
 use lib.Dec.{leb, eqb, lit≤}
 use borrow.Author.Tests.{leb-true, leb-false, lt-leb, eqb-true, eqb-false}
 use lib.ListN.{length}
+use Rattle.std.specs.Prelude.{Option, Some, None}
 use Rattle.lists.proofs.Cases.{by_cond, both_true, eqb-cases, zero-not-one}
 use Rattle.slices.proofs.Bytes.{byte-there}
 use Rattle.slices.specs.Bytes.{byte}
 use Rattle.characters.specs.Utf8.{seq_len, low, high, second, later_byte, control, nonchar, single, double, triple, fourfold, char_at}
-use Rattle.characters.specs.declared.Char.{Char}
-use Rattle.characters.specs.declared.Char.TheVariants.{Is, NoChar}
 use Rattle.characters.proofs.Ascii.{low-ascii}
 
 -- ---- a character below 80
@@ -49,9 +48,9 @@ second_range a b e =
     (leb-true (low a) b p.0, omega arith)
 
 -- below 80 it is the byte a, alone
-abbrev Own : ℕ → Char → Type 0
-Own a (Is c n) = c < 0x80 → (a ≡ c) × (n ≡ 1)
-Own a NoChar = Unit {0}
+abbrev Own : ℕ → Option (ℕ × ℕ) → Type 0
+Own a (Some (c, n)) = c < 0x80 → (a ≡ c) × (n ≡ 1)
+Own a None = Unit {0}
 
 double-own : (a b : ℕ) → seq_len a ≡ 2 → Own a (double a b)
 unfolding double
@@ -92,7 +91,7 @@ own s =
     (λ n₂. by-test (Own a) (eqb (seq_len a) 3) (λ e. triple-own a (byte s 1) (byte s 2) (eqb-true _ _ e))
     (λ n₃. by-test (Own a) (eqb (seq_len a) 4) (λ e. fourfold-own a (byte s 1) (byte s 2) (byte s 3) (eqb-true _ _ e)) (λ n₄. tt))))
 
-pub char-low : (s : List ℕ) {c n : ℕ} → char_at s ≡ Is c n → c < 0x80 → (byte s 0 ≡ c) × (n ≡ 1)
+pub char-low : (s : List ℕ) {c n : ℕ} → char_at s ≡ Some (c, n) → c < 0x80 → (byte s 0 ≡ c) × (n ≡ 1)
 char-low s e = let h = own s in rw e at h
 
 -- ---- later bytes
@@ -135,13 +134,13 @@ char-level s s' e h =
 -- ---- its own bytes alone
 
 -- a choice whose cases are the same where they are this character
-cond-is : {z : Char} (t : Bool) {a b a' b' : Char} → (a ≡ z → a' ≡ a) → (b ≡ z → b' ≡ b) → cond t a b ≡ z → cond t a' b' ≡ cond t a b
+cond-is : {z : Option (ℕ × ℕ)} (t : Bool) {a b a' b' : Option (ℕ × ℕ)} → (a ≡ z → a' ≡ a) → (b ≡ z → b' ≡ b) → cond t a b ≡ z → cond t a' b' ≡ cond t a b
 cond-is true f g h = f h
 cond-is false f g h = g h
 
-Sized : ℕ → Char → Type 0
-Sized k (Is c n) = n ≡ k
-Sized k NoChar = Unit {0}
+Sized : ℕ → Option (ℕ × ℕ) → Type 0
+Sized k (Some (c, n)) = n ≡ k
+Sized k None = Unit {0}
 
 module _ (a b c d : ℕ) where
   single-sized : Sized 1 (single a)
@@ -160,36 +159,36 @@ module _ (a b c d : ℕ) where
   unfolding fourfold Sized
   fourfold-sized = by_cond (Sized 4) (second a b) (by_cond (Sized 4) (later_byte c) (by_cond (Sized 4) (later_byte d) refl tt) tt) tt
 
-size : (k : ℕ) {z : Char} {c n : ℕ} → Sized k z → z ≡ Is c n → n ≡ k
+size : (k : ℕ) {z : Option (ℕ × ℕ)} {c n : ℕ} → Sized k z → z ≡ Some (c, n) → n ≡ k
 unfolding Sized
 size k h e = rw e at h
 
-Some : Char → Type 0
-Some (Is c n) = 1 ≤ n
-Some NoChar = Unit {0}
+Lasts : Option (ℕ × ℕ) → Type 0
+Lasts (Some (c, n)) = 1 ≤ n
+Lasts None = Unit {0}
 
-some : (k : ℕ) (z : Char) → Sized (1 + k) z → Some z
-unfolding Sized Some
-some k (Is c n) h = omega (arith, h)
-some k NoChar h = tt
+lasts : (k : ℕ) (z : Option (ℕ × ℕ)) → Sized (1 + k) z → Lasts z
+unfolding Sized Lasts
+lasts k (Some (c, n)) h = omega (arith, h)
+lasts k None h = tt
 
-char-some : (s : List ℕ) → Some (char_at s)
-unfolding char_at Some
-char-some s =
+char-lasts : (s : List ℕ) → Lasts (char_at s)
+unfolding char_at Lasts
+char-lasts s =
     let a = byte s 0 in
     let b = byte s 1 in
     let c = byte s 2 in
     let d = byte s 3 in
-    by_cond Some (eqb (seq_len a) 1) (some 0 (single a) (single-sized a b c d))
-    (by_cond Some (eqb (seq_len a) 2) (some 1 (double a b) (double-sized a b c d))
-    (by_cond Some (eqb (seq_len a) 3) (some 2 (triple a b c) (triple-sized a b c d))
-    (by_cond Some (eqb (seq_len a) 4) (some 3 (fourfold a b c d) (fourfold-sized a b c d)) tt)))
+    by_cond Lasts (eqb (seq_len a) 1) (lasts 0 (single a) (single-sized a b c d))
+    (by_cond Lasts (eqb (seq_len a) 2) (lasts 1 (double a b) (double-sized a b c d))
+    (by_cond Lasts (eqb (seq_len a) 3) (lasts 2 (triple a b c) (triple-sized a b c d))
+    (by_cond Lasts (eqb (seq_len a) 4) (lasts 3 (fourfold a b c d) (fourfold-sized a b c d)) tt)))
 
-pub char-size : (s : List ℕ) {c n : ℕ} → char_at s ≡ Is c n → 1 ≤ n
-unfolding Some
-char-size s e = let h = char-some s in rw e at h
+pub char-size : (s : List ℕ) {c n : ℕ} → char_at s ≡ Some (c, n) → 1 ≤ n
+unfolding Lasts
+char-size s e = let h = char-lasts s in rw e at h
 
-pub char-near : (s s' : List ℕ) {c n : ℕ} → char_at s ≡ Is c n → ((i : ℕ) → i < n → byte s i ≡ byte s' i) → char_at s' ≡ Is c n
+pub char-near : (s s' : List ℕ) {c n : ℕ} → char_at s ≡ Some (c, n) → ((i : ℕ) → i < n → byte s i ≡ byte s' i) → char_at s' ≡ Some (c, n)
 unfolding char_at
 char-near s s' {c = ch} {n} e h =
     let a = byte s 0 in
@@ -215,9 +214,9 @@ unfolding later_byte
 later-high b e = leb-true 0x80 b (both_true (leb 0x80 b) e).0
 
 -- the last byte: its own, or one from 80 on
-unfoldable LastHigh : List ℕ → Char → Type 0
-LastHigh s (Is c n) = ((n ≡ 1) × (byte s 0 ≡ c)) ⊎ (0x80 ≤ byte s (pred n))
-LastHigh s NoChar = Unit {0}
+unfoldable LastHigh : List ℕ → Option (ℕ × ℕ) → Type 0
+LastHigh s (Some (c, n)) = ((n ≡ 1) × (byte s 0 ≡ c)) ⊎ (0x80 ≤ byte s (pred n))
+LastHigh s None = Unit {0}
 
 last-high : (s : List ℕ) → LastHigh s (char_at s)
 unfolding char_at single double triple fourfold LastHigh
@@ -232,22 +231,22 @@ last-high s =
     (by_cond P (second a b) (by-test P (later_byte c) (λ e. by_cond P (nonchar a b c) tt (inr (later-high c e))) (λ e. tt)) tt)
     (by_cond P (eqb (seq_len a) 4) (by_cond P (second a b) (by_cond P (later_byte c) (by-test P (later_byte d) (λ e. inr (later-high d e)) (λ e. tt)) tt) tt) tt)))
   where
-    P : Char → Type 0
+    P : Option (ℕ × ℕ) → Type 0
     P = LastHigh s
 
-pub char-last : (s : List ℕ) {c n : ℕ} → char_at s ≡ Is c n → ((n ≡ 1) × (byte s 0 ≡ c)) ⊎ (0x80 ≤ byte s (pred n))
+pub char-last : (s : List ℕ) {c n : ℕ} → char_at s ≡ Some (c, n) → ((n ≡ 1) × (byte s 0 ≡ c)) ⊎ (0x80 ≤ byte s (pred n))
 unfolding LastHigh
 char-last s e = let h = last-high s in rw e at h
 
 -- no character is 0
-none-zero : (s : List ℕ) {n : ℕ} → char_at s ≡ Is 0 n → ⊥
+none-zero : (s : List ℕ) {n : ℕ} → char_at s ≡ Some (0, n) → ⊥
 unfolding char_at seq_len single control
 none-zero s e =
     let z = (char-low s e (omega arith)).0 in
-    let f : NoChar ≡ char_at s = rw z in
+    let f : None ≡ char_at s = rw z in
     zero-not-one (cc)
 
-pub char-inside : (s : List ℕ) {c n : ℕ} → char_at s ≡ Is c n → n ≤ length s
+pub char-inside : (s : List ℕ) {c n : ℕ} → char_at s ≡ Some (c, n) → n ≤ length s
 char-inside s {c} {n} e =
     ⊎_elim
     (λ one. ⊎_elim (λ z. absurd (none-zero s (rw z.0 at e))) (λ z. let k = z.0 in omega (arith, one.0, byte-there s 0 (sym one.1) (omega arith))) (eqb-cases c 0))

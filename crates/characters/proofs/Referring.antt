@@ -10,12 +10,12 @@ use lib.Dec.{ltb}
 use lib.ListN.{length, get_or, take, drop, drop_of_length-le}
 use lib.Seq.{drop-cons}
 use borrow.Author.Tests.{le-leb, lt-leb, le-ltb, eq-eqb, ne_eqb}
+use Rattle.std.specs.Prelude.{Some, None}
 use Rattle.lists.proofs.Cases.{ltb-cases}
 use Rattle.slices.specs.Bytes.{byte}
 use Rattle.slices.specs.Part.{part_of}
 use Rattle.slices.specs.Run.{run}
 use Rattle.characters.specs.References.{within, xml_char, ref_digit, base, digit_value, number_by, char_by, numbered_to, numbered_at, capped}
-use Rattle.characters.specs.declared.Char.TheVariants.{Is, NoChar}
 
 pub capped-most : (n : ℕ) → capped n ≤ 0x110000
 unfolding capped
@@ -98,10 +98,10 @@ module _ (hex : Bool) (from : ℕ) (s : List ℕ) {n c : ℕ} (e : n ≡ run (re
       rw (← e, ne_eqb n 0 some, eq-eqb (byte s (from + n)) 0x3B ends)
       (sym (char-capped (number_by hex 0 (take n (drop from s))) (from + n + 1)) ∙ ap (λ (k : ℕ). char_by k (from + n + 1)) (sym counted))
 
-  pub numbered-char : xml_char c ≡ true → Is c (from + n + 1) ≡ numbered_at hex from s
+  pub numbered-char : xml_char c ≡ true → Some (c, from + n + 1) ≡ numbered_at hex from s
   unfolding char_by
   numbered-char t = sym (numbered-by ∙ rw t)
 
-  pub numbered-none : xml_char c ≡ false → NoChar ≡ numbered_at hex from s
+  pub numbered-none : xml_char c ≡ false → None ≡ numbered_at hex from s
   unfolding char_by
   numbered-none t = sym (numbered-by ∙ rw t)

@@ -5,24 +5,23 @@ use mathlib.Core.Path.{◌≡◌}
 use mathlib.Core.List.{List}
 use mathlib.Core.Bool.{Bool}
 use lib.ListN.{length}
+use Rattle.std.specs.Prelude.{Option}
 use Rattle.lists.proofs.Unique.{one}
 use Rattle.slices.specs.Same.{same}
 use Rattle.characters.specs.Utf8.{char_at}
 use Rattle.characters.specs.References.{reference_at}
 use Rattle.characters.specs.Says.{all_chars, own_end, ends_otherwise, said_at, says}
-use Rattle.characters.specs.declared.Char.{Char}
-use Rattle.characters.specs.declared.Said.{Said}
 
-pub char-at-one : (s : List ℕ) {r r' : Char} → r ≡ char_at s → r' ≡ char_at s → r ≡ r'
+pub char-at-one : (s : List ℕ) {r r' : Option (ℕ × ℕ)} → r ≡ char_at s → r' ≡ char_at s → r ≡ r'
 char-at-one s = one
 
-pub reference-at-one : (s : List ℕ) {r r' : Char} → r ≡ reference_at s → r' ≡ reference_at s → r ≡ r'
+pub reference-at-one : (s : List ℕ) {r r' : Option (ℕ × ℕ)} → r ≡ reference_at s → r' ≡ reference_at s → r ≡ r'
 reference-at-one s = one
 
 pub all-chars-one : (s : List ℕ) {r r' : Bool} → r ≡ all_chars s → r' ≡ all_chars s → r ≡ r'
 all-chars-one s = one
 
-pub said-at-one : (v : List ℕ) {r r' : Said} → r ≡ said_at v → r' ≡ said_at v → r ≡ r'
+pub said-at-one : (v : List ℕ) {r r' : Option (ℕ × ℕ)} → r ≡ said_at v → r' ≡ said_at v → r ≡ r'
 said-at-one v = one
 
 pub count-chars-one : (v : List ℕ) {r r' : ℕ} → r ≡ length (says v) → r' ≡ length (says v) → r ≡ r'

@@ -9,6 +9,7 @@ use native.Mathlib.Omega.{arith}
 use lib.Dec.{leb, eqb}
 use lib.ListN.{length, take, drop, length-drop, length-take, take-append-drop}
 use borrow.Author.Tests.{eq-eqb, ne_eqb, leb-true, ltb-true}
+use Rattle.std.specs.Prelude.{Option, Some, None, unwrap_or}
 use Rattle.lists.proofs.Below.{every, below}
 use Rattle.lists.proofs.Cases.{bool_cases, eqb-cases, ltb-cases, past-cond, both_true, zero-not-one, never}
 use Rattle.slices.specs.Bytes.{byte}
@@ -19,16 +20,23 @@ use Rattle.slices.specs.Text.{text}
 use Rattle.slices.proofs.Bytes.{byte-there, byte-drop, byte-take}
 use Rattle.slices.proofs.Runs.{run-each}
 use Rattle.slices.proofs.Near.{Front, front-drop, run-near, take-front, begins-take}
-use Rattle.characters.specs.Utf8.{char_at}
+use Rattle.characters.specs.Utf8.{char_use, char_at}
 use Rattle.characters.specs.References.{xml_char, digit, hex_digit, ref_digit, number_by, char_by, numbered_to, numbered_at, named_at, reference_at}
 use Rattle.characters.specs.Says.{met, char_of, itself}
-use Rattle.characters.specs.declared.Char.{Char}
-use Rattle.characters.specs.declared.Char.TheVariants.{Is, NoChar}
 use Rattle.characters.proofs.Ascii.{char-printed}
 use Rattle.characters.proofs.Low.{char-size, char-near, char-last, char-inside}
 
-not_is : {c n : ℕ} → NoChar ≡ Is c n → ⊥
-not_is e = zero-not-one (cc)
+pub not-some : {c n : ℕ} → ◌≡◌ {A = Option (ℕ × ℕ)} None (Some (c, n)) → ⊥
+not-some e = zero-not-one (cc)
+
+-- the parts of a pair that is the same
+pub pair-parts : {a b c d : ℕ} → ◌≡◌ {A = Option (ℕ × ℕ)} (Some (a, b)) (Some (c, d)) → (a ≡ c) × (b ≡ d)
+pair-parts {a} {b} {c} {d} e = let p : ◌≡◌ {A = ℕ × ℕ} (a, b) (c, d) = cc in (ap (λ (x : ℕ × ℕ). x.0) p, ap (λ (x : ℕ × ℕ). x.1) p)
+
+-- where there is no character, one byte is passed
+pub unwrapped-use : (x : Option (ℕ × ℕ)) → (unwrap_or x (0, 1)).1 ≡ char_use x
+unwrapped-use (Some (c, n)) = refl
+unwrapped-use None = refl
 
 -- ---- which it is
 
@@ -49,7 +57,7 @@ itself-range b e =
     let low = leb-true 0x27 b p.0 in
     (omega arith, ltb-true b 0x80 p.1, λ z. omega arith)
 
-pub met-itself : (s : List ℕ) → itself (byte s 0) ≡ true → char_of (met s) ≡ Is (byte s 0) 1
+pub met-itself : (s : List ℕ) → itself (byte s 0) ≡ true → char_of (met s) ≡ Some (byte s 0, 1)
 met-itself s e = let r = itself-range (byte s 0) e in met-standing s r.2 ∙ char-printed s r.0 r.1
 
 -- ---- digits and `;`
@@ -66,18 +74,18 @@ pub record Numbered (hex : Bool) (from : ℕ) (s : List ℕ) (c n : ℕ) : Type 
   pub count : run (ref_digit hex) (drop from s) ≡ digits
   pub long : n ≡ from + digits + 1
   pub ends : byte s (from + digits) ≡ 0x3B
-  pub char : char_by (number_by hex 0 (part_of s from digits)) n ≡ Is c n
+  pub char : char_by (number_by hex 0 (part_of s from digits)) n ≡ Some (c, n)
 
-numbered : (hex : Bool) (from : ℕ) (s : List ℕ) {c n : ℕ} → numbered_at hex from s ≡ Is c n → Numbered hex from s c n
+numbered : (hex : Bool) (from : ℕ) (s : List ℕ) {c n : ℕ} → numbered_at hex from s ≡ Some (c, n) → Numbered hex from s c n
 unfolding numbered_at numbered_to char_by
 numbered hex from s {c} {n} e =
     let m = run (ref_digit hex) (drop from s) in
-    let p = past-cond (eqb m 0) not_is e in
-    let q : (byte s (from + m) ≡ 0x3B) × (char_by (number_by hex 0 (part_of s from m)) (from + m + 1) ≡ Is c n) =
-    ⊎_elim (λ y. (y.0, rw y.1 at p.1)) (λ y. absurd (not_is (rw y.1 at p.1))) (eqb-cases (byte s (from + m)) 0x3B) in
-    let x : (xml_char (number_by hex 0 (part_of s from m)) ≡ true) × (Is (number_by hex 0 (part_of s from m)) (from + m + 1) ≡ Is c n) =
-    ⊎_elim (λ y. (y, rw y at q.1)) (λ y. absurd (not_is (rw y at q.1))) (bool_cases (xml_char (number_by hex 0 (part_of s from m)))) in
-    let z : from + m + 1 ≡ n = let w = x.1 in cc in
+    let p = past-cond (eqb m 0) not-some e in
+    let q : (byte s (from + m) ≡ 0x3B) × (char_by (number_by hex 0 (part_of s from m)) (from + m + 1) ≡ Some (c, n)) =
+    ⊎_elim (λ y. (y.0, rw y.1 at p.1)) (λ y. absurd (not-some (rw y.1 at p.1))) (eqb-cases (byte s (from + m)) 0x3B) in
+    let x : (xml_char (number_by hex 0 (part_of s from m)) ≡ true) × ◌≡◌ {A = Option (ℕ × ℕ)} (Some (number_by hex 0 (part_of s from m), from + m + 1)) (Some (c, n)) =
+    ⊎_elim (λ y. (y, rw y at q.1)) (λ y. absurd (not-some (rw y at q.1))) (bool_cases (xml_char (number_by hex 0 (part_of s from m)))) in
+    let z = (pair-parts x.1).1 in
     record {
       digits = m;
       some = λ u. let b = eq-eqb m 0 u in let f : ◌≡◌ {A = Bool} false true = sym p.0 ∙ b in never f;
@@ -97,7 +105,7 @@ module _ {hex : Bool} {from : ℕ} {s : List ℕ} {c n : ℕ} (w : Numbered hex 
   numbered-inside : n ≤ length s
   numbered-inside = omega (arith, w.long, byte-there s (from + w.digits) (sym w.ends) (omega arith))
 
-  numbered-front : (s' : List ℕ) → n ≤ length s' → Front s s' n → numbered_at hex from s' ≡ Is c n
+  numbered-front : (s' : List ℕ) → n ≤ length s' → Front s s' n → numbered_at hex from s' ≡ Some (c, n)
   unfolding numbered_at numbered_to
   numbered-front s' l h =
       let m = w.digits in
@@ -124,29 +132,29 @@ pub data Referred (s : List ℕ) (c n : ℕ) : Type 0 where
   quot : Named (text "&quot;") s 0x22 c n → Referred s c n
   apos : Named (text "&apos;") s 0x27 c n → Referred s c n
 
-name-is : (t s : List ℕ) (d : ℕ) {c n : ℕ} → begins t s ≡ true → Is d (length t) ≡ Is c n → Named t s d c n
-name-is t s d b e = record { begins = begins-take t s b; char = (cc); long = (cc) }
+name-is : (t s : List ℕ) (d : ℕ) {c n : ℕ} → begins t s ≡ true → ◌≡◌ {A = Option (ℕ × ℕ)} (Some (d, length t)) (Some (c, n)) → Named t s d c n
+name-is t s d b e = let p = pair-parts e in record { begins = begins-take t s b; char = p.0; long = p.1 }
 
 -- a choice that is a character: one of its cases is
-chosen : {c n : ℕ} (t : Bool) {a b : Char} → cond t a b ≡ Is c n → ((t ≡ true) × (a ≡ Is c n)) ⊎ ((t ≡ false) × (b ≡ Is c n))
+chosen : {c n : ℕ} (t : Bool) {a b : Option (ℕ × ℕ)} → cond t a b ≡ Some (c, n) → ((t ≡ true) × (a ≡ Some (c, n))) ⊎ ((t ≡ false) × (b ≡ Some (c, n)))
 chosen true e = inl (refl, e)
 chosen false e = inr (refl, e)
 
-named : (s : List ℕ) {c n : ℕ} → named_at s ≡ Is c n → Referred s c n
+named : (s : List ℕ) {c n : ℕ} → named_at s ≡ Some (c, n) → Referred s c n
 unfolding named_at
 named s e =
     ⊎_elim (λ y. amp (name-is (text "&amp;") s 0x26 y.0 y.1))
     (λ y. ⊎_elim (λ z. lt (name-is (text "&lt;") s 0x3C z.0 z.1))
     (λ z. ⊎_elim (λ u. gt (name-is (text "&gt;") s 0x3E u.0 u.1))
     (λ u. ⊎_elim (λ v. quot (name-is (text "&quot;") s 0x22 v.0 v.1))
-    (λ v. ⊎_elim (λ w. apos (name-is (text "&apos;") s 0x27 w.0 w.1)) (λ w. absurd (not_is w.1))
+    (λ v. ⊎_elim (λ w. apos (name-is (text "&apos;") s 0x27 w.0 w.1)) (λ w. absurd (not-some w.1))
     (chosen (begins (text "&apos;") s) v.1))
     (chosen (begins (text "&quot;") s) u.1))
     (chosen (begins (text "&gt;") s) z.1))
     (chosen (begins (text "&lt;") s) y.1))
     (chosen (begins (text "&amp;") s) e)
 
-pub referred-is : (s : List ℕ) {c n : ℕ} → reference_at s ≡ Is c n → Referred s c n
+pub referred-is : (s : List ℕ) {c n : ℕ} → reference_at s ≡ Some (c, n) → Referred s c n
 unfolding reference_at
 referred-is s e =
     ⊎_elim (λ y. hex y.0 (numbered true 3 s y.1))
@@ -163,7 +171,7 @@ name-front {t} {s} s' w l l' h =
 name-inside : {t s : List ℕ} {d c n : ℕ} → Named t s d c n → n ≤ length s
 name-inside {t} {s} w = omega (arith, w.long, ap length w.begins, length-take (length t) s)
 
-pub reference-inside : (s : List ℕ) {c n : ℕ} → reference_at s ≡ Is c n → n ≤ length s
+pub reference-inside : (s : List ℕ) {c n : ℕ} → reference_at s ≡ Some (c, n) → n ≤ length s
 reference-inside s {c} {n} e = by (referred-is s e)
   where
     by : Referred s c n → n ≤ length s
@@ -177,26 +185,26 @@ reference-inside s {c} {n} e = by (referred-is s e)
 
 -- the five names, whatever follows them
 module _ (r : List ℕ) where
-  names : (reference_at (text "&amp;" ++ r) ≡ Is 0x26 5) × (reference_at (text "&lt;" ++ r) ≡ Is 0x3C 4) × (reference_at (text "&gt;" ++ r) ≡ Is 0x3E 4)
-      × (reference_at (text "&quot;" ++ r) ≡ Is 0x22 6) × (reference_at (text "&apos;" ++ r) ≡ Is 0x27 6)
+  names : (reference_at (text "&amp;" ++ r) ≡ Some (0x26, 5)) × (reference_at (text "&lt;" ++ r) ≡ Some (0x3C, 4)) × (reference_at (text "&gt;" ++ r) ≡ Some (0x3E, 4))
+      × (reference_at (text "&quot;" ++ r) ≡ Some (0x22, 6)) × (reference_at (text "&apos;" ++ r) ≡ Some (0x27, 6))
   unfolding reference_at named_at begins same
   names = (refl, refl, refl, refl, refl)
 
 -- it is read from its own bytes alone
-pub reference-front : (s s' : List ℕ) {c n : ℕ} → reference_at s ≡ Is c n → n ≤ length s' → Front s s' n → reference_at s' ≡ Is c n
+pub reference-front : (s s' : List ℕ) {c n : ℕ} → reference_at s ≡ Some (c, n) → n ≤ length s' → Front s s' n → reference_at s' ≡ Some (c, n)
 unfolding reference_at begins
 reference-front s s' {c} {n} e l h = by (referred-is s e)
   where
     inside : n ≤ length s
     inside = reference-inside s e
 
-    named_again : (t : List ℕ) (d : ℕ) → Named t s d c n → reference_at (t ++ drop (length t) s') ≡ Is d (length t) → reference_at s' ≡ Is c n
-    named_again t d w q = ap reference_at (name-front s' w inside l h) ∙ q ∙ ap (λ (k : ℕ). Is k (length t)) w.char ∙ ap (Is c) w.long
+    named_again : (t : List ℕ) (d : ℕ) → Named t s d c n → reference_at (t ++ drop (length t) s') ≡ Some (d, length t) → reference_at s' ≡ Some (c, n)
+    named_again t d w q = ap reference_at (name-front s' w inside l h) ∙ q ∙ ap (λ (k : ℕ). Some (k, length t)) w.char ∙ ap (λ (k : ℕ). Some (c, k)) w.long
 
     mark : (t : List ℕ) → length t ≤ n → begins t s' ≡ begins t s
     mark t k = let i = inside in ap (same t) (sym (take-front s s' (length t) (omega arith) (omega arith) (λ i g. h i (omega arith))))
 
-    by : Referred s c n → reference_at s' ≡ Is c n
+    by : Referred s c n → reference_at s' ≡ Some (c, n)
     by (hex b w) = rw (mark (text "&#x") (omega (arith, w.long)), b) (numbered-front w s' l h)
     by (dec a b w) =
         let some = w.some in
@@ -256,7 +264,7 @@ numbered-shut t {hex} {from} {s} {n = n} b z f w =
           (ltb-cases i from);
     }
 
-pub reference-shut : (s : List ℕ) {c n : ℕ} → reference_at s ≡ Is c n → Shut s n
+pub reference-shut : (s : List ℕ) {c n : ℕ} → reference_at s ≡ Some (c, n) → Shut s n
 unfolding byte
 reference-shut s {c} {n} e = by (referred-is s e)
   where
@@ -273,14 +281,14 @@ reference-shut s {c} {n} e = by (referred-is s e)
 
 -- one that stands, or a reference
 pub data Unit' (s : List ℕ) (c n : ℕ) : Type 0 where
-  stands : (byte s 0 ≡ 0x26 → ⊥) → char_at s ≡ Is c n → Unit' s c n
-  refers : byte s 0 ≡ 0x26 → reference_at s ≡ Is c n → Unit' s c n
+  stands : (byte s 0 ≡ 0x26 → ⊥) → char_at s ≡ Some (c, n) → Unit' s c n
+  refers : byte s 0 ≡ 0x26 → reference_at s ≡ Some (c, n) → Unit' s c n
 
-pub unit-is : (s : List ℕ) {c n : ℕ} → char_of (met s) ≡ Is c n → Unit' s c n
+pub unit-is : (s : List ℕ) {c n : ℕ} → char_of (met s) ≡ Some (c, n) → Unit' s c n
 unit-is s e =
     ⊎_elim (λ y. refers y.0 (sym (met-reference s y.0) ∙ e)) (λ y. stands y.0 (sym (met-standing s y.0) ∙ e)) (eqb-cases (byte s 0) 0x26)
 
-module _ (s : List ℕ) {c n : ℕ} (e : char_of (met s) ≡ Is c n) where
+module _ (s : List ℕ) {c n : ℕ} (e : char_of (met s) ≡ Some (c, n)) where
   pub unit-some : 1 ≤ n
   unit-some = by (unit-is s e)
     where
@@ -295,10 +303,10 @@ module _ (s : List ℕ) {c n : ℕ} (e : char_of (met s) ≡ Is c n) where
       by (stands a q) = char-inside s q
       by (refers a q) = reference-inside s q
 
-  pub unit-front : (s' : List ℕ) → n ≤ length s' → Front s s' n → char_of (met s') ≡ Is c n
+  pub unit-front : (s' : List ℕ) → n ≤ length s' → Front s s' n → char_of (met s') ≡ Some (c, n)
   unit-front s' l h = let first = h 0 (omega (arith, unit-some)) in by (unit-is s e) first
     where
-      by : Unit' s c n → byte s 0 ≡ byte s' 0 → char_of (met s') ≡ Is c n
+      by : Unit' s c n → byte s 0 ≡ byte s' 0 → char_of (met s') ≡ Some (c, n)
       by (stands a q) z = met-standing s' (λ y. a (z ∙ y)) ∙ char-near s s' q h
       by (refers a q) z = met-reference s' (sym z ∙ a) ∙ reference-front s s' q l h
 

@@ -1,13 +1,11 @@
 -- K4: "the five named references of XML 1.0 and numeric ones, decimal or hexadecimal, naming an XML character". The reference at the front of a list of bytes.
-use Rattle.std.specs.Prelude.{ℕ, ◌+◌, ◌*◌, ◌%◌, List, [], ◌∷◌, Bool, true, false, cond, leb, ltb, eqb, drop}
+use Rattle.std.specs.Prelude.{ℕ, ◌+◌, ◌*◌, ◌%◌, List, [], ◌∷◌, Bool, true, false, cond, leb, ltb, eqb, drop, Option, Some, None}
 use Prim.Native.Char.{code}
 use Rattle.slices.specs.Bytes.{byte}
 use Rattle.slices.specs.Part.{part_of}
 use Rattle.slices.specs.Run.{run}
 use Rattle.slices.specs.Same.{begins}
 use Rattle.slices.specs.Text.{text}
-use Rattle.characters.specs.declared.Char.{Char}
-use Rattle.characters.specs.declared.Char.TheVariants.{Is, NoChar}
 
 -- XML 1.0, Char: "#x9 | #xA | #xD | [#x20-#xD7FF] | [#xE000-#xFFFD] | [#x10000-#x10FFFF]"
 unfoldable pub within : ℕ → ℕ → ℕ → Bool
@@ -44,28 +42,28 @@ unfoldable pub number_by : Bool → ℕ → List ℕ → ℕ
 number_by hex n [] = n
 number_by hex n (b ∷ t) = number_by hex (n * base hex + digit_value b) t
 
-unfoldable pub char_by : ℕ → ℕ → Char
-char_by c n = cond (xml_char c) (Is c n) NoChar
+unfoldable pub char_by : ℕ → ℕ → Option (ℕ × ℕ)
+char_by c n = cond (xml_char c) (Some (c, n)) None
 
 -- n digits from the place `from` on, at least one, and then `;`
-unfoldable pub numbered_to : Bool → ℕ → List ℕ → ℕ → Char
+unfoldable pub numbered_to : Bool → ℕ → List ℕ → ℕ → Option (ℕ × ℕ)
 numbered_to hex from s n =
-    cond (eqb n 0) NoChar
-    (cond (eqb (byte s (from + n)) (code ";")) (char_by (number_by hex 0 (part_of s from n)) (from + n + 1)) NoChar)
+    cond (eqb n 0) None
+    (cond (eqb (byte s (from + n)) (code ";")) (char_by (number_by hex 0 (part_of s from n)) (from + n + 1)) None)
 
-unfoldable pub numbered_at : Bool → ℕ → List ℕ → Char
+unfoldable pub numbered_at : Bool → ℕ → List ℕ → Option (ℕ × ℕ)
 numbered_at hex from s = numbered_to hex from s (run (ref_digit hex) (drop from s))
 
 -- "the five named references of XML 1.0"
-unfoldable pub named_at : List ℕ → Char
+unfoldable pub named_at : List ℕ → Option (ℕ × ℕ)
 named_at s =
-    cond (begins (text "&amp;") s) (Is (code "&") 5)
-    (cond (begins (text "&lt;") s) (Is (code "<") 4)
-    (cond (begins (text "&gt;") s) (Is (code ">") 4)
-    (cond (begins (text "&quot;") s) (Is 0x22 6)
-    (cond (begins (text "&apos;") s) (Is (code "'") 6) NoChar))))
+    cond (begins (text "&amp;") s) (Some (code "&", 5))
+    (cond (begins (text "&lt;") s) (Some (code "<", 4))
+    (cond (begins (text "&gt;") s) (Some (code ">", 4))
+    (cond (begins (text "&quot;") s) (Some (0x22, 6))
+    (cond (begins (text "&apos;") s) (Some (code "'", 6)) None))))
 
-unfoldable pub reference_at : List ℕ → Char
+unfoldable pub reference_at : List ℕ → Option (ℕ × ℕ)
 reference_at s = cond (begins (text "&#x") s) (numbered_at true 3 s) (cond (begins (text "&#") s) (numbered_at false 2 s) (named_at s))
 
 -- where the code stops counting. Public contracts do not cite this.

@@ -1,19 +1,15 @@
 -- What a value says, as characters.
-use Rattle.std.specs.Prelude.{ℕ, zero, suc, pred, ◌-◌, List, [], ◌∷◌, Bool, true, false, cond, not, length, leb, ltb, eqb}
+use Rattle.std.specs.Prelude.{ℕ, zero, suc, pred, ◌-◌, List, [], ◌∷◌, Bool, true, false, cond, not, length, leb, ltb, eqb, Option, Some, None}
 use Prim.Native.Char.{code}
 use Rattle.slices.specs.Bytes.{byte}
 use Rattle.slices.specs.Walk.{WalkStep, go, stop, walk}
 use Rattle.characters.specs.Utf8.{char_at}
 use Rattle.characters.specs.References.{reference_at}
-use Rattle.characters.specs.declared.Char.{Char}
-use Rattle.characters.specs.declared.Char.TheVariants.{Is, NoChar}
-use Rattle.characters.specs.declared.Said.{Said}
-use Rattle.characters.specs.declared.Said.TheVariants.{Says, Over}
 
 -- every byte belongs to an XML character
-unfoldable pub char_next : Unit {0} → Char → WalkStep (Unit {0}) Bool
-char_next u (Is c n) = go n tt
-char_next u NoChar = stop false
+unfoldable pub char_next : Unit {0} → Option (ℕ × ℕ) → WalkStep (Unit {0}) Bool
+char_next u (Some (c, n)) = go n tt
+char_next u None = stop false
 
 unfoldable pub chars_over : Unit {0} → Bool
 chars_over u = true
@@ -23,38 +19,38 @@ all_chars s = walk char_at char_next chars_over tt 0 s
 
 -- What stands first in a value: a reference, which begins with `&`, or a character as it is.
 pub data Met : Type 0 where
-  referred : Char → Met
-  standing : Char → Met
+  referred : Option (ℕ × ℕ) → Met
+  standing : Option (ℕ × ℕ) → Met
 
 unfoldable pub met : List ℕ → Met
 met s = cond (eqb (byte s 0) (code "&")) (referred (reference_at s)) (standing (char_at s))
 
 -- "judged on what the reference stands for": the character either way
-unfoldable pub char_of : Met → Char
+unfoldable pub char_of : Met → Option (ℕ × ℕ)
 char_of (referred x) = x
 char_of (standing x) = x
 
 -- The character that a value says first, and how many bytes say it. A byte that belongs to none says 0, which is no character, so
 -- that no form takes it.
-unfoldable pub said_by : Char → Said
-said_by (Is c n) = Says c n
-said_by NoChar = Says 0 1
+unfoldable pub said_by : Option (ℕ × ℕ) → Option (ℕ × ℕ)
+said_by (Some (c, n)) = Some (c, n)
+said_by None = Some (0, 1)
 
-unfoldable pub said_at : List ℕ → Said
-said_at v = cond (eqb (length v) 0) Over (said_by (char_of (met v)))
+unfoldable pub said_at : List ℕ → Option (ℕ × ℕ)
+said_at v = cond (eqb (length v) 0) None (said_by (char_of (met v)))
 
 -- all that it says, after k bytes that are said already
 unfoldable pub says_after : ℕ → List ℕ → List ℕ
 says_after k [] = []
 says_after (suc k) (b ∷ t) = says_after k t
-says_after zero (b ∷ t) = elim (said_at (b ∷ t)) [ Says c n ↦ c ∷ says_after (pred n) t | Over ↦ [] ]
+says_after zero (b ∷ t) = elim (said_at (b ∷ t)) [ Some (c, n) ↦ c ∷ says_after (pred n) t | None ↦ [] ]
 
 unfoldable pub says : List ℕ → List ℕ
 says v = says_after 0 v
 
-abbrev pub said_use : Said → ℕ
-said_use (Says c n) = n
-said_use Over = 1
+abbrev pub said_use : Option (ℕ × ℕ) → ℕ
+said_use (Some (c, n)) = n
+said_use None = 1
 
 -- ---- shortcuts of the code: no contract above this crate depends on them
 

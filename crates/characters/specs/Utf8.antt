@@ -1,8 +1,6 @@
 -- "Bytes are UTF-8 (RFC 3629) and XML 1.0 characters": the character at the front of a list of bytes.
-use Rattle.std.specs.Prelude.{ℕ, ◌+◌, ◌*◌, ◌%◌, List, Bool, true, false, cond, leb, eqb}
+use Rattle.std.specs.Prelude.{ℕ, ◌+◌, ◌*◌, ◌%◌, List, Bool, true, false, cond, leb, eqb, Option, Some, None}
 use Rattle.slices.specs.Bytes.{byte}
-use Rattle.characters.specs.declared.Char.{Char}
-use Rattle.characters.specs.declared.Char.TheVariants.{Is, NoChar}
 
 -- "The lead byte tells the length: 00 to 7F one, C2 to DF two, E0 to EF three, F0 to F4 four"; any other none
 unfoldable pub seq_len : ℕ → ℕ
@@ -35,35 +33,35 @@ control a = cond (leb 0x20 a) false (cond (eqb a 0x09) false (cond (eqb a 0x0A) 
 unfoldable pub nonchar : ℕ → ℕ → ℕ → Bool
 nonchar a b c = cond (eqb a 0xEF) (cond (eqb b 0xBF) (leb 0xBE c) false) false
 
--- characters of one, two, three and four bytes: the number is made of the low bits of each byte
-unfoldable pub single : ℕ → Char
-single a = cond (control a) NoChar (Is a 1)
+-- Characters of one, two, three and four bytes: the number in Unicode, made of the low bits of each byte, and how many bytes it takes.
+unfoldable pub single : ℕ → Option (ℕ × ℕ)
+single a = cond (control a) None (Some (a, 1))
 
-unfoldable pub double : ℕ → ℕ → Char
-double a b = cond (second a b) (Is (a % 32 * 64 + b % 64) 2) NoChar
+unfoldable pub double : ℕ → ℕ → Option (ℕ × ℕ)
+double a b = cond (second a b) (Some (a % 32 * 64 + b % 64, 2)) None
 
-unfoldable pub triple : ℕ → ℕ → ℕ → Char
+unfoldable pub triple : ℕ → ℕ → ℕ → Option (ℕ × ℕ)
 triple a b c =
-    cond (second a b) (cond (later_byte c) (cond (nonchar a b c) NoChar (Is (a % 16 * 4096 + b % 64 * 64 + c % 64) 3)) NoChar) NoChar
+    cond (second a b) (cond (later_byte c) (cond (nonchar a b c) None (Some (a % 16 * 4096 + b % 64 * 64 + c % 64, 3))) None) None
 
-unfoldable pub fourfold : ℕ → ℕ → ℕ → ℕ → Char
+unfoldable pub fourfold : ℕ → ℕ → ℕ → ℕ → Option (ℕ × ℕ)
 fourfold a b c d =
     cond (second a b)
-    (cond (later_byte c) (cond (later_byte d) (Is (a % 8 * 262144 + b % 64 * 4096 + c % 64 * 64 + d % 64) 4) NoChar) NoChar)
-    NoChar
+    (cond (later_byte c) (cond (later_byte d) (Some (a % 8 * 262144 + b % 64 * 4096 + c % 64 * 64 + d % 64, 4)) None) None)
+    None
 
 -- the character at the front of s
-unfoldable pub char_at : List ℕ → Char
+unfoldable pub char_at : List ℕ → Option (ℕ × ℕ)
 char_at s =
     cond (eqb (seq_len (byte s 0)) 1) (single (byte s 0))
     (cond (eqb (seq_len (byte s 0)) 2) (double (byte s 0) (byte s 1))
     (cond (eqb (seq_len (byte s 0)) 3) (triple (byte s 0) (byte s 1) (byte s 2))
-    (cond (eqb (seq_len (byte s 0)) 4) (fourfold (byte s 0) (byte s 1) (byte s 2) (byte s 3)) NoChar)))
+    (cond (eqb (seq_len (byte s 0)) 4) (fourfold (byte s 0) (byte s 1) (byte s 2) (byte s 3)) None)))
 
 -- how many bytes a reader passes
-abbrev pub char_use : Char → ℕ
-char_use (Is c n) = n
-char_use NoChar = 1
+abbrev pub char_use : Option (ℕ × ℕ) → ℕ
+char_use (Some (c, n)) = n
+char_use None = 1
 
 -- no slice is longer than so many bytes
 abbrev pub slice_most : ℕ

@@ -12,14 +12,8 @@ ghost use Rattle.characters.specs.Says.{met, char_of, itself, own_byte, own_end,
 pub use references::reference_at;
 use slices::{byte_at, rest};
 
-#[derive(Clone, Copy)]
-pub enum Char {
-    // its number in Unicode, and how many bytes it takes
-    Is(u32, usize),
-    NoChar,
-}
-
 // By ranges of the lead byte: 00 to 7F one, C2 to DF two, E0 to EF three, F0 to F4 four; 0 for any other.
+#[tactic(auto, unfolding(crate::specs::Utf8::seq_len))]
 fn seq_len(a: u8) -> usize
     ensures { result ≡ seq_len a }
 {
@@ -32,134 +26,122 @@ fn seq_len(a: u8) -> usize
     }
 }
 
+#[tactic(auto, unfolding(crate::specs::Utf8::low))]
 fn low_of(a: u8) -> u8
     ensures { result ≡ low a }
 {
-    if a == 0xE0 {
-        0xA0
-    } else if a == 0xF0 {
-        0x90
-    } else {
-        0x80
+    match a {
+        0xE0 => 0xA0,
+        0xF0 => 0x90,
+        _ => 0x80,
     }
 }
 
+#[tactic(auto, unfolding(crate::specs::Utf8::high))]
 fn high_of(a: u8) -> u8
     ensures { result ≡ high a }
 {
-    if a == 0xED {
-        0x9F
-    } else if a == 0xF4 {
-        0x8F
-    } else {
-        0xBF
+    match a {
+        0xED => 0x9F,
+        0xF4 => 0x8F,
+        _ => 0xBF,
     }
 }
 
+#[tactic(auto, unfolding(crate::specs::Utf8::second))]
 fn is_second(a: u8, b: u8) -> bool
     ensures { result ≡ second a b }
 {
-    if low_of(a) <= b {
-        b <= high_of(a)
-    } else {
-        false
-    }
+    low_of(a) <= b && b <= high_of(a)
 }
 
+#[tactic(auto, unfolding(crate::specs::Utf8::later_byte))]
 fn is_tail(b: u8) -> bool
     ensures { result ≡ later_byte b }
 {
-    if 0x80 <= b { b <= 0xBF } else { false }
+    matches!(b, 0x80..=0xBF)
 }
 
+#[tactic(auto, unfolding(crate::specs::Utf8::control))]
 fn is_control(a: u8) -> bool
     ensures { result ≡ control a }
 {
-    if 0x20 <= a {
-        false
-    } else if a == 0x09 {
-        false
-    } else if a == 0x0A {
-        false
-    } else if a == 0x0D {
-        false
-    } else {
-        true
-    }
+    a < 0x20 && !matches!(a, 0x09 | 0x0A | 0x0D)
 }
 
+#[tactic(auto, unfolding(crate::specs::Utf8::nonchar))]
 fn is_nonchar(a: u8, b: u8, c: u8) -> bool
     ensures { result ≡ nonchar a b c }
 {
-    if a == 0xEF {
-        if b == 0xBF {
-            return 0xBE <= c;
-        }
-    }
-    false
+    a == 0xEF && b == 0xBF && 0xBE <= c
 }
 
-fn char_of_one(a: u8) -> Char
+#[tactic(auto, unfolding(crate::specs::Utf8::single))]
+fn char_of_one(a: u8) -> Option<(u32, usize)>
     ensures char { result ≡ single a }
     ensures size { (1 ≤ char_use result) × (char_use result ≤ 4) }
 {
     if is_control(a) {
-        return Char::NoChar;
+        return None;
     }
-    Char::Is(a as u32, 1)
+    Some((a as u32, 1))
 }
 
-fn char_of_two(a: u8, b: u8) -> Char
+#[tactic(auto, unfolding(crate::specs::Utf8::double))]
+fn char_of_two(a: u8, b: u8) -> Option<(u32, usize)>
     ensures char { result ≡ double a b }
     ensures size { (1 ≤ char_use result) × (char_use result ≤ 4) }
 {
     if is_second(a, b) {
-        return Char::Is((a as u32) % 32 * 64 + (b as u32) % 64, 2);
+        return Some(((a as u32) % 32 * 64 + (b as u32) % 64, 2));
     }
-    Char::NoChar
+    None
 }
 
-fn char_of_three(a: u8, b: u8, c: u8) -> Char
+#[tactic(auto, unfolding(crate::specs::Utf8::triple))]
+fn char_of_three(a: u8, b: u8, c: u8) -> Option<(u32, usize)>
     ensures char { result ≡ triple a b c }
     ensures size { (1 ≤ char_use result) × (char_use result ≤ 4) }
 {
     if is_second(a, b) {
         if is_tail(c) {
             if is_nonchar(a, b, c) {
-                return Char::NoChar;
+                return None;
             }
-            return Char::Is(
+            return Some((
                 (a as u32) % 16 * 4096 + (b as u32) % 64 * 64 + (c as u32) % 64,
                 3,
-            );
+            ));
         }
     }
-    Char::NoChar
+    None
 }
 
-fn char_of_four(a: u8, b: u8, c: u8, d: u8) -> Char
+#[tactic(auto, unfolding(crate::specs::Utf8::fourfold))]
+fn char_of_four(a: u8, b: u8, c: u8, d: u8) -> Option<(u32, usize)>
     ensures char { result ≡ fourfold a b c d }
     ensures size { (1 ≤ char_use result) × (char_use result ≤ 4) }
 {
     if is_second(a, b) {
         if is_tail(c) {
             if is_tail(d) {
-                return Char::Is(
+                return Some((
                     (a as u32) % 8 * 262144
                         + (b as u32) % 64 * 4096
                         + (c as u32) % 64 * 64
                         + (d as u32) % 64,
                     4,
-                );
+                ));
             }
         }
     }
-    Char::NoChar
+    None
 }
 
-// The character at the front of s.
+// The character at the front of s: its number in Unicode, and how many bytes it takes.
 // Ruled out: a surrogate or an overlong form as a character; U+FFFE; the length of the lead byte where a tail byte is missing.
-pub fn char_at(s: &[u8]) -> Char
+#[tactic(auto, unfolding(crate::specs::Utf8::char_at))]
+pub fn char_at(s: &[u8]) -> Option<(u32, usize)>
     ensures char { result ≡ char_at s.now }
     ensures size { (1 ≤ char_use result) × (char_use result ≤ 4) }
 {
@@ -177,7 +159,7 @@ pub fn char_at(s: &[u8]) -> Char
     if n == 4 {
         return char_of_four(a, byte_at(s, 1), byte_at(s, 2), byte_at(s, 3));
     }
-    Char::NoChar
+    None
 }
 
 // Whether every byte of s belongs to an XML character.
@@ -187,32 +169,24 @@ pub fn all_chars(s: &[u8]) -> bool
 {
     let mut i = 0;
     while i < s.len() {
-        match char_at(&s[i..]) {
-            Char::Is(_, n) => {
-                i += n;
-            }
-            Char::NoChar => return false,
-        }
+        let Some((_, n)) = char_at(&s[i..]) else {
+            return false;
+        };
+        i += n;
     }
     true
 }
 
-#[derive(Clone, Copy)]
-pub enum Said {
-    // the character, and how many bytes of the value say it
-    Says(u32, usize),
-    Over,
-}
-
 // Whether a byte is seen at once to say itself, whatever follows it: all from behind `&` to 7F do, nearly every byte of a value.
+#[tactic(auto, unfolding(crate::specs::Says::itself))]
 fn is_itself(b: u8) -> bool
     ensures { result ≡ itself b }
 {
-    if 0x27 <= b { b < 0x80 } else { false }
+    matches!(b, 0x27..0x80)
 }
 
 // The character that stands at the front of s, or that a reference there names.
-fn unit_at(s: &[u8]) -> Char
+fn unit_at(s: &[u8]) -> Option<(u32, usize)>
     ensures char { result ≡ char_of (met s.now) }
     ensures size { (1 ≤ char_use result) × (char_use result ≤ slice_most) }
 {
@@ -222,23 +196,21 @@ fn unit_at(s: &[u8]) -> Char
     char_at(s)
 }
 
-// What a value says first. This is the one way in which the rules of values look at a value.
+// What a value says first: the character, and how many bytes of the value say it. This is the one way in which the rules of values look at a value.
 // Ruled out: a byte of a longer character, or of a reference, as a character; an end before the last byte.
-pub fn said_at(v: &[u8]) -> Said
+#[tactic(auto, unfolding(crate::specs::Says::said_at, crate::specs::Says::said_by))]
+pub fn said_at(v: &[u8]) -> Option<(u32, usize)>
     ensures said { result ≡ said_at v.now }
     ensures size { (1 ≤ said_use result) × (said_use result ≤ slice_most) }
 {
     if v.len() == 0 {
-        return Said::Over;
+        return None;
     }
     let b = v[0];
     if is_itself(b) {
-        return Said::Says(b as u32, 1);
+        return Some((b as u32, 1));
     }
-    match unit_at(v) {
-        Char::Is(c, n) => Said::Says(c, n),
-        Char::NoChar => Said::Says(0, 1),
-    }
+    Some(unit_at(v).unwrap_or((0, 1)))
 }
 
 // How many characters a value has.
@@ -249,36 +221,27 @@ pub fn count_chars(v: &[u8]) -> usize
     let mut i = 0;
     let mut n = 0;
     while i < v.len() {
-        match said_at(&v[i..]) {
-            Said::Says(_, k) => {
-                i += k;
-                n += 1;
-            }
-            Said::Over => return n,
-        }
+        let Some((_, k)) = said_at(&v[i..]) else {
+            return n;
+        };
+        i += k;
+        n += 1;
     }
     n
 }
 
+#[tactic(auto, unfolding(slices::specs::Bytes::byte))]
 fn last_byte(v: &[u8]) -> u8
     ensures { result ≡ byte v.now (length v.now - 1) }
 {
-    if v.len() == 0 {
-        return 0;
-    }
-    v[v.len() - 1]
+    v.last().copied().unwrap_or(0)
 }
 
+#[tactic(auto, unfolding(crate::specs::Says::own_byte))]
 fn own_byte(b: u8) -> u8
     ensures { result ≡ own_byte b }
 {
-    if b == 0x3B {
-        return 0;
-    }
-    if is_itself(b) {
-        return b;
-    }
-    0
+    if b != 0x3B && is_itself(b) { b } else { 0 }
 }
 
 // The last byte of a value where it is seen to say itself and ends no reference, else 0.
@@ -292,17 +255,12 @@ pub fn own_end(v: &[u8]) -> u8
 // Whether its last byte alone tells that a value says something else than another whose `own_end` is y. Bytes that are the same are told first: of many values
 // held against one, most differ there.
 // Ruled out: true where y is 0, where the last byte is y, or where it is a byte of a longer character or the `;` of a reference.
+#[tactic(auto, unfolding(crate::specs::Says::ends_otherwise, crate::specs::Says::other_byte))]
 pub fn ends_otherwise(v: &[u8], y: u8) -> bool
     ensures { result ≡ ends_otherwise v.now y }
 {
     let b = last_byte(v);
-    if b == y {
-        return false;
-    }
-    if y == 0 {
-        return false;
-    }
-    own_byte(b) != 0
+    b != y && y != 0 && own_byte(b) != 0
 }
 
 // How many bytes at the front of both are the same and are seen to say themselves.
@@ -310,21 +268,13 @@ fn own_len(a: &[u8], b: &[u8]) -> usize
     ensures len { result ≡ own_len a.now b.now }
     ensures size { (result ≤ length a.now) × (result ≤ length b.now) }
 {
-    let mut i = 0;
-    while i < a.len() {
-        if b.len() <= i {
-            return i;
-        }
-        if a[i] != b[i] {
-            return i;
-        }
-        if is_itself(a[i]) {
-            i += 1;
-        } else {
+    let most = a.len().min(b.len());
+    for i in 0..most {
+        if a[i] != b[i] || !is_itself(a[i]) {
             return i;
         }
     }
-    i
+    most
 }
 
 // Whether two values say the same. What they have alike at the front is mostly seen byte by byte.
@@ -336,10 +286,10 @@ pub fn says_same(a: &[u8], b: &[u8]) -> bool
     let mut i = alike;
     let mut k = alike;
     while i < a.len() {
-        let Said::Says(c, n) = said_at(rest(a, i)) else {
+        let Some((c, n)) = said_at(rest(a, i)) else {
             return false;
         };
-        let Said::Says(d, m) = said_at(rest(b, k)) else {
+        let Some((d, m)) = said_at(rest(b, k)) else {
             return false;
         };
         if c != d {

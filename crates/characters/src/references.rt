@@ -2,56 +2,35 @@
 ghost use Rattle.std.specs.Prelude.{◌≡◌, ◌+◌, ◌≤◌, length};
 ghost use Rattle.slices.specs.Run.{run};
 ghost use Rattle.characters.specs.Utf8.{char_use, slice_most};
-ghost use Rattle.characters.specs.References.{within, xml_char, digit, hex_digit, ref_digit, digit_value, base, capped, number_by, numbered_at, named_at, reference_at};
+ghost use Rattle.characters.specs.References.{xml_char, digit, hex_digit, ref_digit, digit_value, base, capped, number_by, numbered_at, named_at, reference_at};
 
-use crate::Char;
-use slices::{begins_with, byte_at, front, rest};
+use slices::{begins_with, byte_at, front, rest, run_len};
 
-fn is_within(low: u32, high: u32, c: u32) -> bool
-    ensures { result ≡ within low high c }
-{
-    if low <= c { c <= high } else { false }
-}
-
+#[tactic(auto, unfolding(crate::specs::References::xml_char, crate::specs::References::within))]
 fn is_xml_char(c: u32) -> bool
     ensures { result ≡ xml_char c }
 {
-    if c == 0x09 {
-        return true;
-    }
-    if c == 0x0A {
-        return true;
-    }
-    if c == 0x0D {
-        return true;
-    }
-    if is_within(0x20, 0xD7FF, c) {
-        return true;
-    }
-    if is_within(0xE000, 0xFFFD, c) {
-        return true;
-    }
-    is_within(0x10000, 0x10FFFF, c)
+    matches!(
+        c,
+        0x09 | 0x0A | 0x0D | 0x20..=0xD7FF | 0xE000..=0xFFFD | 0x10000..=0x10FFFF
+    )
 }
 
+#[tactic(auto, unfolding(crate::specs::References::digit))]
 fn is_decimal(b: u8) -> bool
     ensures { result ≡ digit b }
 {
-    if 0x30 <= b { b <= 0x39 } else { false }
+    matches!(b, b'0'..=b'9')
 }
 
+#[tactic(auto, unfolding(crate::specs::References::hex_digit, crate::specs::References::digit))]
 fn is_hexadecimal(b: u8) -> bool
     ensures { result ≡ hex_digit b }
 {
-    if 0x61 <= b {
-        b <= 0x66
-    } else if 0x41 <= b {
-        b <= 0x46
-    } else {
-        is_decimal(b)
-    }
+    matches!(b, b'0'..=b'9' | b'A'..=b'F' | b'a'..=b'f')
 }
 
+#[tactic(auto, unfolding(crate::specs::References::ref_digit))]
 fn is_digit(hex: bool, b: u8) -> bool
     ensures { result ≡ ref_digit hex b }
 {
@@ -62,6 +41,7 @@ fn is_digit(hex: bool, b: u8) -> bool
     }
 }
 
+#[tactic(auto, unfolding(crate::specs::References::digit_value))]
 fn digit_value(b: u8) -> u32
     ensures value { result ≡ digit_value b }
     ensures size { result ≤ 24 }
@@ -73,6 +53,7 @@ fn digit_value(b: u8) -> u32
     }
 }
 
+#[tactic(auto, unfolding(crate::specs::References::base))]
 fn base_of(hex: bool) -> u32
     ensures base { result ≡ base hex }
     ensures size { result ≤ 16 }
@@ -84,18 +65,11 @@ fn digits_len(hex: bool, s: &[u8]) -> usize
     ensures run { result ≡ run (ref_digit hex) s.now }
     ensures size { result ≤ length s.now }
 {
-    let mut i = 0;
-    while i < s.len() {
-        if is_digit(hex, s[i]) {
-            i += 1;
-        } else {
-            return i;
-        }
-    }
-    i
+    run_len(s, |b| is_digit(hex, b))
 }
 
 // Past the last character the number is not counted on, so that it never wraps.
+#[tactic(auto, unfolding(crate::specs::References::capped))]
 fn capped_at(n: u32) -> u32
     ensures { result ≡ capped n }
 {
@@ -106,16 +80,15 @@ fn number_in(hex: bool, digits: &[u8]) -> u32
     ensures { result ≡ capped (number_by hex 0 digits.now) }
 {
     let mut n = 0;
-    let mut i = 0;
-    while i < digits.len() {
-        n = capped_at(n * base_of(hex) + digit_value(digits[i]));
-        i += 1;
+    for b in digits {
+        n = capped_at(n * base_of(hex) + digit_value(*b));
     }
     n
 }
 
 // Digits from the place `from` on, and then `;`; a u8, so that each place after it is in range.
-fn numbered_at(hex: bool, from: u8, s: &[u8]) -> Char
+#[tactic(auto, unfolding(crate::specs::References::numbered_at, crate::specs::References::numbered_to, crate::specs::References::number_by, crate::specs::References::char_by))]
+fn numbered_at(hex: bool, from: u8, s: &[u8]) -> Option<(u32, usize)>
     ensures char { result ≡ numbered_at hex from s.now }
     ensures size { (1 ≤ char_use result) × (char_use result ≤ slice_most) }
 {
@@ -123,43 +96,45 @@ fn numbered_at(hex: bool, from: u8, s: &[u8]) -> Char
     let t = rest(s, first);
     let n = digits_len(hex, t);
     if n == 0 {
-        return Char::NoChar;
+        return None;
     }
     let end = first + n;
     if byte_at(s, end) == 0x3B {
         let c = number_in(hex, front(t, n));
         if is_xml_char(c) {
-            return Char::Is(c, end + 1);
+            return Some((c, end + 1));
         }
     }
-    Char::NoChar
+    None
 }
 
-fn named_at(s: &[u8]) -> Char
+#[tactic(auto, unfolding(crate::specs::References::named_at))]
+fn named_at(s: &[u8]) -> Option<(u32, usize)>
     ensures char { result ≡ named_at s.now }
     ensures size { (1 ≤ char_use result) × (char_use result ≤ slice_most) }
 {
     if begins_with(b"&amp;", s) {
-        return Char::Is(0x26, 5);
+        return Some((0x26, 5));
     }
     if begins_with(b"&lt;", s) {
-        return Char::Is(0x3C, 4);
+        return Some((0x3C, 4));
     }
     if begins_with(b"&gt;", s) {
-        return Char::Is(0x3E, 4);
+        return Some((0x3E, 4));
     }
     if begins_with(b"&quot;", s) {
-        return Char::Is(0x22, 6);
+        return Some((0x22, 6));
     }
     if begins_with(b"&apos;", s) {
-        return Char::Is(0x27, 6);
+        return Some((0x27, 6));
     }
-    Char::NoChar
+    None
 }
 
 // The reference at the front of s.
 // Ruled out: a surrogate or a number past 10FFFF as a character; a number that wraps; `&AMP;`, `&#X41;` or a reference with no `;`.
-pub fn reference_at(s: &[u8]) -> Char
+#[tactic(auto, unfolding(crate::specs::References::reference_at))]
+pub fn reference_at(s: &[u8]) -> Option<(u32, usize)>
     ensures char { result ≡ reference_at s.now }
     ensures size { (1 ≤ char_use result) × (char_use result ≤ slice_most) }
 {

@@ -2,8 +2,6 @@
 // character at its front, or `none`; whether every byte belongs to a character (1 or 0); how many characters it says.
 #![tactic(auto)]
 
-use characters::Char;
-
 fn show_number(n: u64) {
     lines::print_text(b" ");
     lines::print_number(n);
@@ -19,11 +17,11 @@ fn show_flag(b: bool) {
 
 fn show_char(s: &[u8]) {
     match characters::char_at(s) {
-        Char::Is(c, n) => {
+        Some((c, n)) => {
             show_number(c as u64);
             show_number(n as u64);
         }
-        Char::NoChar => lines::print_text(b" none"),
+        None => lines::print_text(b" none"),
     }
 }
 

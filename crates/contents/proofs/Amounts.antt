@@ -15,8 +15,7 @@ use Rattle.slices.specs.Text.{text}
 use Rattle.characters.specs.References.{digit}
 use Rattle.numbers.specs.Digits.{digits, number_from}
 use Rattle.numbers.specs.Amount.{filled, thousandths, signed, written_amount, unsigned, minus, amount_of}
-use Rattle.numbers.specs.declared.Amount.{Amount}
-use Rattle.numbers.specs.declared.Amount.TheVariants.{Thousandths, NotAmount}
+use Rattle.std.specs.Prelude.{Option}
 use Rattle.numbers.proofs.Reading.{digit-range}
 use Rattle.reader.specs.Rows.{thousandths_of}
 use Rattle.totals.specs.Rules.{too_large, size_allowed}
@@ -94,7 +93,7 @@ signed-size false n = refl
 of-amount : (l : List ℕ) → nat_abs (thousandths_of (amount_of l)) < too_large
 unfolding amount_of thousandths_of
 of-amount l =
-    by_cond (λ (a : Amount). nat_abs (thousandths_of a) < too_large) (written_amount l)
+    by_cond (λ (a : Option ℤ). nat_abs (thousandths_of a) < too_large) (written_amount l)
     (let h = thousandths-small (unsigned l) in let e = signed-size (minus l) (thousandths (unsigned l)) in omega (arith, h, e))
     (let z : 0 < too_large = omega arith in z)
 

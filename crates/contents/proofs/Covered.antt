@@ -17,8 +17,7 @@ use Rattle.columns.specs.Columns.{form_of, collapsed, role_of, period_form}
 use Rattle.times.specs.Times.{interval}
 use Rattle.times.specs.Periods.{quarter_hours, delivery_day, day_period, cost_period}
 use Rattle.times.specs.Midnight.{in_summer, start_of_day}
-use Rattle.times.specs.declared.Interval.{Interval}
-use Rattle.times.specs.declared.Interval.TheVariants.{Minutes, NotInterval}
+use Rattle.std.specs.Prelude.{Option, Some, None}
 use Rattle.times.proofs.Midnights.{day-alone}
 use Rattle.rules.specs.Rules.{period_fits, judge, judge_period, judge_period_by}
 use Rattle.guideline.specs.Kinds.{kind_at, kind_one, kind_two, kind_three, is_kind}
@@ -111,11 +110,11 @@ Fitting kind p = period_fits kind p.start p.end ≡ true
 abbrev SaysPeriod : ℕ → TagSaid → Type 0
 SaysPeriod kind s = Fitting kind (period_by (interval (says (bytes s.v))))
 
-judged : (kind : ℕ) (i : Interval) → eqb (judge_period_by kind i).number 0 ≡ true → Fitting kind (period_by i)
+judged : (kind : ℕ) (i : Option (ℕ × ℕ)) → eqb (judge_period_by kind i).number 0 ≡ true → Fitting kind (period_by i)
 unfolding judge_period_by period_by
-judged kind (Minutes from to) e =
+judged kind (Some (from, to)) e =
     ⊎_elim (λ y. y) (λ y. let z : eqb 8 0 ≡ true = rw y at e in never z) (bool_cases (period_fits kind from to))
-judged kind NotInterval e = never e
+judged kind None e = never e
 
 module _ (kind : ℕ) (rows : List ℕ) (p : ℕ) (L : Layout rows p) (p₀ : Period) where
   one-fits : (q : ℕ) (s : TagSaid) → q < length rows → form_of (get_or rows q 0) ≡ 6 → element_fits kind p₀ (get_or rows q 0) s ≡ true → SaysPeriod kind s

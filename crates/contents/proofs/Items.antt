@@ -7,13 +7,13 @@ use mathlib.Core.Bool.{Bool, true, false, cond, not}
 use mathlib.Core.Logic.{⊎_elim}
 use native.Mathlib.Omega.{arith}
 use lib.ListN.{length, get_or}
+use Rattle.std.specs.Prelude.{Option}
 use Rattle.lists.proofs.Cases.{zero-not-one}
 use Rattle.items.specs.Parts.{passed}
 use Rattle.items.specs.declared.Tag.{Tag}
 use Rattle.items.specs.declared.Item.{Item}
 use Rattle.items.specs.declared.Item.TheVariants.{Start, Empty, End, Text, Comment, Unreadable}
 use Rattle.structure.specs.Rows.{start_of, end_of, over_of, ends_at_once}
-use Rattle.structure.specs.declared.Due.{Due}
 use Rattle.guideline.specs.Kinds.{is_kind, kind_of}
 use Rattle.guideline.proofs.Each.{kind-told}
 use Rattle.guideline.proofs.Roots.{no_start, no_end as none-ends, not-over as none_over}
@@ -23,8 +23,7 @@ use Rattle.states.specs.declared.State.{State}
 use Rattle.states.specs.declared.Room.{Room}
 use Rattle.states.specs.declared.Entry.{Entry}
 use Rattle.states.specs.declared.Entry.TheVariants.{Nothing}
-use Rattle.states.specs.declared.Step.{Step}
-use Rattle.states.specs.declared.Step.TheVariants.{Next, Refused}
+use Rattle.states.specs.Step.{Step, Next, Refused}
 use Rattle.reader.specs.Items.{Placed}
 use Rattle.reader.specs.Rows.{brought_by, used_with, used_before}
 use Rattle.reader.specs.Reading.{Tables, Out, refused_at, accepted_at, without_used, step_of, tables_after, read_items}
@@ -439,7 +438,7 @@ module _ (doc : List ℕ) (room : Room) where
     unfolding started started_at state_of is_kind
     untold tag name empty e =
         stops doc room x xs blank t 3
-        (step-refused doc room x xs blank t 3 (e ∙ ap (λ (d : Due). started_at blank 0 (rows_of 0) tag x.rest empty room d) (no_start 0 refl 0 true name)))
+        (step-refused doc room x xs blank t 3 (e ∙ ap (λ (d : Option ℕ). started_at blank 0 (rows_of 0) tag x.rest empty room d) (no_start 0 refl 0 true name)))
         (λ z. omega (arith, z)) ok
 
     unended : (n m : ℕ) → x.item ≡ End n m → ⊥
@@ -449,7 +448,7 @@ module _ (doc : List ℕ) (room : Room) where
         (step-refused doc room x xs blank t 3
         (step-told blank 0 x.item x.rest room (told-end nothing x n m i)
         ∙ moved-end blank 0 (rows_of 0) x room n m i
-        ∙ ap (λ (d : Due). after_end_at blank (rows_of 0) d) (none-ends 0 refl 0 true (element_in 2 n x.rest))))
+        ∙ ap (λ (d : Option ℕ). after_end_at blank (rows_of 0) d) (none-ends 0 refl 0 true (element_in 2 n x.rest))))
         (λ z. omega (arith, z)) ok
 
     begin-start : (tag : Tag) → x.item ≡ Start tag → Begins (x ∷ xs) t

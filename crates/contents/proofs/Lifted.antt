@@ -4,9 +4,8 @@ use mathlib.Core.Path.{◌≡◌, refl, sym, ap, ◌∙◌}
 use mathlib.Core.List.{List, [], ◌∷◌, ◌++◌, map, map-append}
 use mathlib.Core.Bool.{Bool, true, false}
 use lib.ListN.{get_or, drop}
+use Rattle.std.specs.Prelude.{Option, Some, None}
 use Rattle.structure.specs.Rows.{name_of, start_of, end_of}
-use Rattle.structure.specs.declared.Due.{Due}
-use Rattle.structure.specs.declared.Due.TheVariants.{Row, NotDue}
 use Rattle.guideline.specs.Rows.{rows_of}
 use Rattle.items.specs.Item.{item, item_end}
 use Rattle.items.specs.declared.Item.{Item}
@@ -27,10 +26,10 @@ unfoldable pub relabelled : Sign Placed → Sign TagSaid
 relabelled (Opens x name) = Opens (said_of x) name
 relabelled (Closes name) = Closes name
 
-on_same : (d : Due) (f g : ℕ → Bool) → ((q : ℕ) → f q ≡ g q) → on_row d f ≡ on_row d g
+on_same : (d : Option ℕ) (f g : ℕ → Bool) → ((q : ℕ) → f q ≡ g q) → on_row d f ≡ on_row d g
 unfolding on_row
-on_same (Row q) f g h = h q
-on_same NotDue f g h = refl
+on_same (Some q) f g h = h q
+on_same None f g h = refl
 
 follows_said : (rows : List ℕ) (s : List (Sign Placed)) (r : ℕ) (o : Bool) → follows rows r o (map relabelled s) ≡ follows rows r o s
 unfolding follows relabelled

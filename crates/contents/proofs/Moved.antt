@@ -8,14 +8,13 @@ use native.Mathlib.Omega.{arith}
 use lib.Dec.{eqb}
 use lib.ListN.{get_or}
 use borrow.Author.Tests.{ne_eqb}
+use Rattle.std.specs.Prelude.{Option, Some, None}
 use Rattle.lists.proofs.Cases.{bool_cases, eqb-cases}
 use Rattle.items.specs.Parts.{span_of}
 use Rattle.items.specs.declared.Tag.{Tag}
 use Rattle.items.specs.declared.Item.{Item}
 use Rattle.items.specs.declared.Item.TheVariants.{Text}
 use Rattle.structure.specs.Rows.{start_of, end_of}
-use Rattle.structure.specs.declared.Due.{Due}
-use Rattle.structure.specs.declared.Due.TheVariants.{Row, NotDue}
 use Rattle.columns.specs.Columns.{role_of}
 use Rattle.guideline.specs.Rows.{rows_of}
 use Rattle.guideline.proofs.Each.{kind-some}
@@ -24,8 +23,7 @@ use Rattle.states.specs.declared.State.{State}
 use Rattle.states.specs.declared.Room.{Room}
 use Rattle.states.specs.declared.Entry.{Entry}
 use Rattle.states.specs.declared.Entry.TheVariants.{Nothing, Series, Identification, Object, BusinessType, Direction, Area, Interval, Position, Amount}
-use Rattle.states.specs.declared.Step.{Step}
-use Rattle.states.specs.declared.Step.TheVariants.{Next, Refused}
+use Rattle.states.specs.Step.{Step, Next, Refused}
 use Rattle.reader.specs.Items.{Placed}
 use Rattle.reader.specs.Rows.{brought_by, field_after, series_with, positions_with, amounts_with, series_after, positions_after, amounts_after, used_with, used_before}
 use Rattle.reader.specs.Reading.{Tables, without_used, tables_after}
@@ -127,7 +125,7 @@ is-used doc ts i s st e h = rw h
 module _ (doc : List ℕ) (room : Room) (kind : ℕ) (rows : List ℕ) where
   -- the tag takes row q
   pub record Went (r : ℕ) (o : Bool) (y : Tally) (t : Tables) (x : Placed) (name : ℕ) (empty : Bool) (q : ℕ) : Type 0 where
-    pub due : start_of rows r o name ≡ Row q
+    pub due : start_of rows r o name ≡ Some q
     pub taken : Takes kind room (get_or rows q 0) (said_of x) y
     pub whole : cut_short empty rows q ≡ false
     pub new : New doc rows q x (after rows q x y) t
@@ -141,13 +139,13 @@ module _ (doc : List ℕ) (room : Room) (kind : ℕ) (rows : List ℕ) where
 -- and so with an end tag
 abbrev pub Closed : ℕ → List ℕ → ℕ → Bool → Tally → ℕ → Step → Type 0
 Closed kind rows r o y name (Next st e) =
-    (q : ℕ) × (end_of rows r o name ≡ Row q) × Shuts kind (get_or rows q 0) y × (st ≡ state_of kind q false y) × (e ≡ Nothing)
+    (q : ℕ) × (end_of rows r o name ≡ Some q) × Shuts kind (get_or rows q 0) y × (st ≡ state_of kind q false y) × (e ≡ Nothing)
 Closed kind rows r o y name (Refused n) = n ≡ 0 → ⊥
 
 module _ (doc : List ℕ) (room : Room) (kind : ℕ) (rows : List ℕ) (p : ℕ) (L : Layout rows p) where
   module _ (k₀ r : ℕ) (o : Bool) (y : Tally) (t : Tables) (x : Placed) (tag : Tag) (name : ℕ) (empty : Bool)
       (says : said_of_tag tag x.rest ≡ said_of x) (n : ℕ) (low : Low (suc n) y) where
-    module _ (q : ℕ) (d : start_of rows r o name ≡ Row q) where
+    module _ (q : ℕ) (d : start_of rows r o name ≡ Some q) where
       -- the start tag, judged good, moves the state to that of the tally after it
       went : (a : Takes kind room (get_or rows q 0) (said_of x) y) → cut_short empty rows q ≡ false
           → started_by (state_of k₀ r o y) kind q (get_or rows q 0) empty (start_judged (state_of k₀ r o y) kind rows q tag x.rest empty room)
@@ -202,18 +200,18 @@ module _ (doc : List ℕ) (room : Room) (kind : ℕ) (rows : List ℕ) (p : ℕ)
     unfolding started started_at without_used state_of
     started-goes = by (start_of rows r o name) refl
       where
-        by : (d : Due) → start_of rows r o name ≡ d
+        by : (d : Option ℕ) → start_of rows r o name ≡ d
             → Goes doc room kind rows r o y t x name empty
             (without_used doc t.series x.item x.rest (started_at (state_of k₀ r o y) kind rows tag x.rest empty room d))
-        by NotDue z = λ e. omega (arith, e)
-        by (Row q) z = goes-row q z
+        by None z = λ e. omega (arith, e)
+        by (Some q) z = goes-row q z
 
     pub went-starts : (q : ℕ) → Went doc room kind rows r o y t x name empty q
         → without_used doc t.series x.item x.rest (started (state_of k₀ r o y) kind rows name tag x.rest empty room)
         ≡ Next (state_of kind q (not empty) (after rows q x y)) (bringing rows q x)
     unfolding started started_at state_of
     went-starts q g =
-        ap (λ (d : Due). without_used doc t.series x.item x.rest (started_at (state_of k₀ r o y) kind rows tag x.rest empty room d)) g.due
+        ap (λ (d : Option ℕ). without_used doc t.series x.item x.rest (started_at (state_of k₀ r o y) kind rows tag x.rest empty room d)) g.due
         ∙ ap (λ (v : Step). without_used doc t.series x.item x.rest v) (went q g.due g.taken g.whole)
         ∙ not-used doc t.series x.item x.rest (state_of kind q (not empty) (after rows q x y)) (bringing rows q x) g.new
 
@@ -224,18 +222,18 @@ module _ (doc : List ℕ) (kind : ℕ) (rows : List ℕ) (r : ℕ) (o : Bool) (y
   unfolding after_end after_end_at without_used used_before used_with brought_by state_of
   ended-goes = by (end_of rows r o name) refl
     where
-      by : (d : Due) → end_of rows r o name ≡ d → Closed kind rows r o y name (without_used doc ts i s (after_end_at (state_of kind r o y) rows d))
-      by NotDue z = λ e. omega (arith, e)
-      by (Row q) z =
+      by : (d : Option ℕ) → end_of rows r o name ≡ d → Closed kind rows r o y name (without_used doc ts i s (after_end_at (state_of kind r o y) rows d))
+      by None z = λ e. omega (arith, e)
+      by (Some q) z =
           ⊎_elim
           (λ (h : (end_refusal (state_of kind r o y) rows q ≡ 0) × (eqb (end_refusal (state_of kind r o y) rows q) 0 ≡ true)).
           rw h.1 (q, z, ended-taken kind rows r o y q h.0, closed_same kind rows r o y q, refl))
           (λ (h : (end_refusal (state_of kind r o y) rows q ≡ 0 → ⊥) × (eqb (end_refusal (state_of kind r o y) rows q) 0 ≡ false)). rw h.1 h.0)
           (eqb-cases (end_refusal (state_of kind r o y) rows q) 0)
 
-  pub went-ends : (q : ℕ) → end_of rows r o name ≡ Row q → Shuts kind (get_or rows q 0) y
+  pub went-ends : (q : ℕ) → end_of rows r o name ≡ Some q → Shuts kind (get_or rows q 0) y
       → without_used doc ts i s (after_end (state_of kind r o y) rows name) ≡ Next (state_of kind q false y) Nothing
   unfolding after_end after_end_at without_used used_before used_with brought_by state_of
   went-ends q z h =
-      ap (λ (d : Due). without_used doc ts i s (after_end_at (state_of kind r o y) rows d)) z
+      ap (λ (d : Option ℕ). without_used doc ts i s (after_end_at (state_of kind r o y) rows d)) z
       ∙ rw (taken-ended kind rows r o y q h) (ap (λ (st : State). Next st Nothing) (closed_same kind rows r o y q))

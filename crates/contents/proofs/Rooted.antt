@@ -6,10 +6,10 @@ use mathlib.Core.Bool.{Bool, true, false}
 use mathlib.Core.Logic.{⊎_elim}
 use native.Mathlib.Omega.{arith}
 use lib.ListN.{length, get_or}
+use Rattle.std.specs.Prelude.{Some}
 use Rattle.lists.proofs.Cases.{bool_cases, zero-not-one}
 use Rattle.structure.specs.Rows.{name_of, parent_of, start_of, end_of, ends_at_once, over_of}
 use Rattle.structure.specs.Means.{EndDue}
-use Rattle.structure.specs.declared.Due.TheVariants.{Row}
 use Rattle.structure.proofs.Means.{start-means, end-means}
 use Rattle.states.specs.Moves.{cut_short}
 use Rattle.trees.specs.Trees.{none}
@@ -28,7 +28,7 @@ module _ (rows : List ℕ) (p : ℕ) (L : Layout rows p) where
   root_stands = L.stands 1 (omega arith) long
 
   -- the first tag
-  pub first-row : (name q : ℕ) → start_of rows 0 true name ≡ Row q → name_of (get_or rows 1 0) ≡ name
+  pub first-row : (name q : ℕ) → start_of rows 0 true name ≡ Some q → name_of (get_or rows 1 0) ≡ name
   first-row name q e =
       let d = (start-means rows 0 name q true e).1 in
       ap (λ (i : ℕ). name_of (get_or rows i 0)) (sym (under-document rows p L q d.within d.stands)) ∙ d.named
@@ -38,17 +38,17 @@ module _ (rows : List ℕ) (p : ℕ) (L : Layout rows p) where
       let z : ◌≡◌ {A = Bool} true false = sym L.must-root ∙ d.complete 1 (omega arith) long (root_stands ∙ sym d.innermost) in
       zero-not-one (cc)
 
-  pub no_end : (name q : ℕ) → end_of rows 0 true name ≡ Row q → ⊥
+  pub no_end : (name q : ℕ) → end_of rows 0 true name ≡ Some q → ⊥
   no_end name q e = none-due name q (end-means rows 0 name q true e)
 
   pub not-over : over_of rows 0 true ≡ true → ⊥
   unfolding follows
   not-over e = none-due 255 0 (over-means ℕ rows 0 true e)
 
-  pub row_within : (r : ℕ) (o : Bool) (name q : ℕ) → start_of rows r o name ≡ Row q → q < length rows
+  pub row_within : (r : ℕ) (o : Bool) (name q : ℕ) → start_of rows r o name ≡ Some q → q < length rows
   row_within r o name q e = due-within rows r o name q (start-means rows r name q o e)
 
-  pub row-named : (r : ℕ) (o : Bool) (name q : ℕ) → start_of rows r o name ≡ Row q → name_of (get_or rows q 0) ≡ name
+  pub row-named : (r : ℕ) (o : Bool) (name q : ℕ) → start_of rows r o name ≡ Some q → name_of (get_or rows q 0) ≡ name
   row-named r o name q e = due-named rows r o name q (start-means rows r name q o e)
 
   -- ---- an empty tag
@@ -62,12 +62,12 @@ module _ (rows : List ℕ) (p : ℕ) (L : Layout rows p) where
       (bool_cases (ends_at_once rows q))
 
   -- an end tag right after the start tag closes its row, where nothing has to come in it
-  pub ends-row : (q name : ℕ) → q < length rows → name_of (get_or rows q 0) ≡ name → ends_at_once rows q ≡ true → end_of rows q true name ≡ Row q
+  pub ends-row : (q name : ℕ) → q < length rows → name_of (get_or rows q 0) ≡ name → ends_at_once rows q ≡ true → end_of rows q true name ≡ Some q
   unfolding row_after open_after
   ends-row q name l n e =
       ap (λ (i : ℕ). end_of rows q true i) (sym n) ∙ may-close ℕ rows L.well q none l (empty-conforms ℕ rows L.well q l e)
 
-  pub row_ends : (q name i : ℕ) → q < length rows → end_of rows q true name ≡ Row i → (i ≡ q) × (cut_short true rows q ≡ false)
+  pub row_ends : (q name i : ℕ) → q < length rows → end_of rows q true name ≡ Some i → (i ≡ q) × (cut_short true rows q ≡ false)
   unfolding cut_short
   row_ends q name i l e =
       let d = end-means rows q name i true e in

@@ -5,10 +5,9 @@ use mathlib.Core.Path.{◌≡◌, refl, sym, ap, subst, ◌∙◌}
 use mathlib.Core.List.{List, [], ◌∷◌, ◌++◌}
 use mathlib.Core.Bool.{Bool, true, false}
 use lib.ListN.{get_or}
+use Rattle.std.specs.Prelude.{Option, Some, None}
 use Rattle.items.specs.Parts.{span_of}
 use Rattle.structure.specs.Rows.{name_of, start_of, end_of, over_of}
-use Rattle.structure.specs.declared.Due.{Due}
-use Rattle.structure.specs.declared.Due.TheVariants.{Row, NotDue}
 use Rattle.structure.proofs.Means.{start-made}
 use Rattle.columns.specs.Columns.{role_of}
 use Rattle.states.specs.Moves.{entry_of}
@@ -25,19 +24,19 @@ use Rattle.contents.proofs.Walk.{Tally, opened, walked, Takes, Shuts, Heeds, Pas
 use Rattle.contents.proofs.Fill.{said_of, saying, tables_with, filled, Unused}
 
 -- a row is due, and this holds of it
-abbrev OnRow : Due → (ℕ → Type 0) → Type 0
-OnRow (Row q) P = P q
-OnRow NotDue P = ⊥
+abbrev OnRow : Option ℕ → (ℕ → Type 0) → Type 0
+OnRow (Some q) P = P q
+OnRow None P = ⊥
 
-pub on-row : (d : Due) (P : ℕ → Type 0) → OnRow d P → (q : ℕ) × (d ≡ Row q) × P q
-on-row (Row q) P h = (q, refl, h)
-on-row NotDue P h = absurd h
+pub on-row : (d : Option ℕ) (P : ℕ → Type 0) → OnRow d P → (q : ℕ) × (d ≡ Some q) × P q
+on-row (Some q) P h = (q, refl, h)
+on-row None P h = absurd h
 
-pub row_on : (d : Due) (P : ℕ → Type 0) (q : ℕ) → d ≡ Row q → P q → OnRow d P
-row_on d P q e h = subst (λ (f : Due). OnRow f P) (sym e) h
+pub row_on : (d : Option ℕ) (P : ℕ → Type 0) (q : ℕ) → d ≡ Some q → P q → OnRow d P
+row_on d P q e h = subst (λ (f : Option ℕ). OnRow f P) (sym e) h
 
-pub row_of : (d : Due) (P : ℕ → Type 0) (q : ℕ) → d ≡ Row q → OnRow d P → P q
-row_of d P q e h = subst (λ (f : Due). OnRow f P) e h
+pub row_of : (d : Option ℕ) (P : ℕ → Type 0) (q : ℕ) → d ≡ Some q → OnRow d P → P q
+row_of d P q e h = subst (λ (f : Option ℕ). OnRow f P) e h
 
 -- where the signs have come to: a row, whether it is open, the tally and the tables
 abbrev pub Goal : Type 1
@@ -87,11 +86,11 @@ module _ (doc : List ℕ) (room : Room) (kind : ℕ) (rows : List ℕ) where
   runs-follow [] r o y t h = h
   runs-follow (Opens x name ∷ s) r o y t h =
       let k = on-row (start_of rows r o name) (Opening (λ r o y t. over_of rows r o ≡ true) x s y t) h in
-      ap (λ (d : Due). on_row d (λ q. follows rows q true s)) k.1
+      ap (λ (d : Option ℕ). on_row d (λ q. follows rows q true s)) k.1
       ∙ runs-follow s k.0 true (after rows k.0 x y) (tables_with kind rows k.0 x (after rows k.0 x y) t) k.2.2
   runs-follow (Closes name ∷ s) r o y t h =
       let k = on-row (end_of rows r o name) (Closing (λ r o y t. over_of rows r o ≡ true) s y t) h in
-      ap (λ (d : Due). on_row d (λ q. follows rows q false s)) k.1 ∙ runs-follow s k.0 false y t k.2.1
+      ap (λ (d : Option ℕ). on_row d (λ q. follows rows q false s)) k.1 ∙ runs-follow s k.0 false y t k.2.1
 
   module _ (goal : Goal) where
     -- ---- along elements that the cursor goes over

@@ -14,11 +14,8 @@ use Rattle.lists.proofs.Cases.{bool_cases, by_cond, eqb-cases, never, zero-not-o
 use Rattle.characters.specs.Says.{says}
 use Rattle.trims.specs.Trim.{dropped}
 use Rattle.numbers.specs.Number.{number_of}
-use Rattle.numbers.specs.declared.Number.{Number}
-use Rattle.numbers.specs.declared.Number.TheVariants.{Is, NotNumber}
+use Rattle.std.specs.Prelude.{Option, Some, None}
 use Rattle.times.specs.Times.{interval}
-use Rattle.times.specs.declared.Interval.{Interval}
-use Rattle.times.specs.declared.Interval.TheVariants.{Minutes, NotInterval}
 use Rattle.slices.specs.Part.{part_of}
 use Rattle.slices.specs.Same.{same}
 use Rattle.slices.specs.declared.Span.{Span}
@@ -29,7 +26,7 @@ use Rattle.guideline.specs.Kinds.{dtd_version, dtd_release, dtd_message, kind_at
 use Rattle.guideline.specs.declared.Demands.{Demands}
 use Rattle.rules.specs.Rules.{refused, code_no, period_fits, judge_period_by, judge_period, position_fits, judge_position_by, judge_position, judge}
 use Rattle.rules.specs.declared.Held.{Held}
-use Rattle.rules.specs.declared.Judged.{Judged}
+use Rattle.rules.specs.Judged.{Judged}
 use Rattle.states.specs.Attributes.{attributes_fit, there, agree, asks_v, asks_scheme, demands_at, meets, dtd_fits, no_others, said_in, scheme_refusal, least, also_scheme, value_fixed, dtd_fixed, judge_tag}
 use Rattle.states.specs.Moves.{held_of, cut_short, too_many, no_room, half_originals, against_others, beside_others, start_judged, at_row, one_series, one_interval, one_original, last_pos, covering, kept, entered, entry_of, closed_at, lack_refusal, end_refusal}
 use Rattle.states.specs.Constraints.{noticed, against, lacking}
@@ -170,27 +167,27 @@ no-position kind quarters last =
     by_cond (λ (t : Bool). t ≡ false) (ltb quarters 0) refl
     (by_cond (λ (t : Bool). t ≡ false) (kind_at kind).counted (never last) (by_cond (λ (t : Bool). t ≡ false) (eqb last 0) refl (le-ltb last 0 (omega arith))))
 
-position-judged : (kind quarters last : ℕ) (n : Number) → eqb (judge_position_by kind quarters last n).number 0 ≡ position_fits kind quarters last (position_by n)
+position-judged : (kind quarters last : ℕ) (n : Option ℕ) → eqb (judge_position_by kind quarters last n).number 0 ≡ position_fits kind quarters last (position_by n)
 unfolding judge_position_by position_by
-position-judged kind quarters last (Is p) =
+position-judged kind quarters last (Some p) =
     ⊎_elim (λ y. rw y) (λ y. rw y) (bool_cases (position_fits kind quarters last p))
-position-judged kind quarters last NotNumber = sym (no-position kind quarters last)
+position-judged kind quarters last None = sym (no-position kind quarters last)
 
-position_first : (kind quarters last : ℕ) (n : Number) → position_fits kind quarters last (position_by n) ≡ true
+position_first : (kind quarters last : ℕ) (n : Option ℕ) → position_fits kind quarters last (position_by n) ≡ true
     → (judge_position_by kind quarters last n).first ≡ position_by n
 unfolding judge_position_by position_by
-position_first kind quarters last (Is p) e = rw e
-position_first kind quarters last NotNumber e = refl
+position_first kind quarters last (Some p) e = rw e
+position_first kind quarters last None e = refl
 
-period-kept : (kind : ℕ) (i : Interval) → (judge_period_by kind i).number ≡ 0
+period-kept : (kind : ℕ) (i : Option (ℕ × ℕ)) → (judge_period_by kind i).number ≡ 0
     → ((judge_period_by kind i).first ≡ (period_by i).start) × ((judge_period_by kind i).second ≡ (period_by i).end)
 unfolding judge_period_by period_by
-period-kept kind (Minutes from to) e =
+period-kept kind (Some (from, to)) e =
     ⊎_elim
     (λ y. (rw y, rw y))
     (λ y. let z : ◌≡◌ {A = ℕ} 8 0 = rw y at e in absurd (omega (arith, z)))
     (bool_cases (period_fits kind from to))
-period-kept kind NotInterval e = absurd (omega (arith, e))
+period-kept kind None e = absurd (omega (arith, e))
 
 -- only a Pos is held against the one before it
 judge-last : (form : ℕ) (h : Held) (l : ℕ) (cs : List ℕ) → (form ≡ 9 → ⊥)

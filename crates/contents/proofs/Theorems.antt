@@ -10,11 +10,10 @@ use native.Mathlib.Nat.{zero-add}
 use lib.Dec.{leb}
 use lib.ListN.{length, get_or, length-replicate, take}
 use lib.IntN.{pos}
+use Rattle.std.specs.Prelude.{Result, Ok, Err}
 use Rattle.lists.proofs.Cases.{leb-cases, never}
 use Rattle.structure.specs.Rows.{name_of}
 use Rattle.prolog.specs.Prolog.{begin}
-use Rattle.prolog.specs.declared.Begin.{Begin}
-use Rattle.prolog.specs.declared.Begin.TheVariants.{From, Misdeclared}
 use Rattle.guideline.specs.Kinds.{kind_of}
 use Rattle.guideline.specs.Rows.{rows_of}
 use Rattle.states.specs.Moves.{begun}
@@ -76,11 +75,11 @@ module _ (doc : List ℕ) (ns np na : ℕ) (shape : Shape) (nb : ℕ) (wide : 16
   abbrev read : ℕ → Out
   read n = read_items doc room (items_from doc n) begun (blank ns np na)
 
-  into : (n : ℕ) → begin doc ≡ From n → read_into doc (blank ns np na) ≡ read n
+  into : (n : ℕ) → begin doc ≡ Ok n → read_into doc (blank ns np na) ≡ read n
   unfolding items_read
   into n e = sym (into-items doc (blank ns np na) n refl e) ∙ ap (λ r. read_items doc r (items_from doc n) begun (blank ns np na)) (blank-room ns np na)
 
-  outcome-is : (n : ℕ) → begin doc ≡ From n → (read n).found.refusal ≡ 0 → read_of doc ns np na shape nb ≡ noted shape nb (read n)
+  outcome-is : (n : ℕ) → begin doc ≡ Ok n → (read n).found.refusal ≡ 0 → read_of doc ns np na shape nb ≡ noted shape nb (read n)
   outcome-is n e z =
       let i = into n e in
       sym (read-noted doc ns np na shape nb wide)
@@ -90,10 +89,10 @@ module _ (doc : List ℕ) (ns np na : ℕ) (shape : Shape) (nb : ℕ) (wide : 16
   unfolding noted told answer_of
   outcome-refusal = ap (λ (o : Outcome). o.answer.refusal) (sym (read-noted doc ns np na shape nb wide)) ∙ ap (λ f. f.refusal) (sheet-found doc ns np na small)
 
-  accepted-from : (b : Begin) → begin doc ≡ b → (read_into doc (blank ns np na)).found.refusal ≡ 0 → (n : ℕ) × (begin doc ≡ From n) × ((read n).found.refusal ≡ 0)
+  accepted-from : (b : Result ℕ ℕ) → begin doc ≡ b → (read_into doc (blank ns np na)).found.refusal ≡ 0 → (n : ℕ) × (begin doc ≡ Ok n) × ((read n).found.refusal ≡ 0)
   unfolding read_into read_after refused_at
-  accepted-from (From n) e z = (n, e, ap (λ (o : Out). o.found.refusal) (sym (into n e)) ∙ z)
-  accepted-from (Misdeclared p) e z = let u : ◌≡◌ {A = ℕ} 2 0 = rw e at z in absurd (omega (arith, u))
+  accepted-from (Ok n) e z = (n, e, ap (λ (o : Out). o.found.refusal) (sym (into n e)) ∙ z)
+  accepted-from (Err p) e z = let u : ◌≡◌ {A = ℕ} 2 0 = rw e at z in absurd (omega (arith, u))
 
   -- ---- accepted documents spell legal contents
 
@@ -133,7 +132,7 @@ module _ (doc : List ℕ) (ns np na : ℕ) (shape : Shape) (nb : ℕ) (wide : 16
 
   -- ---- documents that spell legal contents are accepted
 
-  module _ (kind : ℕ) (kids : Trees Placed) (n : ℕ) (begins : begin doc ≡ From n) (r : Read doc room n (blank ns np na) kind kids)
+  module _ (kind : ℕ) (kids : Trees Placed) (n : ℕ) (begins : begin doc ≡ Ok n) (r : Read doc room n (blank ns np na) kind kids)
       (rules : Rules kind room (rows_of kind) (saying kids)) where
     abbrev rows : List ℕ
     rows = rows_of kind
@@ -221,8 +220,8 @@ same_names kind other k o c d a b e =
 same_kind : (kind other : ℕ) → Known kind → Known other → name_of (get_or (rows_of kind) 1 0) ≡ name_of (get_or (rows_of other) 1 0) → kind ≡ other
 same_kind kind other k o e = sym (laid kind k).told ∙ ap kind_of e ∙ (laid other o).told
 
-begins-once : (doc : List ℕ) (n m : ℕ) → begin doc ≡ From n → begin doc ≡ From m → n ≡ m
-begins-once doc n m a b = let e : From n ≡ From m = sym a ∙ b in cc
+begins-once : (doc : List ℕ) (n m : ℕ) → begin doc ≡ Ok n → begin doc ≡ Ok m → n ≡ m
+begins-once doc n m a b = let e : ◌≡◌ {A = Result ℕ ℕ} (Ok n) (Ok m) = sym a ∙ b in cc
 
 -- "the content unambiguous": a document spells no two legal contents
 pub one-content : (doc : List ℕ) (kind other : ℕ) (c d : Trees TagSaid) → Spells doc kind c → Spells doc other d → Legal kind c → Legal other d

@@ -1,17 +1,13 @@
 -- What a legal document is: a content that meets every rule of the guideline, by its values alone. Elements stand one in another as a tree; an element is
 -- known by its row in the structure table of the kind.
-use Rattle.std.specs.Prelude.{ℕ, ◌+◌, ◌-◌, ◌≤◌, ◌≡◌, List, [], ◌∷◌, ◌++◌, map, ◌⊎◌, Bool, true, false, cond, ◌&&◌, not, length, get_or, eqb, leb, ltb}
+use Rattle.std.specs.Prelude.{ℕ, ◌+◌, ◌-◌, ◌≤◌, ◌≡◌, List, [], ◌∷◌, ◌++◌, map, ◌⊎◌, Bool, true, false, cond, ◌&&◌, not, length, get_or, eqb, leb, ltb, Option, Some, None, unwrap_or}
 use Rattle.slices.specs.Same.{same}
 use Rattle.characters.specs.Says.{says}
 use Rattle.trims.specs.Trim.{dropped}
 use Rattle.codes.specs.Lists.{listed, codes_of}
 use Rattle.numbers.specs.Number.{number_of}
-use Rattle.numbers.specs.declared.Number.{Number}
-use Rattle.numbers.specs.declared.Number.TheVariants.{Is, NotNumber}
 use Rattle.times.specs.Times.{interval}
 use Rattle.times.specs.Periods.{quarter_hours}
-use Rattle.times.specs.declared.Interval.{Interval}
-use Rattle.times.specs.declared.Interval.TheVariants.{Minutes, NotInterval}
 use Rattle.rules.specs.Rules.{change_type, bearing_type, type_no, direction_no, judge, position_fits}
 use Rattle.columns.specs.Columns.{form_of, collapsed, scheme_of, role_of, no_form, period_form, pos_form, in_list, doc_status_list, no_scheme, by_list, root_role, series_role, interval_role, original_role, business_role, series_id_role, pos_role, direction_role}
 use Rattle.guideline.specs.Kinds.{dtd_version, dtd_release, dtd_message, kind_at, fixed_for, is_kind, within_most, has_enough}
@@ -53,9 +49,9 @@ pub record Period : Type 0 where
   pub start : ℕ
   pub end : ℕ
 
-unfoldable pub period_by : Interval → Period
-period_by (Minutes from to) = record { start = from; end = to }
-period_by NotInterval = record { start = 0; end = 0 }
+unfoldable pub period_by : Option (ℕ × ℕ) → Period
+period_by (Some (from, to)) = record { start = from; end = to }
+period_by None = record { start = 0; end = 0 }
 
 -- TimePeriodCovered, of which a conforming content has one
 unfoldable pub period_in : Period → List TagSaid → Period
@@ -70,9 +66,8 @@ unfoldable pub quarters_of : Period → ℕ
 quarters_of p = quarter_hours p.start p.end
 
 -- Pos, which is collapsed; what is no number is 0, which no Pos may be
-unfoldable pub position_by : Number → ℕ
-position_by (Is p) = p
-position_by NotNumber = 0
+unfoldable pub position_by : Option ℕ → ℕ
+position_by n = unwrap_or n 0
 
 unfoldable pub position_of : TagSaid → ℕ
 position_of s = position_by (number_of (dropped (says (bytes s.v))) 5)

@@ -1,5 +1,5 @@
 -- How a content is written down as a document: its items are tags, white text and comments, and the tags spell it.
-use Rattle.std.specs.Prelude.{ℕ, ◌≡◌, List, [], ◌∷◌, ◌++◌, Bool, true, false, cond}
+use Rattle.std.specs.Prelude.{ℕ, ◌≡◌, List, [], ◌∷◌, ◌++◌, Bool, true, false, cond, Ok}
 use Rattle.slices.specs.Part.{part_of}
 use Rattle.elements.specs.Names.{element_no}
 use Rattle.slices.specs.declared.Span.{Span}
@@ -8,7 +8,6 @@ use Rattle.items.specs.declared.Tag.{Tag}
 use Rattle.items.specs.declared.Item.{Item}
 use Rattle.items.specs.declared.Item.TheVariants.{Start, Empty, End, Text, Comment, Unreadable}
 use Rattle.prolog.specs.Prolog.{begin}
-use Rattle.prolog.specs.declared.Begin.TheVariants.{From}
 use Rattle.guideline.specs.Rows.{rows_of}
 use Rattle.states.specs.Attributes.{there}
 use Rattle.reader.specs.Items.{Placed, items_from}
@@ -58,7 +57,7 @@ AllAllowed (x ∷ xs) = (allowed x.item ≡ true) × AllAllowed xs
 -- The document spells the content c, elements one in another, by the rows of a kind.
 pub record Spells (doc : List ℕ) (kind : ℕ) (c : Trees TagSaid) : Type 0 where
   pub from : ℕ
-  pub begins : begin doc ≡ From from
+  pub begins : begin doc ≡ Ok from
   pub items : AllAllowed (items_from doc from)
   pub tags : signs_of (items_from doc from) ≡ spell (rows_of kind) c
 
@@ -66,9 +65,9 @@ pub record Spells (doc : List ℕ) (kind : ℕ) (c : Trees TagSaid) : Type 0 whe
 -- tag that stands for a start tag and its end.
 pub record SpellAlike (x y : List ℕ) : Type 0 where
   pub from : ℕ
-  pub begins : begin x ≡ From from
+  pub begins : begin x ≡ Ok from
   pub items : AllAllowed (items_from x from)
   pub other_from : ℕ
-  pub other-begins : begin y ≡ From other_from
+  pub other-begins : begin y ≡ Ok other_from
   pub other_items : AllAllowed (items_from y other_from)
   pub tags : signs_of (items_from x from) ≡ signs_of (items_from y other_from)

@@ -8,6 +8,7 @@ use native.Mathlib.Omega.{arith}
 use lib.Dec.{eqb}
 use lib.ListN.{length, drop, length-drop}
 use borrow.Author.Tests.{eqb-true}
+use Rattle.std.specs.Prelude.{Result, Ok, Err}
 use Rattle.lists.proofs.Cases.{bool_cases, by_cond, zero-not-one}
 use Rattle.slices.specs.Bytes.{byte}
 use Rattle.slices.specs.Run.{run}
@@ -20,8 +21,6 @@ use Rattle.attributes.specs.declared.Piece.{Piece}
 use Rattle.attributes.specs.declared.Piece.TheVariants.{Attribute, Close, CloseEmpty, Torn}
 use Rattle.slices.proofs.Bytes.{byte-there, byte-drop}
 use Rattle.prolog.specs.Prolog.{utf, declared_by, declared, encoded_by, encoded, declaration_by, declaration, mark_len, behind_mark, begin_after, begin}
-use Rattle.prolog.specs.declared.Begin.{Begin}
-use Rattle.prolog.specs.declared.Begin.TheVariants.{From, Misdeclared}
 use Rattle.slices.proofs.Near.{Front, front-drop, long-drop, begins-near}
 use Rattle.digits.proofs.Spans.{PieceLaid, piece-laid}
 use Rattle.digits.proofs.Pieces.{white-near, part-front, piece-whole}
@@ -31,7 +30,7 @@ reached : {A : Type 0} {a b c : A} (t : Bool) → (b ≡ c → ⊥) → cond t a
 reached true other e = (refl, e)
 reached false other e = absurd (other e)
 
-not-from : (p k : ℕ) → Misdeclared p ≡ From k → ⊥
+not-from : (p k : ℕ) → Err p ≡ Ok k → ⊥
 not-from p k e = zero-not-one (cc)
 
 -- no attribute begins with `?`
@@ -46,9 +45,9 @@ module _ (before : ℕ) (x y : List ℕ) (k : ℕ) (long : k ≤ length x → k 
     pub low : a ≤ k
     pub inside : k ≤ length x
     pub mark : byte (drop a y) (run white (drop a y)) ≡ 0x3F
-    pub ends : declared before y a ≡ From k
+    pub ends : declared before y a ≡ Ok k
 
-  declared_same : (a : ℕ) → declared before x a ≡ From k → Shut a
+  declared_same : (a : ℕ) → declared before x a ≡ Ok k → Shut a
   unfolding declared declared_by
   declared_same a q =
       let e = a + run white (drop a x) in
@@ -79,7 +78,7 @@ module _ (before : ℕ) (x y : List ℕ) (k : ℕ) (long : k ≤ length x → k 
       piece-whole (drop a x) (drop a y) w n l.0 m (rw (length-drop a y) (omega (arith, l.1, l.2))) l.3
       (front-drop x y a (l.0 + 1 + (m + 1)) (λ i b. f i (omega (arith, l.1, l.2)))) ∙ q
 
-  encoded-by : (a : ℕ) (p : Piece) → piece (drop a x) ≡ p → PieceLaid (drop a x) p → encoded_by before x a p ≡ From k → (encoded before y a ≡ From k) × (a ≤ k) × (k ≤ length x)
+  encoded-by : (a : ℕ) (p : Piece) → piece (drop a x) ≡ p → PieceLaid (drop a x) p → encoded_by before x a p ≡ Ok k → (encoded before y a ≡ Ok k) × (a ≤ k) × (k ≤ length x)
   unfolding encoded encoded_by PieceLaid
   encoded-by a (Attribute w n v m e) is l q =
       let name = reached (same (part_of (drop a x) w n) (text "encoding")) (not-from before k) q in
@@ -93,7 +92,7 @@ module _ (before : ℕ) (x y : List ℕ) (k : ℕ) (long : k ≤ length x → k 
   encoded-by a (CloseEmpty n) is l q = let s = declared_same a q in (rw (torn-at (drop a y) s.mark) s.ends, s.low, s.inside)
   encoded-by a Torn is l q = let s = declared_same a q in (rw (torn-at (drop a y) s.mark) s.ends, s.low, s.inside)
 
-  declaration-by : (p : Piece) → piece (drop 5 x) ≡ p → PieceLaid (drop 5 x) p → declaration_by before x p ≡ From k → (declaration before y ≡ From k) × (k ≤ length x) × (5 ≤ k)
+  declaration-by : (p : Piece) → piece (drop 5 x) ≡ p → PieceLaid (drop 5 x) p → declaration_by before x p ≡ Ok k → (declaration before y ≡ Ok k) × (k ≤ length x) × (5 ≤ k)
   unfolding declaration declaration_by encoded PieceLaid
   declaration-by (Attribute w n v m e) is l q =
       let name = reached (same (part_of (drop 5 x) w n) (text "version")) (not-from before k) q in
@@ -106,35 +105,35 @@ module _ (before : ℕ) (x y : List ℕ) (k : ℕ) (long : k ≤ length x → k 
   declaration-by (CloseEmpty n) is l q = absurd (not-from before k q)
   declaration-by Torn is l q = absurd (not-from before k q)
 
-  pub declaration-same : declaration before x ≡ From k → (declaration before y ≡ From k) × (k ≤ length x) × (5 ≤ k)
+  pub declaration-same : declaration before x ≡ Ok k → (declaration before y ≡ Ok k) × (k ≤ length x) × (5 ≤ k)
   unfolding declaration
   declaration-same q = declaration-by (piece (drop 5 x)) refl (piece-laid (drop 5 x)) q
 
-pub after_same : (m n : ℕ) (x y : Begin) → ((k : ℕ) → m + k ≡ n → x ≡ From k → y ≡ From k) → behind_mark m x ≡ From n → (behind_mark m y ≡ From n) × (m ≤ n)
+pub after_same : (m n : ℕ) (x y : Result ℕ ℕ) → ((k : ℕ) → m + k ≡ n → x ≡ Ok k → y ≡ Ok k) → behind_mark m x ≡ Ok n → (behind_mark m y ≡ Ok n) × (m ≤ n)
 unfolding behind_mark
-after_same m n (From k) y h q = let z : m + k ≡ n = cc in (rw (h k z refl) q, omega arith)
-after_same m n (Misdeclared p) y h q = absurd (not-from p n q)
+after_same m n (Ok k) y h q = let z : m + k ≡ n = cc in (rw (h k z refl) q, omega arith)
+after_same m n (Err p) y h q = absurd (not-from p n q)
 
 module _ (x y : List ℕ) (n : ℕ) (long : length x ≡ length y) (f : Front x y (n + 5)) where
-  begin-after : (m : ℕ) → begin_after x m ≡ From n → begin_after y m ≡ From n
+  begin-after : (m : ℕ) → begin_after x m ≡ Ok n → begin_after y m ≡ Ok n
   unfolding begin_after
   begin-after m q =
       ⊎_elim
       (λ (t : begins (text "<?xml") (drop m x) ≡ true).
       let a = after_same m n (declaration m (drop m x)) (declaration m (drop m y)) rest (rw t at q) in rw (marks a.1, t) a.0)
       (λ (t : begins (text "<?xml") (drop m x) ≡ false).
-      let z : From m ≡ From n = rw t at q in let e : m ≡ n = cc in rw (marks (omega arith), t) z)
+      let z : ◌≡◌ {A = Result ℕ ℕ} (Ok m) (Ok n) = rw t at q in let e : m ≡ n = cc in rw (marks (omega arith), t) z)
       (bool_cases (begins (text "<?xml") (drop m x)))
     where
       marks : m ≤ n → begins (text "<?xml") (drop m y) ≡ begins (text "<?xml") (drop m x)
       marks l = begins-near (text "<?xml") (drop m x) (drop m y) (long-drop x y m long) (front-drop x y m 5 (λ i g. f i (omega arith)))
 
-      rest : (k : ℕ) → m + k ≡ n → declaration m (drop m x) ≡ From k → declaration m (drop m y) ≡ From k
+      rest : (k : ℕ) → m + k ≡ n → declaration m (drop m x) ≡ Ok k → declaration m (drop m y) ≡ Ok k
       rest k e z =
           let l = long-drop x y m long in
           (declaration-same m (drop m x) (drop m y) k (λ z. omega arith) (front-drop x y m k (λ i g. f i (omega arith))) z).0
 
   -- the items begin at n
-  pub begin-same : begin x ≡ From n → begin y ≡ From n
+  pub begin-same : begin x ≡ Ok n → begin y ≡ Ok n
   unfolding begin mark_len
   begin-same q = rw (begins-near (0xEF ∷ 0xBB ∷ 0xBF ∷ []) x y long (λ i g. f i (omega arith))) (begin-after (mark_len x) q)

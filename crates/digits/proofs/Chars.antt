@@ -6,19 +6,17 @@ use mathlib.Core.List.{List, ◌∷◌}
 use mathlib.Core.Bool.{Bool, true, false}
 use mathlib.Core.Logic.{inl, inr, ⊎_elim}
 use native.Mathlib.Omega.{arith}
+use Rattle.std.specs.Prelude.{Option, Some, None}
 use Rattle.lists.proofs.Cases.{bool_cases, eqb-cases, never}
 use Rattle.slices.specs.Bytes.{byte}
 use Rattle.slices.specs.Walk.{WalkStep, go, stop, walk}
 use Rattle.characters.specs.Utf8.{char_at}
 use Rattle.characters.specs.References.{reference_at}
 use Rattle.characters.specs.Says.{Met, referred, standing, met}
-use Rattle.characters.specs.declared.Char.{Char}
-use Rattle.characters.specs.declared.Char.TheVariants.{Is, NoChar}
 use Rattle.characters.proofs.Ascii.{char-printed}
 use Rattle.characters.proofs.Low.{Level, char-level}
 use Rattle.characters.proofs.Units.{reference-inside, reference-front, reference-shut}
 use Rattle.attributes.specs.Attribute.{quote, standing_next, value_next, value_over, value}
-use Rattle.attributes.specs.declared.Value.TheVariants.{Long}
 use Rattle.attributes.proofs.Values.{met-amp, met-other}
 use Rattle.characters.specs.References.{digit}
 use Rattle.numbers.proofs.Reading.{digit-range}
@@ -31,20 +29,20 @@ use Rattle.digits.proofs.Tests.{blind-quote, blind-fit, blind-mark}
 -- the same, or two digits that stand
 pub data LikeMet : Met → Met → Type 0 where
   equal : (x : Met) → LikeMet x x
-  numerals : {c d : ℕ} → digit c ≡ true → digit d ≡ true → LikeMet (standing (Is c 1)) (standing (Is d 1))
+  numerals : {c d : ℕ} → digit c ≡ true → digit d ≡ true → LikeMet (standing (Some (c, 1))) (standing (Some (d, 1)))
 
 like-level : {c d : ℕ} → Like c d → Level c d
 like-level (inl e) = inl e
 like-level {c} {d} (inr e) = let p = digit-range c e.0 in let q = digit-range d e.1 in inr (omega arith, omega arith)
 
 -- a digit as its first byte is what is met
-digit-met : (x : List ℕ) → digit (byte x 0) ≡ true → met x ≡ standing (Is (byte x 0) 1)
+digit-met : (x : List ℕ) → digit (byte x 0) ≡ true → met x ≡ standing (Some (byte x 0, 1))
 digit-met x e =
     let r = digit-range (byte x 0) e in
     met-other x (λ z. omega (arith, z, r.0)) ∙ ap standing (char-printed x (omega arith) (omega arith))
 
 -- a reference is the same one: its bytes are
-reference-again : {o : Bool} {x y : List ℕ} {c n : ℕ} → AlikeFrom o x y → byte x 0 ≡ 0x26 → reference_at x ≡ Is c n → reference_at y ≡ Is c n
+reference-again : {o : Bool} {x y : List ℕ} {c n : ℕ} → AlikeFrom o x y → byte x 0 ≡ 0x26 → reference_at x ≡ Some (c, n) → reference_at y ≡ Some (c, n)
 reference-again {x = x} {y = y} {n = n} r a e =
     let long = alike-length r in
     let inside = reference-inside x e in
@@ -53,10 +51,10 @@ reference-again {x = x} {y = y} {n = n} r a e =
 reference-same : {o : Bool} {x y : List ℕ} → AlikeFrom o x y → byte x 0 ≡ 0x26 → byte y 0 ≡ 0x26 → reference_at x ≡ reference_at y
 reference-same {x = x} {y = y} r a b = by (reference_at x) refl (reference_at y) refl
   where
-    by : (u : Char) → reference_at x ≡ u → (w : Char) → reference_at y ≡ w → reference_at x ≡ reference_at y
-    by (Is c n) e w f = e ∙ sym (reference-again r a e)
-    by NoChar e (Is c n) f = reference-again (alike-sym r) b f ∙ sym f
-    by NoChar e NoChar f = e ∙ sym f
+    by : (u : Option (ℕ × ℕ)) → reference_at x ≡ u → (w : Option (ℕ × ℕ)) → reference_at y ≡ w → reference_at x ≡ reference_at y
+    by (Some (c, n)) e w f = e ∙ sym (reference-again r a e)
+    by None e (Some (c, n)) f = reference-again (alike-sym r) b f ∙ sym f
+    by None e None f = e ∙ sym f
 
 pub alike-met : {o : Bool} {x y : List ℕ} → AlikeFrom o x y → LikeMet (met x) (met y)
 alike-met {x = x} {y = y} r =
@@ -70,7 +68,7 @@ alike-met {x = x} {y = y} r =
     (alike-byte r 0)
 
 -- what does not tell digits apart does not tell apart what is met so
-like-met : {A : Type 0} (f : Met → A) → ((c d : ℕ) → digit c ≡ true → digit d ≡ true → f (standing (Is c 1)) ≡ f (standing (Is d 1)))
+like-met : {A : Type 0} (f : Met → A) → ((c d : ℕ) → digit c ≡ true → digit d ≡ true → f (standing (Some (c, 1))) ≡ f (standing (Some (d, 1))))
     → {x y : Met} → LikeMet x y → f x ≡ f y
 like-met f h (equal x) = refl
 like-met f h (numerals {c} {d} p q) = h c d p q
@@ -91,7 +89,7 @@ module _ {A S R : Type 0} (look : List ℕ → A) (then : S → A → WalkStep S
   alike-walk (same {o} {x} {y} b r) st zero = rw (walk, h o st (b ∷ x) (b ∷ y) (same b r)) (both x y (then st (look (b ∷ y))) (alike-walk r))
   alike-walk (digits {c} {d} {x} {y} e f r) st zero = rw (walk, h false st (c ∷ x) (d ∷ y) (digits e f r)) (both x y (then st (look (d ∷ y))) (alike-walk r))
 
-value-step : (q : ℕ) → digit q ≡ false → (at c d : ℕ) → digit c ≡ true → digit d ≡ true → value_next q at (standing (Is c 1)) ≡ value_next q at (standing (Is d 1))
+value-step : (q : ℕ) → digit q ≡ false → (at c d : ℕ) → digit c ≡ true → digit d ≡ true → value_next q at (standing (Some (c, 1))) ≡ value_next q at (standing (Some (d, 1)))
 unfolding value_next standing_next
 value-step q n at c d e f =
     let b = blind-mark q n in
@@ -110,4 +108,4 @@ quote-digit q h = ⊎_elim (λ y. never (sym (blind-quote.each q y) ∙ h)) (λ 
 -- the first use: values that differ only in digits outside references
 pub digits-unseen : Unseen (AlikeFrom false)
 digits-unseen =
-    record { whole = λ r q rest t v. sym (alike-value q (quote-digit q t) (alike-append (q ∷ rest) r)) ∙ v ∙ ap Long (alike-length r) }
+    record { whole = λ r q rest t v. sym (alike-value q (quote-digit q t) (alike-append (q ∷ rest) r)) ∙ v ∙ ap Some (alike-length r) }

@@ -8,21 +8,18 @@ use native.Mathlib.Omega.{arith}
 use lib.Dec.{eqb, ltb}
 use lib.ListN.{length, drop, take-append-drop}
 use borrow.Author.Tests.{eq-eqb, ne_eqb, ltb-false}
+use Rattle.std.specs.Prelude.{Option, Some, None}
 use Rattle.lists.proofs.Cases.{bool_cases, past-cond, ltb-cases, never}
 use Rattle.slices.specs.Bytes.{byte}
 use Rattle.slices.specs.Run.{run}
 use Rattle.slices.specs.Walk.{go, walk}
 use Rattle.characters.specs.Utf8.{seq_len, low, high, second, control, single, double, char_at}
 use Rattle.characters.specs.Says.{char_next, chars_over, all_chars, standing, met, char_of, said_by, said_at, says_after, says}
-use Rattle.characters.specs.declared.Char.{Char}
-use Rattle.characters.specs.declared.Char.TheVariants.{Is, NoChar}
 use Rattle.characters.proofs.Ascii.{char-printed}
-use Rattle.characters.specs.declared.Said.TheVariants.{Says}
 use Rattle.characters.proofs.Low.{char-low, char-size, char-near, char-inside}
 use Rattle.characters.proofs.Units.{met-standing}
 use Rattle.characters.proofs.Saying.{said-some}
 use Rattle.attributes.specs.Attribute.{quote, fit, standing_next, value_next, value_over, value}
-use Rattle.attributes.specs.declared.Value.TheVariants.{Long}
 use Rattle.attributes.proofs.Values.{met-other, quote-range, fit-other}
 use Rattle.escapes.specs.Spelled.{spelled}
 use Rattle.escapes.proofs.Spelling.{char-spelt}
@@ -81,12 +78,12 @@ module _ (q : ℕ) (quotes : quote q ≡ true) where
       let r = quote-range q quotes in
       record { fits = fit-other c (omega arith) (λ e. omega (arith, e)); goes = ne_eqb c q (λ e. omega (arith, e, r.1)) }
 
-  passes_on : {c : ℕ} → Passes q c → (at n : ℕ) → value_next q at (standing (Is c n)) ≡ go n (at + n)
+  passes_on : {c : ℕ} → Passes q c → (at n : ℕ) → value_next q at (standing (Some (c, n))) ≡ go n (at + n)
   unfolding value_next standing_next
   passes_on p at n = rw (p.fits, p.goes)
 
   -- the character at the front of bytes that may stand
-  char-passes : (b : ℕ) (t : List ℕ) {c n : ℕ} → id_byte b ≡ true → char_at (b ∷ t) ≡ Is c n → Passes q c
+  char-passes : (b : ℕ) (t : List ℕ) {c n : ℕ} → id_byte b ≡ true → char_at (b ∷ t) ≡ Some (c, n) → Passes q c
   unfolding byte
   char-passes b t {c} h e =
       ⊎_elim
@@ -95,7 +92,7 @@ module _ (q : ℕ) (quotes : quote q ≡ true) where
       (ltb-cases c 0x80)
 
   -- the closing quote
-  closed-at : (at : ℕ) (rest : List ℕ) → walk met (value_next q) value_over at 0 (q ∷ rest) ≡ Long at
+  closed-at : (at : ℕ) (rest : List ℕ) → walk met (value_next q) value_over at 0 (q ∷ rest) ≡ Some at
   unfolding walk value_next standing_next byte
   closed-at at rest =
       let r = quote-range q quotes in
@@ -103,19 +100,19 @@ module _ (q : ℕ) (quotes : quote q ≡ true) where
       rw (walk, m, fit-other q (omega (arith, r.0)) (λ e. omega (arith, e, r.1)), eq-eqb q q refl)
 
   whole : (rest b : List ℕ) (k at m : ℕ) → k ≤ length b → chars_from k b ≡ true → run id_byte b ≡ length b → m + k ≡ at + length b
-      → walk met (value_next q) value_over at k (b ++ q ∷ rest) ≡ Long m
+      → walk met (value_next q) value_over at k (b ++ q ∷ rest) ≡ Some m
   unfolding walk char_next byte
-  whole rest [] zero at m l h r z = let e : at ≡ m = omega (arith, z) in closed-at at rest ∙ ap Long e
+  whole rest [] zero at m l h r z = let e : at ≡ m = omega (arith, z) in closed-at at rest ∙ ap Some e
   whole rest [] (suc k) at m l h r z = absurd (omega arith)
   whole rest (c ∷ b) (suc k) at m l h r z = whole rest b k at m (omega arith) h (rest-bytes c b r).1 (omega (arith, z))
   whole rest (c ∷ b) zero at m l h r z = by (char_at (c ∷ b)) refl (whole rest b)
     where
-      by : (x : Char) → char_at (c ∷ b) ≡ x
+      by : (x : Option (ℕ × ℕ)) → char_at (c ∷ b) ≡ x
           → ((k at m : ℕ) → k ≤ length b → chars_from k b ≡ true → run id_byte b ≡ length b → m + k ≡ at + length b
-          → walk met (value_next q) value_over at k (b ++ q ∷ rest) ≡ Long m)
-          → walk met (value_next q) value_over at zero (c ∷ b ++ q ∷ rest) ≡ Long m
-      by NoChar g f = never (rw (walk, g) at h)
-      by (Is d n) g f =
+          → walk met (value_next q) value_over at k (b ++ q ∷ rest) ≡ Some m)
+          → walk met (value_next q) value_over at zero (c ∷ b ++ q ∷ rest) ≡ Some m
+      by None g f = never (rw (walk, g) at h)
+      by (Some (d, n)) g f =
           let few = char-inside (c ∷ b) g in
           let some = char-size (c ∷ b) g in
           let own = rest-bytes c b r in
@@ -125,7 +122,7 @@ module _ (q : ℕ) (quotes : quote q ≡ true) where
           let left : chars_from (pred n) b ≡ true = rw (walk, g) at h in
           rw (walk, there, passes_on p at n) (f (pred n) (at + n) m (omega arith) left own.1 (omega (arith, z)))
 
-  pub clean-whole : (rest b : List ℕ) → Clean b → value q (b ++ q ∷ rest) ≡ Long (length b)
+  pub clean-whole : (rest b : List ℕ) → Clean b → value q (b ++ q ∷ rest) ≡ Some (length b)
   unfolding value all_chars
   clean-whole rest b c = whole rest b 0 0 (length b) (omega arith) c.legal c.bytes (omega arith)
 
@@ -138,13 +135,13 @@ clean_after [] (suc k) h r = refl
 clean_after (b ∷ v) (suc k) h r = clean_after v k h (rest-bytes b v r).1
 clean_after (b ∷ v) zero h r = by (char_at (b ∷ v)) refl (clean_after v)
   where
-    by : (x : Char) → char_at (b ∷ v) ≡ x → ((k : ℕ) → chars_from k v ≡ true → run id_byte v ≡ length v → spelled (says_after k v) ≡ drop k v)
+    by : (x : Option (ℕ × ℕ)) → char_at (b ∷ v) ≡ x → ((k : ℕ) → chars_from k v ≡ true → run id_byte v ≡ length v → spelled (says_after k v) ≡ drop k v)
         → spelled (says_after zero (b ∷ v)) ≡ b ∷ v
-    by NoChar g f = never (rw (walk, g) at h)
-    by (Is c zero) g f = let z = char-size (b ∷ v) g in absurd (omega arith)
-    by (Is c (suc n)) g f =
+    by None g f = never (rw (walk, g) at h)
+    by (Some (c, zero)) g f = let z = char-size (b ∷ v) g in absurd (omega arith)
+    by (Some (c, suc n)) g f =
         let own = rest-bytes b v r in
-        let first : said_at (b ∷ v) ≡ Says c (suc n) = said-some b v ∙ ap said_by (met-standing (b ∷ v) (id-amp b own.0) ∙ g) in
+        let first : said_at (b ∷ v) ≡ Some (c, suc n) = said-some b v ∙ ap said_by (met-standing (b ∷ v) (id-amp b own.0) ∙ g) in
         let left : chars_from n v ≡ true = rw (walk, g) at h in
         rw (says_after, first) (rw (← char-spelt (b ∷ v) g, f n left own.1) (take-append-drop (suc n) (b ∷ v)))
 

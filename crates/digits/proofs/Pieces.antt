@@ -8,6 +8,7 @@ use native.Mathlib.Omega.{arith}
 use lib.Dec.{eqb}
 use lib.ListN.{length, take, drop, length-append, length-drop}
 use lib.Seq.{length-take-le, split_at}
+use Rattle.std.specs.Prelude.{Some}
 use Rattle.lists.proofs.Cases.{bool_cases}
 use Rattle.slices.specs.Bytes.{byte}
 use Rattle.slices.specs.Part.{part_of}
@@ -15,7 +16,6 @@ use Rattle.slices.specs.Run.{run}
 use Rattle.attributes.specs.Names.{name_byte, white}
 use Rattle.attributes.specs.Attribute.{quote, value, opening_from, opening, attribute_quote, attribute_name, attribute, piece_after, piece}
 use Rattle.attributes.specs.declared.Piece.TheVariants.{Close, CloseEmpty}
-use Rattle.attributes.specs.declared.Value.TheVariants.{Long}
 use Rattle.attributes.proofs.Values.{quote-range}
 use Rattle.slices.proofs.Bytes.{byte-there, byte-drop}
 use Rattle.digits.specs.Unseen.{Unseen}
@@ -70,8 +70,8 @@ prefix-front [] c r r' (suc i) l = absurd (omega arith)
 prefix-front (a ∷ p) c r r' zero l = refl
 prefix-front (a ∷ p) c r r' (suc i) l = prefix-front p c r r' i (omega arith)
 
-pub value_same : {R : List ℕ → List ℕ → Type 0} → Unseen R → (q : ℕ) (x y : List ℕ) (m : ℕ) → quote q ≡ true → length x ≡ length y → value q x ≡ Long m
-    → R (take m x) (take m y) → byte x m ≡ byte y m → value q y ≡ Long m
+pub value_same : {R : List ℕ → List ℕ → Type 0} → Unseen R → (q : ℕ) (x y : List ℕ) (m : ℕ) → quote q ≡ true → length x ≡ length y → value q x ≡ Some m
+    → R (take m x) (take m y) → byte x m ≡ byte y m → value q y ≡ Some m
 unfolding byte
 value_same u q x y m t long v r e =
     let small = quote-small q t in
@@ -81,22 +81,22 @@ value_same u q x y m t long v r e =
     let b = length-take-le m y (omega arith) in
     let xs : x ≡ take m x ++ q ∷ drop (suc m) x = split_at x m 0 l ∙ ap (λ (z : ℕ). take m x ++ z ∷ drop (suc m) x) c in
     let ys : y ≡ take m y ++ q ∷ drop (suc m) y = split_at y m 0 (omega arith) ∙ ap (λ (z : ℕ). take m y ++ z ∷ drop (suc m) y) (sym e ∙ c) in
-    let w = u.whole r q (drop (suc m) x) t (sym (ap (value q) xs) ∙ v ∙ ap Long (sym a)) in
+    let w = u.whole r q (drop (suc m) x) t (sym (ap (value q) xs) ∙ v ∙ ap Some (sym a)) in
     let n : length (take m y) < length (take m y ++ q ∷ drop (suc m) y) = rw (length-append (take m y) (q ∷ drop (suc m) y)) (omega arith) in
-    ap (value q) ys ∙ value-near q small.0 _ _ (length (take m y)) n w (prefix-front (take m y) q (drop (suc m) x) (drop (suc m) y)) ∙ ap Long b
+    ap (value q) ys ∙ value-near q small.0 _ _ (length (take m y)) n w (prefix-front (take m y) q (drop (suc m) x) (drop (suc m) y)) ∙ ap Some b
 
 -- ---- pieces
 
 -- a piece that is an attribute: its bytes up to the value, and a value that ends where it did
 module _ (x y : List ℕ) where
-  attribute-near : (w n o m : ℕ) → AttributeLaid x w n o m → Front x y (o + 1) → value (byte x o) (drop (o + 1) y) ≡ Long m → attribute y w ≡ attribute x w
+  attribute-near : (w n o m : ℕ) → AttributeLaid x w n o m → Front x y (o + 1) → value (byte x o) (drop (o + 1) y) ≡ Some m → attribute y w ≡ attribute x w
   unfolding attribute attribute_name attribute_quote
   attribute-near w n o m a f e =
       let name = name-near x y w (λ i l. f i (omega (arith, a.name, a.behind))) in
       let opens = opening-near x y (w + n) (omega (arith, a.opens, a.behind)) (λ i l. f i (omega (arith, a.opens))) in
       rw (← f w (omega (arith, a.behind)), name, a.name, opens, a.opens, ← f o (omega arith), e, a.value)
 
-  pub piece-near : (w n o m : ℕ) → AttributeLaid x w n o m → Front x y (o + 1) → value (byte x o) (drop (o + 1) y) ≡ Long m → piece y ≡ piece x
+  pub piece-near : (w n o m : ℕ) → AttributeLaid x w n o m → Front x y (o + 1) → value (byte x o) (drop (o + 1) y) ≡ Some m → piece y ≡ piece x
   unfolding piece piece_after
   piece-near w n o m a f e =
       let b = a.behind in

@@ -8,6 +8,7 @@ use native.Mathlib.Omega.{arith}
 use lib.Dec.{eqb, ltb}
 use lib.ListN.{drop}
 use borrow.Author.Tests.{ne_eqb, ltb-false, eqb-true}
+use Rattle.std.specs.Prelude.{Option, Some, None}
 use Rattle.lists.proofs.Cases.{bool_cases, eqb-cases, by_cond, past-cond, never, zero-not-one}
 use Rattle.slices.specs.Bytes.{byte}
 use Rattle.slices.specs.Run.{run}
@@ -15,8 +16,6 @@ use Rattle.attributes.specs.Names.{name_start, name_byte, white}
 use Rattle.attributes.specs.Attribute.{quote, value, opening_from, opening, attribute_end, attribute_quote, attribute_name, attribute, piece_after, piece}
 use Rattle.attributes.specs.declared.Piece.{Piece}
 use Rattle.attributes.specs.declared.Piece.TheVariants.{Attribute, Close, CloseEmpty, Torn}
-use Rattle.attributes.specs.declared.Value.{Value}
-use Rattle.attributes.specs.declared.Value.TheVariants.{Long, Broken}
 use Rattle.tags.specs.Tail.{Attr, Ends, closed, torn, onto, ends_after}
 use Rattle.tags.proofs.Ends.{attr}
 use Rattle.characters.proofs.Low.{by-test}
@@ -29,7 +28,7 @@ pub record AttributeLaid (l : List ℕ) (w n o m : ℕ) : Type 0 where
   pub opens : opening l (w + n) ≡ o
   pub behind : w + n < o
   pub quotes : quote (byte l o) ≡ true
-  pub value : value (byte l o) (drop (o + 1) l) ≡ Long m
+  pub value : value (byte l o) (drop (o + 1) l) ≡ Some m
 
 -- where the parts of a piece stand; it ends with its value's closing quote, or with `>`
 unfoldable pub PieceLaid : List ℕ → Piece → Type 0
@@ -67,11 +66,11 @@ module _ (l : List ℕ) (some : run white l ≡ 0 → ⊥) where
   abbrev o : ℕ
   o = opening l (w + n)
 
-  end-laid : w + n < o → quote (byte l o) ≡ true → (x : Value) → value (byte l o) (drop (o + 1) l) ≡ x → PieceLaid l (attribute_end w n (o + 1) x)
+  end-laid : w + n < o → quote (byte l o) ≡ true → (x : Option ℕ) → value (byte l o) (drop (o + 1) l) ≡ x → PieceLaid l (attribute_end w n (o + 1) x)
   unfolding attribute_end PieceLaid
-  end-laid h q (Long m) e =
+  end-laid h q (Some m) e =
       (o, refl, refl, record { white = refl; some = ⊎_elim (λ z. absurd (some z.0)) (λ z. omega (arith, z.0)) (eqb-cases w 0); name = refl; opens = refl; behind = h; quotes = q; value = e })
-  end-laid h q Broken e = tt
+  end-laid h q None e = tt
 
   attribute-laid : PieceLaid l (attribute l w)
   unfolding attribute attribute_name attribute_quote PieceLaid

@@ -5,17 +5,14 @@ use mathlib.Core.List.{List, [], ◌∷◌}
 use mathlib.Core.Bool.{Bool, true, false, cond}
 use mathlib.Core.Logic.{inl, inr}
 use lib.IntN.{ℤ}
+use Rattle.std.specs.Prelude.{Option, Some, None}
 use Rattle.characters.proofs.Saying.{said-some}
 use Rattle.characters.specs.Says.{Met, met, char_of, said_by, says_after, says}
-use Rattle.characters.specs.declared.Char.{Char}
-use Rattle.characters.specs.declared.Char.TheVariants.{Is, NoChar}
-use Rattle.characters.specs.declared.Said.{Said}
-use Rattle.characters.specs.declared.Said.TheVariants.{Says, Over}
 use Rattle.trims.specs.Trim.{space, drop_lead, kept_before, drop_trail, dropped}
 use Rattle.numbers.specs.Amount.{minus, unsigned, written_amount, thousandths, signed, amount_of}
-use Rattle.numbers.specs.declared.Amount.TheVariants.{Thousandths, NotAmount}
+use Rattle.std.specs.Prelude.{Some, None, is_some}
 use Rattle.numbers.proofs.Blind.{blind}
-use Rattle.rules.specs.Rules.{amount_by, amount, form_refusal, code_no, judge}
+use Rattle.rules.specs.Rules.{amount, form_refusal, code_no, judge}
 use Rattle.rules.specs.declared.Held.{Held}
 use Rattle.numbers.specs.Alike.{Like, Alike, none, next}
 use Rattle.digits.specs.Outside.{AlikeFrom, none as over, same, digits}
@@ -47,20 +44,20 @@ unfolding dropped
 alike-dropped r = alike-trail (alike-lead r)
 
 -- what is said first, and then what comes after it in t
-said_then : Said → List ℕ → List ℕ
-said_then (Says c n) t = c ∷ says_after (pred n) t
-said_then Over t = []
+said_then : Option (ℕ × ℕ) → List ℕ → List ℕ
+said_then (Some (c, n)) t = c ∷ says_after (pred n) t
+said_then None t = []
 
-said-then : (c : ℕ) (t : List ℕ) (x : Char) → char_of (met (c ∷ t)) ≡ x → says_after zero (c ∷ t) ≡ said_then (said_by x) t
+said-then : (c : ℕ) (t : List ℕ) (x : Option (ℕ × ℕ)) → char_of (met (c ∷ t)) ≡ x → says_after zero (c ∷ t) ≡ said_then (said_by x) t
 unfolding says_after said_by said_then
-said-then c t (Is d n) q = rw (says_after, said-some c t, q)
-said-then c t NoChar q = rw (says_after, said-some c t, q)
+said-then c t (Some (d, n)) q = rw (says_after, said-some c t, q)
+said-then c t None q = rw (says_after, said-some c t, q)
 
 module _ (x y : List ℕ) (f : (k : ℕ) → Alike (says_after k x) (says_after k y)) where
-  same_then : (z : Char) → Alike (said_then (said_by z) x) (said_then (said_by z) y)
+  same_then : (z : Option (ℕ × ℕ)) → Alike (said_then (said_by z) x) (said_then (said_by z) y)
   unfolding said_by said_then
-  same_then (Is c n) = next (inl refl) (f (pred n))
-  same_then NoChar = next (inl refl) (f 0)
+  same_then (Some (c, n)) = next (inl refl) (f (pred n))
+  same_then None = next (inl refl) (f 0)
 
   like-then : {a b : Met} → LikeMet a b → Alike (said_then (said_by (char_of a)) x) (said_then (said_by (char_of b)) y)
   unfolding char_of said_by said_then
@@ -82,16 +79,16 @@ pub alike-says : {o : Bool} {x y : List ℕ} → AlikeFrom o x y → Alike (says
 unfolding says
 alike-says r = alike-after r 0
 
-by_form : (l : List ℕ) → amount_by (amount_of l) ≡ written_amount l
-unfolding amount_of amount_by
+by_form : (l : List ℕ) → is_some (amount_of l) ≡ written_amount l
+unfolding amount_of
 by_form l = taken (written_amount l) (signed (minus l) (thousandths (unsigned l)))
   where
-    taken : (t : Bool) (z : ℤ) → amount_by (cond t (Thousandths z) NotAmount) ≡ t
+    taken : (t : Bool) (z : ℤ) → is_some (cond t (Some z) None) ≡ t
     taken true z = refl
     taken false z = refl
 
 -- "Refusing an amount by its size, so that a note tells something about a price": what is said is an amount, or not, whatever its digits are
-pub alike-amount : {l m : List ℕ} → Alike l m → amount_by (amount_of l) ≡ amount_by (amount_of m)
+pub alike-amount : {l m : List ℕ} → Alike l m → is_some (amount_of l) ≡ is_some (amount_of m)
 alike-amount {l} {m} r = by_form l ∙ blind r ∙ sym (by_form m)
 
 -- the form of an amount is 10

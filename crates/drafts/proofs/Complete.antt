@@ -15,9 +15,8 @@ use Rattle.characters.specs.Says.{says}
 use Rattle.trims.specs.Trim.{dropped}
 use Rattle.numbers.specs.Amount.{written_amount, amount_of}
 use Rattle.numbers.specs.Number.{number_of}
-use Rattle.numbers.specs.declared.Number.{Number}
-use Rattle.numbers.specs.declared.Number.TheVariants.{Is, NotNumber}
-use Rattle.rules.specs.Rules.{position_fits, judge, form_refusal, unless, amount, amount_by}
+use Rattle.std.specs.Prelude.{Option, Some, None}
+use Rattle.rules.specs.Rules.{position_fits, judge, form_refusal, unless, amount}
 use Rattle.elements.specs.Names.{names, number_in, element_no}
 use Rattle.columns.specs.Columns.{form_of, scheme_of, role_of, collapsed, series_role, period_role, interval_role, pos_role}
 use Rattle.series.specs.Row.{field_at}
@@ -138,10 +137,10 @@ position-or-none q = by (number_of (whole_text q) 5) refl
     said : number_of (dropped (says (whole_text q))) 5 ≡ number_of (whole_text q) 5
     said = let p = position-said q in rw (p.0, p.1) refl
 
-    by : (x : Number) → number_of (whole_text q) 5 ≡ x
+    by : (x : Option ℕ) → number_of (whole_text q) 5 ≡ x
         → (position_by (number_of (dropped (says (whole_text q))) 5) ≡ 0) ⊎ ((position_by (number_of (dropped (says (whole_text q))) 5) ≡ q) × (q ≤ 99999))
-    by NotNumber e = inl (rw (said, e) refl)
-    by (Is n) e = let t = position-told q n e in inr (rw (said, e) (sym t.0), t.1)
+    by None e = inl (rw (said, e) refl)
+    by (Some n) e = let t = position-told q n e in inr (rw (said, e) (sym t.0), t.1)
 
 positions-told : (d : Draft) (kind quarters last j n : ℕ) → in_turn kind quarters last (map position_of (drawn d (pos_tag d) j n)) ≡ true
     → (all_written (positions_in d j n) ≡ true) × (in_turn kind quarters last (positions_in d j n) ≡ true)
@@ -168,13 +167,13 @@ pub record AmountsTold (kind : ℕ) (rows : List ℕ) : Type 0 where
 
 told-one : AmountsTold 1 beschaffungsanforderung
 unfolding beschaffungsanforderung element_no names number_in same name_of form_of scheme_of role_of collapsed role_row asks_v asks_scheme agree no_demands message_alone kind_one kind_at demands_at meets no_others
-    dtd_agrees attributes_agree scheme_fits value_fits element_fits sayings given bytes number_tag no_dtd_said judge form_refusal unless amount amount_by amount_of
+    dtd_agrees attributes_agree scheme_fits value_fits element_fits sayings given bytes number_tag no_dtd_said judge form_refusal unless amount amount_of
 told-one =
     record { back = λ p t e. ⊎_elim (λ y. y) (λ (y : written_amount (dropped (says t)) ≡ false). never (rw y at e)) (bool_cases (written_amount (dropped (says t)))) }
 
 told-two : AmountsTold 2 kostenblatt
 unfolding kostenblatt element_no names number_in same name_of form_of scheme_of role_of collapsed role_row asks_v asks_scheme agree no_demands message_alone kind_two kind_at demands_at meets no_others
-    dtd_agrees attributes_agree scheme_fits value_fits element_fits sayings given bytes number_tag no_dtd_said judge form_refusal unless amount amount_by amount_of
+    dtd_agrees attributes_agree scheme_fits value_fits element_fits sayings given bytes number_tag no_dtd_said judge form_refusal unless amount amount_of
 told-two =
     record { back = λ p t e. ⊎_elim (λ y. y) (λ (y : written_amount (dropped (says t)) ≡ false). never (rw y at e)) (bool_cases (written_amount (dropped (says t)))) }
 

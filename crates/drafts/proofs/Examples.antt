@@ -24,9 +24,9 @@ use Rattle.numbers.specs.Number.{number_form, at_most_nine, number_within, numbe
 use Rattle.codes.specs.Lists.{lists, codes_of, listed}
 use Rattle.forms.specs.Forms.{identification, market_partner, resource_object, quarter_hour}
 use Rattle.times.specs.Calendar.{leap, month_days, real_date, days_before, leap_day, day_number, day_of}
-use Rattle.times.specs.Times.{minute_on, minute_at, is_minute, date_time, between, interval}
+use Rattle.times.specs.Times.{minute_on, minute_at, date_time, between, interval}
 use Rattle.times.specs.Periods.{cost_period, quarter_hours}
-use Rattle.rules.specs.Rules.{version_by, is_version, judge_interval_by, judge_interval, position_fits, judge, unless, form_refusal, period_fits, judge_period_by, judge_period}
+use Rattle.rules.specs.Rules.{is_version, judge_interval_by, judge_interval, position_fits, judge, unless, form_refusal, period_fits, judge_period_by, judge_period}
 use Rattle.elements.specs.Names.{names, number_in, element_no}
 use Rattle.structure.specs.Rows.{name_of, parent_of, required, repeated}
 use Rattle.columns.specs.Columns.{collapsed, form_of, scheme_of, role_of}
@@ -85,8 +85,8 @@ unfolding draft_legal singles_fit originals_said positions_in all_written amount
     agree demands_at meets no_others no_demands message_alone kind_two kind_at fixed_two fixed_for within_most has_enough
     byte run begins walk seq_len control single char_at met char_of said_by said_at says_after says digit reference_at named_at numbered_at capital capital_or_digit first_three takes held fits_of shown_number number_at
     space drop_lead kept_before drop_trail dropped digits number_from nothing_left only_digits number_form at_most_nine number_within number_of lists codes_of listed identification market_partner resource_object quarter_hour
-    leap month_days real_date days_before leap_day day_number day_of minute_on minute_at is_minute date_time between interval cost_period quarter_hours
-    version_by is_version judge_interval_by judge_interval position_fits judge unless form_refusal period_fits judge_period_by judge_period
+    leap month_days real_date days_before leap_day day_number day_of minute_on minute_at date_time between interval cost_period quarter_hours
+    is_version judge_interval_by judge_interval position_fits judge unless form_refusal period_fits judge_period_by judge_period
 a-draft-fits = refl
 
 all-fit : every (pair_fits a_draft) 38 ≡ true

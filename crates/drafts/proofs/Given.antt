@@ -1,14 +1,20 @@
--- The loop over the rows for a role, and a pair that is there or not. Assumes nothing.
+-- The row of a role, and a pair that is there or not. Assumes nothing.
 use Prim.Native.Nat.{ℕ, suc, ◌+◌, ◌≤◌, ◌<◌}
 use mathlib.Core.Path.{◌≡◌, refl, sym, ap, ◌∙◌}
 use mathlib.Core.List.{List}
-use mathlib.Core.Bool.{true, false, not}
+use mathlib.Core.Bool.{true, false, not, cond}
 use native.Mathlib.Omega.{arith}
 use native.Mathlib.Nat.{add-zero, zero-add}
 use native.Mathlib.Numerals.{add-one}
 use lib.ListN.{length, drop, get_or, drop_of_length-le, get_or-eq_default}
 use lib.Seq.{drop-cons}
-use lib.Dec.{eqb}
+use lib.Dec.{eqb, ltb}
+use Rattle.std.specs.declared.option.Option.{Option}
+use Rattle.std.specs.declared.option.Option.TheVariants.{None, Some}
+use Rattle.std.specs.List.{position_or_len}
+use Rattle.std.specs.Option.{unwrap_or}
+use Rattle.std.proofs.lemmas.List.Recursion.{is_position_or_len}
+use Rattle.views.proofs.Slots.{first-or-end}
 use borrow.Author.Tests.{eq-eqb, ne_eqb}
 use Rattle.slices.specs.Part.{part_of}
 use Rattle.columns.specs.Columns.{role_of}
@@ -36,31 +42,15 @@ length-given a b z = rw (eq-eqb a 0 z) refl
 
 -- ---- the row of a role
 
-pub record Seeking (role : ℕ) (rows : List ℕ) (q : ℕ) : Type 0 where
-  pub left : q + role_row role (drop q rows) ≡ role_row role rows
-  pub low : q ≤ length rows
+-- a role's row is the first place of the rows that has it
+first-role : (role : ℕ) (rows : List ℕ) → role_row role rows ≡ position_or_len (λ w. eqb (role_of w) role) rows
+unfolding role_row
+first-role role rows =
+    is_position_or_len (role_row role) (λ w. eqb (role_of w) role) refl
+    (λ w ws. let e : suc (role_row role ws) ≡ 1 + role_row role ws = omega arith in rw e refl)
+    rows
 
-pub seeking-start : (role : ℕ) (rows : List ℕ) → Seeking role rows 0
-seeking-start role rows = record { left = zero-add _; low = omega arith }
-
-module _ {role : ℕ} {rows : List ℕ} {q : ℕ} (n : Seeking role rows q) where
-  pub seeking-here : q < length rows → role_of (get_or rows q 0) ≡ role → (q ≡ role_row role rows) × (q ≤ length rows)
-  unfolding role_row
-  seeking-here h e = (sym (ap (λ (k : ℕ). q + k) here ∙ add-zero q) ∙ n.left, n.low)
-    where
-      here : role_row role (drop q rows) ≡ 0
-      here = rw (drop-cons rows q 0 h, eq-eqb _ _ e) refl
-
-  pub seeking-next : q < length rows → (role_of (get_or rows q 0) ≡ role → ⊥) → Seeking role rows (q + 1)
-  unfolding role_row
-  seeking-next h d =
-      let e : role_row role (drop q rows) ≡ suc (role_row role (drop (q + 1) rows)) = rw (drop-cons rows q 0 h, ne_eqb _ _ d, add-one q) refl in
-      let l = n.left in
-      record { left = omega (arith, e, l); low = omega (arith, h) }
-
-  pub seeking-over : length rows ≤ q → (q ≡ role_row role rows) × (q ≤ length rows)
-  unfolding role_row
-  seeking-over h = (sym (ap (λ (k : ℕ). q + k) over ∙ add-zero q) ∙ n.left, n.low)
-    where
-      over : role_row role (drop q rows) ≡ 0
-      over = rw (drop_of_length-le rows h) refl
+pub role-or-end : (role : ℕ) (rows : List ℕ) {o : Option ℕ} {n : ℕ} →
+    o ≡ cond (ltb (position_or_len (λ w. eqb (role_of w) role) rows) (length rows)) (Some (position_or_len (λ w. eqb (role_of w) role) rows)) None →
+    n ≡ unwrap_or o (length rows) → n ≡ role_row role rows
+role-or-end role rows e u = u ∙ ap (λ (x : Option ℕ). unwrap_or x (length rows)) e ∙ first-or-end _ rows ∙ sym (first-role role rows)

@@ -17,11 +17,11 @@ use Rattle.columns.specs.Columns.{form_of, scheme_of, role_of, collapsed, series
 use Rattle.guideline.specs.Kinds.{no_demands, message_alone, kind_one, kind_two, kind_at, is_kind}
 use Rattle.guideline.specs.Rows.{beschaffungsanforderung, kostenblatt, rows_of}
 use Rattle.states.specs.Attributes.{agree, asks_v, asks_scheme, demands_at, meets, no_others}
-use Rattle.rules.specs.Rules.{judge, form_refusal, unless, amount, amount_by}
+use Rattle.rules.specs.Rules.{judge, form_refusal, unless, amount}
 use Rattle.characters.specs.Says.{says}
 use Rattle.trims.specs.Trim.{dropped}
 use Rattle.numbers.specs.Amount.{amount_of}
-use Rattle.numbers.specs.declared.Amount.TheVariants.{Thousandths}
+use Rattle.std.specs.Prelude.{Some}
 use Rattle.series.specs.Row.{field_at}
 use Rattle.series.specs.declared.Field.TheVariants.{FirstRow, Count}
 use Rattle.views.specs.Layout.{values_of}
@@ -79,17 +79,17 @@ pub record TagsFit (kind : ℕ) (rows : List ℕ) : Type 0 where
   pub period : (p : Period) → element_fits kind p (get_or rows (role_row period_role rows) 0) bare_tag ≡ true
   pub interval : (p : Period) → element_fits kind p (get_or rows (role_row interval_role rows) 0) bare_tag ≡ true
   pub position : (p : Period) (t : List ℕ) → element_fits kind p (get_or rows (suc (role_row interval_role rows)) 0) (number_tag t) ≡ true
-  pub amount : (p : Period) (t : List ℕ) (m : ℤ) → amount_of (dropped (says t)) ≡ Thousandths m
+  pub amount : (p : Period) (t : List ℕ) (m : ℤ) → amount_of (dropped (says t)) ≡ Some m
       → element_fits kind p (get_or rows (suc (suc (role_row interval_role rows))) 0) (number_tag t) ≡ true
 
 tags-one : TagsFit 1 beschaffungsanforderung
 unfolding beschaffungsanforderung element_no names number_in same name_of form_of scheme_of role_of collapsed role_row asks_v asks_scheme agree no_demands message_alone kind_one kind_at demands_at meets no_others
-    dtd_agrees attributes_agree scheme_fits value_fits element_fits sayings given bytes bare_tag number_tag no_dtd_said judge form_refusal unless amount amount_by
+    dtd_agrees attributes_agree scheme_fits value_fits element_fits sayings given bytes bare_tag number_tag no_dtd_said judge form_refusal unless amount
 tags-one = record { series = λ p. refl; period = λ p. refl; interval = λ p. refl; position = λ p t. refl; amount = λ p t m e. rw e refl }
 
 tags-two : TagsFit 2 kostenblatt
 unfolding kostenblatt element_no names number_in same name_of form_of scheme_of role_of collapsed role_row asks_v asks_scheme agree no_demands message_alone kind_two kind_at demands_at meets no_others
-    dtd_agrees attributes_agree scheme_fits value_fits element_fits sayings given bytes bare_tag number_tag no_dtd_said judge form_refusal unless amount amount_by
+    dtd_agrees attributes_agree scheme_fits value_fits element_fits sayings given bytes bare_tag number_tag no_dtd_said judge form_refusal unless amount
 tags-two = record { series = λ p. refl; period = λ p. refl; interval = λ p. refl; position = λ p t. refl; amount = λ p t m e. rw e refl }
 
 pub tags-fit : (kind : ℕ) → cond (eqb kind 1) true (eqb kind 2) ≡ true → TagsFit kind (rows_of kind)

@@ -15,8 +15,7 @@ use Rattle.characters.specs.References.{digit}
 use Rattle.numbers.specs.Digits.{digits, number_from, only_digits}
 use Rattle.numbers.specs.Amount.{minus, unsigned, fraction_form, unsigned_form, written_amount}
 use Rattle.numbers.specs.Number.{number_form, at_most_nine, number_within, number_of}
-use Rattle.numbers.specs.declared.Number.{Number}
-use Rattle.numbers.specs.declared.Number.TheVariants.{Is, NotNumber}
+use Rattle.std.specs.Prelude.{Some}
 use Rattle.wholes.specs.Whole.{whole_text}
 use Rattle.wholes.proofs.Wholes.{whole-longer, whole-some}
 use Rattle.amounts.specs.Texts.{fraction_text, unsigned_text, amount_text}
@@ -48,7 +47,7 @@ whole-many (suc k) n h =
 -- ---- positions
 
 -- a text that is read as a position has at most five digits
-few-digits : (t : List ℕ) (n : ℕ) → number_of t 5 ≡ Is n → length t ≤ 5
+few-digits : (t : List ℕ) (n : ℕ) → number_of t 5 ≡ Some n → length t ≤ 5
 unfolding number_of at_most_nine number_within number_form
 few-digits t n e =
     ⊎_elim
@@ -56,7 +55,7 @@ few-digits t n e =
     (λ (y : number_form 5 t ≡ false). let z = rw y at e in absurd (zero-not-one (cc)))
     (bool_cases (number_form 5 t))
 
-pub position-told : (q n : ℕ) → number_of (whole_text q) 5 ≡ Is n → (q ≡ n) × (q ≤ 99999)
+pub position-told : (q n : ℕ) → number_of (whole_text q) 5 ≡ Some n → (q ≡ n) × (q ≤ 99999)
 unfolding tens
 position-told q n e =
     let w = only-position (whole_text q) n e in

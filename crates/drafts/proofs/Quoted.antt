@@ -9,14 +9,13 @@ use lib.Dec.{eqb, leb, ltb}
 use lib.IntN.{ℤ, pos, negsuc}
 use lib.ListN.{length}
 use borrow.Author.Tests.{ne_eqb, le-ltb, lt-ltb}
+use Rattle.std.specs.Prelude.{Some}
 use Rattle.lists.proofs.Cases.{bool_cases, leb-cases, both_true, never}
 use Rattle.slices.specs.Bytes.{byte}
 use Rattle.slices.specs.Walk.{WalkStep, go, stop, walk}
 use Rattle.characters.specs.Says.{Met, met, all_chars}
 use Rattle.characters.specs.References.{digit}
 use Rattle.attributes.specs.Attribute.{value, value_next, value_over, plain}
-use Rattle.attributes.specs.declared.Value.{Value}
-use Rattle.attributes.specs.declared.Value.TheVariants.{Long}
 use Rattle.attributes.proofs.Values.{plain_step}
 use Rattle.wholes.specs.Whole.{whole_text}
 use Rattle.amounts.specs.Texts.{decimals, pointed, fraction_text, unsigned_text, amount_text}
@@ -70,17 +69,17 @@ unfolding plain
 numeric-plain b l m =
     rw (le-ltb b 0x20 (omega arith), ne_eqb b 0x3C (λ z. omega (arith, z)), ne_eqb b 0x26 (λ z. omega (arith, z)), lt-ltb b 0x80 (omega arith)) refl
 
-numeric-walk : (b r : List ℕ) (at : ℕ) → Numeric b → walk met (value_next 0x22) value_over at 0 (b ++ (0x22 ∷ r)) ≡ Long (at + length b)
+numeric-walk : (b r : List ℕ) (at : ℕ) → Numeric b → walk met (value_next 0x22) value_over at 0 (b ++ (0x22 ∷ r)) ≡ Some (at + length b)
 unfolding Numeric walk byte plain
 numeric-walk [] r at h =
-    let step : value_next 0x22 at (met (0x22 ∷ r)) ≡ stop (Long at) = plain_step 0x22 at (0x22 ∷ r) refl in
-    rw (walk, step) (ap Long (omega arith))
+    let step : value_next 0x22 at (met (0x22 ∷ r)) ≡ stop (Some at) = plain_step 0x22 at (0x22 ∷ r) refl in
+    rw (walk, step) (ap Some (omega arith))
 numeric-walk (c ∷ b) r at h =
     let low = h.0 in
     let step : value_next 0x22 at (met (c ∷ (b ++ (0x22 ∷ r)))) ≡ go 1 (at + 1) =
     plain_step 0x22 at (c ∷ (b ++ (0x22 ∷ r))) (numeric-plain c h.0 h.1) ∙ rw (ne_eqb c 0x22 (λ z. omega (arith, z, low))) refl in
-    rw (walk, step) (numeric-walk b r (at + 1) h.2 ∙ ap Long (omega arith))
+    rw (walk, step) (numeric-walk b r (at + 1) h.2 ∙ ap Some (omega arith))
 
 pub numeric-quotable : (b : List ℕ) → Numeric b → Quotable b
 unfolding Quotable value
-numeric-quotable b h r = numeric-walk b r 0 h ∙ ap Long (omega arith)
+numeric-quotable b h r = numeric-walk b r 0 h ∙ ap Some (omega arith)

@@ -11,7 +11,7 @@ use columns::role_of;
 use slices::part;
 use states::asks_scheme;
 use tables::number_at;
-pub use views::{HEADER_PAIRS, SERIES_PAIRS};
+pub use views::{HEADER_PAIRS, SERIES_PAIRS, row_at};
 
 // Whether a value is given, by its pair in this cell and the next: "absent where its cells are 0 and 0". Ruled out: an empty value taken for an absent one.
 pub fn is_given(pairs: &[u32], cell: usize) -> bool
@@ -46,24 +46,12 @@ pub fn pairs_of(w: usize) -> usize
     if asks_scheme(w) { 2 } else { 1 }
 }
 
-// A row, and 0 past the end. Ruled out: the last row for one past the end.
-pub fn row_at(rows: &[usize], row: usize) -> usize
-    ensures { result ≡ get_or rows.now row 0 }
-{
-    if row < rows.len() { rows[row] } else { 0 }
-}
-
 // The first row with this role, or the end of the rows where there is none. Ruled out: a later one.
 pub fn role_row(rows: &[usize], role: usize) -> usize
     ensures row { result ≡ role_row role rows.now }
     ensures size { result ≤ length rows.now }
 {
-    let mut q: usize = 0;
-    while q < rows.len() {
-        if role_of(rows[q]) == role {
-            return q;
-        }
-        q += 1;
-    }
-    q
+    rows.iter()
+        .position(|w| role_of(*w) == role)
+        .unwrap_or(rows.len())
 }

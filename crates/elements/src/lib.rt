@@ -127,6 +127,7 @@ fn told(row: &[u8], n: usize, name: &[u8]) -> usize
 
 // The number of an element's name, 0 for a name that no kind has. The names of each length stand in a row, that with the highest number first.
 // Ruled out: 0 for the last name of the table; the number of a name that only begins alike; a known name in other letter case.
+// Longer than other functions since it is a table, an arm for each length: in two parts it is no plainer.
 pub fn element_no(name: &[u8]) -> usize
     ensures { result ≡ element_no name.now }
 {

@@ -17,12 +17,12 @@ use native.Mathlib.Nat.{zero-add}
 use native.Mathlib.Omega.{arith}
 use lib.ListN.{length, take}
 use lib.Seq.{take-append_seam}
+use Rattle.std.specs.Prelude.{Some}
 use Rattle.slices.specs.Run.{run}
 use Rattle.characters.specs.Says.{all_chars, says}
 use Rattle.attributes.specs.Names.{name_start, name_byte}
 use Rattle.attributes.specs.Attribute.{quote, value, attribute_end, piece}
 use Rattle.attributes.specs.declared.Piece.TheVariants.{Attribute}
-use Rattle.attributes.specs.declared.Value.TheVariants.{Long}
 use Rattle.attributes.proofs.Values.{quote-range}
 use Rattle.escapes.specs.Escaped.{escaped}
 use Rattle.escapes.specs.Spelled.{spelled, unescaped, chars_of}
@@ -37,13 +37,13 @@ module _ (t : List ℕ) (legal : all_chars t ≡ true) where
   says-escaped = ap (λ (s : List ℕ). says (escaped s)) (sym (text-spelled t legal)) ∙ escaped-says (chars_of t) (text-xml t legal)
 
   -- "double quotes": whatever follows the closing one
-  pub escaped-whole : (r : List ℕ) → value 0x22 (escaped t ++ 0x22 ∷ r) ≡ Long (length (escaped t))
+  pub escaped-whole : (r : List ℕ) → value 0x22 (escaped t ++ 0x22 ∷ r) ≡ Some (length (escaped t))
   unfolding value
   escaped-whole r =
       ap (λ (s : List ℕ). value 0x22 (escaped s ++ 0x22 ∷ r)) (sym (text-spelled t legal))
       ∙ escaped-value (chars_of t) r 0 (text-xml t legal)
-      ∙ ap Long (zero-add (length (escaped (spelled (chars_of t)))))
-      ∙ ap (λ (s : List ℕ). Long (length (escaped s))) (text-spelled t legal)
+      ∙ ap Some (zero-add (length (escaped (spelled (chars_of t)))))
+      ∙ ap (λ (s : List ℕ). Some (length (escaped s))) (text-spelled t legal)
 
   -- behind b and n, the bytes of a name
   pub written-attribute : (b : ℕ) (n r : List ℕ) → name_start b ≡ true → run name_byte (b ∷ n) ≡ length (b ∷ n)
@@ -62,7 +62,7 @@ pub escaped-one : (t u : List ℕ) → all_chars t ≡ true → all_chars u ≡ 
 escaped-one t u l m e = sym (unescaped-escaped t l) ∙ ap unescaped e ∙ unescaped-escaped u m
 
 -- a readable value, of m bytes at the front of x up to the quote q
-module _ (q : ℕ) (x : List ℕ) (m : ℕ) (quotes : quote q ≡ true) (whole : value q x ≡ Long m) where
+module _ (q : ℕ) (x : List ℕ) (m : ℕ) (quotes : quote q ≡ true) (whole : value q x ≡ Some m) where
   xml : Xml (says (take m x))
   xml = value-xml q (let r = quote-range q quotes in omega (arith, r.1)) x m whole
 
@@ -85,7 +85,7 @@ pub record Unescapes (t : List ℕ) : Type 0 where
   pub from : List ℕ
   pub size : ℕ
   pub quotes : quote mark ≡ true
-  pub whole : value mark from ≡ Long size
+  pub whole : value mark from ≡ Some size
   pub text : unescaped (take size from) ≡ t
 
 -- "refuses exactly when no document .. would be accepted": of a text, as far as its characters go

@@ -9,13 +9,12 @@ use native.Mathlib.Omega.{arith}
 use lib.Dec.{leb, eqb}
 use lib.ListN.{length, take}
 use borrow.Author.Tests.{lt-ltb, le-ltb, le-leb, lt-leb, leb-true, leb-false, eq-eqb, eqb-true}
+use Rattle.std.specs.Prelude.{Option, Some, None}
 use Rattle.lists.proofs.Cases.{by_cond, both_true, eqb-cases, ltb-cases, leb-cases, never}
 use Rattle.slices.specs.Bytes.{byte}
 use Rattle.slices.proofs.Near.{take-front}
 use Rattle.characters.specs.Utf8.{seq_len, low, high, second, later_byte, control, nonchar, single, double, triple, fourfold, char_at}
 use Rattle.characters.specs.References.{within, xml_char}
-use Rattle.characters.specs.declared.Char.{Char}
-use Rattle.characters.specs.declared.Char.TheVariants.{Is, NoChar}
 use Rattle.characters.proofs.Ascii.{low-ascii, char-ascii}
 use Rattle.characters.proofs.Low.{by-test, char-inside}
 use Rattle.escapes.specs.Spelled.{utf8}
@@ -160,15 +159,15 @@ nonchar-not a b c e p q = leb-false 0xBE c (rw (p, q) at e)
 
 module _ (a b c d : ℕ) where
   -- the first of these bytes are the spelling of an XML character
-  abbrev Spelt : Char → Type 0
-  Spelt (Is k n) = (n ≤ 4) × (take n (a ∷ b ∷ c ∷ d ∷ []) ≡ utf8 k) × XmlRange k
-  Spelt NoChar = Unit {0}
+  abbrev Spelt : Option (ℕ × ℕ) → Type 0
+  Spelt (Some (k, n)) = (n ≤ 4) × (take n (a ∷ b ∷ c ∷ d ∷ []) ≡ utf8 k) × XmlRange k
+  Spelt None = Unit {0}
 
-  spelt-one : a ≤ 0x7F → control a ≡ false → Spelt (Is a 1)
+  spelt-one : a ≤ 0x7F → control a ≡ false → Spelt (Some (a, 1))
   unfolding utf8
   spelt-one l e = (omega arith, rw (lt-ltb a 0x80 (omega arith)), control-low a (omega arith) e)
 
-  spelt-two : 0xC2 ≤ a → a ≤ 0xDF → Second a b → Spelt (Is (a % 32 * 64 + b % 64) 2)
+  spelt-two : 0xC2 ≤ a → a ≤ 0xDF → Second a b → Spelt (Some (a % 32 * 64 + b % 64, 2))
   unfolding utf8
   spelt-two l h s =
       let k = a % 32 * 64 + b % 64 in
@@ -195,7 +194,7 @@ module _ (a b c d : ℕ) where
       (eqb-cases a 0xED))
       (ltb-cases a 0xED)
 
-  spelt-three : 0xE0 ≤ a → a ≤ 0xEF → Second a b → (0x80 ≤ c) × (c ≤ 0xBF) → nonchar a b c ≡ false → Spelt (Is (a % 16 * 4096 + b % 64 * 64 + c % 64) 3)
+  spelt-three : 0xE0 ≤ a → a ≤ 0xEF → Second a b → (0x80 ≤ c) × (c ≤ 0xBF) → nonchar a b c ≡ false → Spelt (Some (a % 16 * 4096 + b % 64 * 64 + c % 64, 3))
   unfolding utf8
   spelt-three l h s t e =
       let k = a % 16 * 4096 + b % 64 * 64 + c % 64 in
@@ -216,7 +215,7 @@ module _ (a b c d : ℕ) where
       (eqb-cases a 0xF4)
 
   spelt-four : 0xF0 ≤ a → a ≤ 0xF4 → Second a b → (0x80 ≤ c) × (c ≤ 0xBF) → (0x80 ≤ d) × (d ≤ 0xBF)
-      → Spelt (Is (a % 8 * 262144 + b % 64 * 4096 + c % 64 * 64 + d % 64) 4)
+      → Spelt (Some (a % 8 * 262144 + b % 64 * 4096 + c % 64 * 64 + d % 64, 4))
   unfolding utf8
   spelt-four l h s t u =
       let k = a % 8 * 262144 + b % 64 * 4096 + c % 64 * 64 + d % 64 in
@@ -228,7 +227,7 @@ module _ (a b c d : ℕ) where
       (omega arith, rw (le-ltb k 0x80 (omega arith), le-ltb k 0x800 (omega arith), le-ltb k 0x10000 many, w, x, y, z), past many (four-most l h s))
 
   spelt-by : (k : ℕ) → Lead a k
-      → Spelt (cond (eqb k 1) (single a) (cond (eqb k 2) (double a b) (cond (eqb k 3) (triple a b c) (cond (eqb k 4) (fourfold a b c d) NoChar))))
+      → Spelt (cond (eqb k 1) (single a) (cond (eqb k 2) (double a b) (cond (eqb k 3) (triple a b c) (cond (eqb k 4) (fourfold a b c d) None))))
   unfolding single double triple fourfold
   spelt-by k (one l) = by-test Spelt (control a) (λ e. tt) (λ e. spelt-one l e)
   spelt-by k (two l h) = by-test Spelt (second a b) (λ e. spelt-two l h (second_is a b e)) (λ e. tt)
@@ -250,7 +249,7 @@ first-four s (suc (suc zero)) h = refl
 first-four s (suc (suc (suc zero))) h = refl
 first-four s (suc (suc (suc (suc i)))) h = absurd (omega arith)
 
-module _ (s : List ℕ) {c n : ℕ} (e : char_at s ≡ Is c n) where
+module _ (s : List ℕ) {c n : ℕ} (e : char_at s ≡ Some (c, n)) where
   front : (n ≤ 4) × (take n (byte s 0 ∷ byte s 1 ∷ byte s 2 ∷ byte s 3 ∷ []) ≡ utf8 c) × XmlRange c
   unfolding char_at
   front = let h = spelt-by (byte s 0) (byte s 1) (byte s 2) (byte s 3) (seq_len (byte s 0)) (lead (byte s 0)) in rw e at h
@@ -346,7 +345,7 @@ module _ (c : ℕ) where
 
   module _ (r : List ℕ) where
     abbrev Read : List ℕ → Type 0
-    Read l = char_at (l ++ r) ≡ Is c (length l)
+    Read l = char_at (l ++ r) ≡ Some (c, length l)
 
     read_one : c < 0x80 → XmlRange c → Read (c ∷ [])
     unfolding byte single
@@ -387,7 +386,7 @@ module _ (c : ℕ) where
         let k : a % 8 * 262144 + b % 64 * 4096 + d % 64 * 64 + e % 64 ≡ c = four-sum h in
         four-at a b d e r (omega arith) (omega arith) ∙ rw (s, later-in (c / 64), later-in c, k)
 
-    pub utf8-read : xml_char c ≡ true → char_at (utf8 c ++ r) ≡ Is c (length (utf8 c))
+    pub utf8-read : xml_char c ≡ true → char_at (utf8 c ++ r) ≡ Some (c, length (utf8 c))
     utf8-read e = by size (xml-range c e)
       where
         middle : 0x800 ≤ c → c < 0x10000 → XmlRange c → (c ≤ 0xD7FF) ⊎ ((0xE000 ≤ c) × (c ≤ 0xFFFD))
@@ -398,7 +397,7 @@ module _ (c : ℕ) where
         middle l h (behind p q) = inr (p, q)
         middle l h (past p q) = absurd (omega arith)
 
-        by : Size → XmlRange c → char_at (utf8 c ++ r) ≡ Is c (length (utf8 c))
+        by : Size → XmlRange c → char_at (utf8 c ++ r) ≡ Some (c, length (utf8 c))
         by (one h) x = rw (utf8-one h) (read_one h x)
         by (two l h) x = rw (utf8-two l h) (read-two l h)
         by (three l h) x = rw (utf8-three l h) (read-three l h (middle l h x))

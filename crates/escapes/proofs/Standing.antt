@@ -8,6 +8,7 @@ use mathlib.Core.Logic.{⊎_elim}
 use native.Mathlib.Omega.{arith}
 use lib.ListN.{length, length-append}
 use borrow.Author.Tests.{ne_eqb}
+use Rattle.std.specs.Prelude.{Some}
 use Rattle.lists.proofs.Cases.{eqb-cases, ltb-cases}
 use Rattle.slices.specs.Bytes.{byte}
 use Rattle.slices.specs.Part.{part_of}
@@ -17,10 +18,8 @@ use Rattle.slices.specs.Text.{text}
 use Rattle.slices.specs.Walk.{go, stop, walk}
 use Rattle.characters.specs.References.{xml_char, digit, ref_digit, base, digit_value, number_by, char_by, numbered_to, numbered_at, named_at, reference_at}
 use Rattle.characters.specs.Says.{referred, standing, met, char_of, says}
-use Rattle.characters.specs.declared.Char.TheVariants.{Is}
 use Rattle.characters.proofs.Saying.{says_none}
 use Rattle.attributes.specs.Attribute.{fit, standing_next, referred_next, value_next, value_over, plain}
-use Rattle.attributes.specs.declared.Value.TheVariants.{Long}
 use Rattle.attributes.proofs.Values.{met-other, fit-other, plain_step}
 use Rattle.escapes.specs.Escaped.{escaped_byte, escaped}
 use Rattle.escapes.specs.Spelled.{utf8, spelled}
@@ -30,8 +29,8 @@ use Rattle.escapes.proofs.Texts.{Xml, walk-piece, says-piece}
 
 -- e in front of s is met as c, all of e
 data Stands (c : ℕ) (e s : List ℕ) : Type 0 where
-  refers : met (e ++ s) ≡ referred (Is c (length e)) → Stands c e s
-  stays : met (e ++ s) ≡ standing (Is c (length e)) → fit c ≡ true → (c ≡ 0x22 → ⊥) → Stands c e s
+  refers : met (e ++ s) ≡ referred (Some (c, length e)) → Stands c e s
+  stays : met (e ++ s) ≡ standing (Some (c, length e)) → fit c ≡ true → (c ≡ 0x22 → ⊥) → Stands c e s
 
 -- ---- the six
 
@@ -152,7 +151,7 @@ escaped-stands c e s =
 
 -- ---- all of them
 
-stands_char : {c : ℕ} {e s : List ℕ} → Stands c e s → char_of (met (e ++ s)) ≡ Is c (length e)
+stands_char : {c : ℕ} {e s : List ℕ} → Stands c e s → char_of (met (e ++ s)) ≡ Some (c, length e)
 unfolding char_of
 stands_char (refers q) = ap char_of q
 stands_char (stays q f n) = ap char_of q
@@ -178,13 +177,13 @@ unfolding plain
 quote-plain = refl
 
 -- the closing quote
-closed : (at : ℕ) (r : List ℕ) → walk met (value_next 0x22) value_over at 0 (0x22 ∷ r) ≡ Long at
+closed : (at : ℕ) (r : List ℕ) → walk met (value_next 0x22) value_over at 0 (0x22 ∷ r) ≡ Some at
 unfolding walk byte
-closed at r = let step : value_next 0x22 at (met (0x22 ∷ r)) ≡ stop (Long at) = plain_step 0x22 at (0x22 ∷ r) quote-plain in rw (walk, step)
+closed at r = let step : value_next 0x22 at (met (0x22 ∷ r)) ≡ stop (Some at) = plain_step 0x22 at (0x22 ∷ r) quote-plain in rw (walk, step)
 
-pub escaped-value : (l r : List ℕ) (at : ℕ) → Xml l → walk met (value_next 0x22) value_over at 0 (escaped (spelled l) ++ 0x22 ∷ r) ≡ Long (at + length (escaped (spelled l)))
+pub escaped-value : (l r : List ℕ) (at : ℕ) → Xml l → walk met (value_next 0x22) value_over at 0 (escaped (spelled l) ++ 0x22 ∷ r) ≡ Some (at + length (escaped (spelled l)))
 unfolding Xml spelled
-escaped-value [] r at x = rw escaped-none (closed at r ∙ ap Long (omega arith))
+escaped-value [] r at x = rw escaped-none (closed at r ∙ ap Some (omega arith))
 escaped-value (c ∷ l) r at x =
     let e = escaped (utf8 c) in
     let s = escaped (spelled l) in
@@ -194,4 +193,4 @@ escaped-value (c ∷ l) r at x =
     ∙ ap (walk met (value_next 0x22) value_over at 0) (append_assoc e s (0x22 ∷ r))
     ∙ walk-piece met (value_next 0x22) value_over e (s ++ 0x22 ∷ r) at (at + length e) (char-some c) (stands-next (escaped-stands c x.0 (s ++ 0x22 ∷ r)) at)
     ∙ escaped-value l r (at + length e) x.1
-    ∙ ap Long long
+    ∙ ap Some long

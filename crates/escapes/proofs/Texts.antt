@@ -6,13 +6,12 @@ use mathlib.Core.Bool.{Bool, true}
 use native.Mathlib.Omega.{arith}
 use lib.ListN.{length, drop, take-append-drop, length-append}
 use lib.Seq.{drop_at}
+use Rattle.std.specs.Prelude.{Option, Some, None}
 use Rattle.lists.proofs.Cases.{never}
 use Rattle.slices.specs.Walk.{WalkStep, go, walk}
 use Rattle.characters.specs.Utf8.{char_at}
 use Rattle.characters.specs.References.{xml_char}
 use Rattle.characters.specs.Says.{char_next, chars_over, all_chars, met, char_of, said_by, says}
-use Rattle.characters.specs.declared.Char.{Char}
-use Rattle.characters.specs.declared.Char.TheVariants.{Is, NoChar}
 use Rattle.characters.proofs.Low.{char-size}
 use Rattle.characters.proofs.Saying.{says-char, said-by}
 use Rattle.escapes.specs.Spelled.{utf8, spelled, chars_after, chars_of}
@@ -42,12 +41,12 @@ unfolding chars_after
 chars-pass [] s = refl
 chars-pass (b ∷ e) s = chars-pass e s
 
-chars-piece : (e s : List ℕ) (c : ℕ) → 1 ≤ length e → char_at (e ++ s) ≡ Is c (length e) → chars_of (e ++ s) ≡ c ∷ chars_of s
+chars-piece : (e s : List ℕ) (c : ℕ) → 1 ≤ length e → char_at (e ++ s) ≡ Some (c, length e) → chars_of (e ++ s) ≡ c ∷ chars_of s
 unfolding chars_of chars_after
 chars-piece [] s c h q = absurd (omega arith)
 chars-piece (b ∷ e) s c h q = rw (chars_after, q) (ap (λ (l : List ℕ). c ∷ l) (chars-pass e s))
 
-pub says-piece : (e s : List ℕ) (c : ℕ) → 1 ≤ length e → char_of (met (e ++ s)) ≡ Is c (length e) → says (e ++ s) ≡ c ∷ says s
+pub says-piece : (e s : List ℕ) (c : ℕ) → 1 ≤ length e → char_of (met (e ++ s)) ≡ Some (c, length e) → says (e ++ s) ≡ c ∷ says s
 unfolding said_by
 says-piece e s c h q =
     let some = length-append e s in
@@ -84,10 +83,10 @@ spelt-after [] (suc k) h = record { xml = tt; bytes = refl }
 spelt-after (b ∷ v) (suc k) h = let r = spelt-after v k h in record { xml = r.xml; bytes = r.bytes }
 spelt-after (b ∷ v) zero h = by (char_at (b ∷ v)) refl (spelt-after v)
   where
-    by : (x : Char) → char_at (b ∷ v) ≡ x → ((k : ℕ) → chars_from k v ≡ true → Spelt k v) → Spelt zero (b ∷ v)
-    by NoChar g f = never (rw (walk, g) at h)
-    by (Is c zero) g f = let z = char-size (b ∷ v) g in absurd (omega arith)
-    by (Is c (suc n)) g f =
+    by : (x : Option (ℕ × ℕ)) → char_at (b ∷ v) ≡ x → ((k : ℕ) → chars_from k v ≡ true → Spelt k v) → Spelt zero (b ∷ v)
+    by None g f = never (rw (walk, g) at h)
+    by (Some (c, zero)) g f = let z = char-size (b ∷ v) g in absurd (omega arith)
+    by (Some (c, suc n)) g f =
         let r = f n (rw (walk, g) at h) in
         record {
           xml = rw (chars_after, g) (char-xml (b ∷ v) g, r.xml);

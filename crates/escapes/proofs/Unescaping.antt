@@ -9,15 +9,13 @@ use native.Mathlib.Omega.{arith}
 use lib.ListN.{length, take, drop, length-append, length-take, length-drop}
 use lib.Seq.{sets}
 use borrow.Rule.Slice.PartMut.{mid_of, put_mid}
+use Rattle.std.specs.Prelude.{Option, Some, None}
 use Rattle.lists.proofs.Cases.{bool_cases, zero-not-one}
 use Rattle.lists.proofs.Loans.{rest_part}
 use Rattle.characters.specs.References.{within, xml_char, char_by, reference_at}
 use Rattle.characters.specs.Says.{met, char_of, said_at, says_after, says}
-use Rattle.characters.specs.declared.Char.TheVariants.{Is, NoChar}
-use Rattle.characters.specs.declared.Said.{Said}
-use Rattle.characters.specs.declared.Said.TheVariants.{Says, Over}
 use Rattle.characters.proofs.Low.{char-inside}
-use Rattle.characters.proofs.Units.{Referred, hex, dec, amp, lt, gt, quot, apos, referred-is, Unit', stands, refers, unit-is}
+use Rattle.characters.proofs.Units.{not-some, pair-parts, Referred, hex, dec, amp, lt, gt, quot, apos, referred-is, Unit', stands, refers, unit-is}
 use Rattle.characters.proofs.Saying.{said-char, said-over, said-end, said-not-over, Uttered, unit, stray, uttered, said-some-bytes, said-inside}
 use Rattle.escapes.specs.Spelled.{utf8, spelled, unescaped}
 use Rattle.escapes.proofs.Putting.{Put, put-piece, put-end}
@@ -25,15 +23,15 @@ use Rattle.escapes.proofs.Spelling.{char-spelt, char-xml, xml-most, utf8-few}
 
 -- ---- what a unit says
 
-char-by : (k c n : ℕ) → char_by k n ≡ Is c n → xml_char c ≡ true
+char-by : (k c n : ℕ) → char_by k n ≡ Some (c, n) → xml_char c ≡ true
 unfolding char_by
 char-by k c n e =
     ⊎_elim
-    (λ (t : xml_char k ≡ true). let f : Is k n ≡ Is c n = rw t at e in let g : k ≡ c = cc in rw (← g) t)
-    (λ (t : xml_char k ≡ false). let f : NoChar ≡ Is c n = rw t at e in absurd (zero-not-one (cc)))
+    (λ (t : xml_char k ≡ true). let g : k ≡ c = (pair-parts (rw t at e)).0 in rw (← g) t)
+    (λ (t : xml_char k ≡ false). absurd (not-some (rw t at e)))
     (bool_cases (xml_char k))
 
-module _ (s : List ℕ) {c n : ℕ} (e : reference_at s ≡ Is c n) where
+module _ (s : List ℕ) {c n : ℕ} (e : reference_at s ≡ Some (c, n)) where
   reference-xml : xml_char c ≡ true
   unfolding xml_char within
   reference-xml = by (referred-is s e)
@@ -59,7 +57,7 @@ module _ (s : List ℕ) {c n : ℕ} (e : reference_at s ≡ Is c n) where
       by (quot w) = omega (arith, w.long)
       by (apos w) = omega (arith, w.long)
 
-module _ (s : List ℕ) {c n : ℕ} (e : char_of (met s) ≡ Is c n) where
+module _ (s : List ℕ) {c n : ℕ} (e : char_of (met s) ≡ Some (c, n)) where
   pub unit-xml : xml_char c ≡ true
   unit-xml = by (unit-is s e)
     where
@@ -74,7 +72,7 @@ module _ (s : List ℕ) {c n : ℕ} (e : char_of (met s) ≡ Is c n) where
       by (stands a q) = omega (arith, ap length (char-spelt s q), length-take n s, char-inside s q)
       by (refers a q) = omega (arith, utf8-few c, reference-long s q)
 
-module _ (v : List ℕ) (some : 0 < length v) {c n : ℕ} (e : said_at v ≡ Says c n) where
+module _ (v : List ℕ) (some : 0 < length v) {c n : ℕ} (e : said_at v ≡ Some (c, n)) where
   said-below : c < 0x110000
   said-below = by (uttered v some e)
     where
@@ -98,10 +96,10 @@ most-after [] k h = omega arith
 most-after (b ∷ v) (suc k) h = let r = most-after v k (omega arith) in omega arith
 most-after (b ∷ v) zero h = by (said_at (b ∷ v)) refl (most-after v)
   where
-    by : (x : Said) → said_at (b ∷ v) ≡ x → ((k : ℕ) → k ≤ length v → length (spelled (says_after k v)) + k ≤ length v)
+    by : (x : Option (ℕ × ℕ)) → said_at (b ∷ v) ≡ x → ((k : ℕ) → k ≤ length v → length (spelled (says_after k v)) + k ≤ length v)
         → length (spelled (says_after zero (b ∷ v))) + 0 ≤ suc (length v)
-    by Over g f = absurd (said-not-over (b ∷ v) (omega arith) g)
-    by (Says c n) g f =
+    by None g f = absurd (said-not-over (b ∷ v) (omega arith) g)
+    by (Some (c, n)) g f =
         let some = said-some-bytes (b ∷ v) (omega arith) g in
         let inside = said-inside (b ∷ v) (omega arith) g in
         let long = said-long (b ∷ v) (omega arith) g in
@@ -116,7 +114,7 @@ unescaped-most v = let r = most-after v 0 (omega arith) in omega arith
 
 -- x is what the call of `said_at` on `&v[i..]` answered
 module _ (v b₀ b : List ℕ) (at i : ℕ) (p : Put (unescaped v) b₀ b at (unescaped (drop i v))) where
-  module _ (h : i < length v) {x : Said} (e : x ≡ said_at (take (length v - i) (drop i v))) {c n : ℕ} (q : x ≡ Says c n) where
+  module _ (h : i < length v) {x : Option (ℕ × ℕ)} (e : x ≡ said_at (take (length v - i) (drop i v))) {c n : ℕ} (q : x ≡ Some (c, n)) where
     there : 0 < length (take (length v - i) (drop i v))
     there = rw (rest_part i v, length-drop) (omega arith)
 
@@ -128,7 +126,7 @@ module _ (v b₀ b : List ℕ) (at i : ℕ) (p : Put (unescaped v) b₀ b at (un
     unfolding unescaped spelled
     unescaped-more m from k l ef ek el = put-piece p (utf8 c) (ap spelled (said-char v i e h q m)) ef ek el
 
-  pub unescaped-over : {x : Said} → x ≡ said_at (take (length v - i) (drop i v)) → x ≡ Over → (at ≡ length (unescaped v)) × (b ≡ sets b₀ 0 (unescaped v))
+  pub unescaped-over : {x : Option (ℕ × ℕ)} → x ≡ said_at (take (length v - i) (drop i v)) → x ≡ None → (at ≡ length (unescaped v)) × (b ≡ sets b₀ 0 (unescaped v))
   unfolding unescaped spelled
   unescaped-over e q = put-end p (ap spelled (said-over v i e q))
 

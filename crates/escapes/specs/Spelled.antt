@@ -1,8 +1,7 @@
 -- Characters as bytes, and the bytes of what a value says.
-use Rattle.std.specs.Prelude.{ℕ, zero, suc, pred, ◌+◌, ◌/◌, ◌%◌, List, [], ◌∷◌, ◌++◌, cond, ltb}
+use Rattle.std.specs.Prelude.{ℕ, zero, suc, pred, ◌+◌, ◌/◌, ◌%◌, List, [], ◌∷◌, ◌++◌, cond, ltb, Some, None}
 use Rattle.characters.specs.Utf8.{char_at}
 use Rattle.characters.specs.Says.{says}
-use Rattle.characters.specs.declared.Char.TheVariants.{Is, NoChar}
 
 -- RFC 3629: a character below 80 is its own byte, one below 800 has two bytes, one below 10000 three, any other four; six bits to each byte after the first
 unfoldable pub utf8 : ℕ → List ℕ
@@ -24,7 +23,7 @@ unescaped v = spelled (says v)
 unfoldable pub chars_after : ℕ → List ℕ → List ℕ
 chars_after k [] = []
 chars_after (suc k) (b ∷ t) = chars_after k t
-chars_after zero (b ∷ t) = elim (char_at (b ∷ t)) [ Is c n ↦ c ∷ chars_after (pred n) t | NoChar ↦ 0 ∷ chars_after 0 t ]
+chars_after zero (b ∷ t) = elim (char_at (b ∷ t)) [ Some (c, n) ↦ c ∷ chars_after (pred n) t | None ↦ 0 ∷ chars_after 0 t ]
 
 unfoldable pub chars_of : List ℕ → List ℕ
 chars_of t = chars_after 0 t

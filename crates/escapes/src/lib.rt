@@ -6,7 +6,7 @@ ghost use Rattle.std.proofs.lemmas.List.Edits.{sets};
 ghost use Rattle.escapes.specs.Escaped.{escaped_byte, escaped};
 ghost use Rattle.escapes.specs.Spelled.{utf8, unescaped};
 
-use characters::{Said, said_at};
+use characters::said_at;
 
 // Sets the byte at i; past the end there is none.
 fn set_byte(t: &mut [u8], i: usize, b: u8)
@@ -32,12 +32,10 @@ fn put_text(free: &mut [u8], t: &[u8]) -> usize
     ensures answer { result ≡ length t.now }
     ensures buffer { free.new ≡ sets free.old 0 t.now }
 {
-    let mut i: usize = 0;
-    while i < t.len() {
+    for i in 0..t.len() {
         set_byte(free, i, t[i]);
-        i += 1;
     }
-    i
+    t.len()
 }
 
 // Puts a byte, or the reference that it needs.
@@ -66,13 +64,11 @@ pub fn put_escaped(free: &mut [u8], v: &[u8]) -> usize
     ensures buffer { free.new ≡ sets free.old 0 (escaped v.now) }
 {
     let mut at: usize = 0;
-    let mut i: usize = 0;
-    while i < v.len() {
+    for i in 0..v.len() {
         if free.len() < at {
             return free.len() + 1;
         }
         at += put_escaped_byte(&mut free[at..], v[i]);
-        i += 1;
     }
     if free.len() < at {
         return free.len() + 1;
@@ -124,14 +120,12 @@ pub fn put_unescaped(free: &mut [u8], v: &[u8]) -> usize
     let mut at: usize = 0;
     let mut i: usize = 0;
     while i < v.len() {
-        match said_at(&v[i..]) {
-            Said::Says(c, n) => {
-                let from = free_from(at, free.len());
-                at += put_utf8(&mut free[from..], c);
-                i += n;
-            }
-            Said::Over => return at,
-        }
+        let Some((c, n)) = said_at(&v[i..]) else {
+            return at;
+        };
+        let from = free_from(at, free.len());
+        at += put_utf8(&mut free[from..], c);
+        i += n;
     }
     at
 }

@@ -9,11 +9,11 @@ use lib.Dec.{ltb}
 use lib.ListN.{length, take, drop}
 use lib.Seq.{sets, sets-eq, take_at}
 use borrow.Author.Tests.{lt-ltb, le-ltb}
+use Rattle.std.specs.Prelude.{None}
 use Rattle.lists.proofs.Cases.{by_cond}
 use Rattle.slices.specs.Same.{same}
 use Rattle.lines.specs.Text.{digit_of, hex_bytes, hex_text}
 use Rattle.notes.specs.Reader.{note_in}
-use Rattle.notes.specs.declared.NoteRead.TheVariants.{NotOneNote}
 use Rattle.explanations.specs.Explanation.{note_on}
 
 -- w put into a buffer that has room for it, and taken from there
@@ -32,7 +32,7 @@ bytes-size h (c ∷ s) =
     (by_cond Short (ltb h 16) (omega (arith, bytes-size 16 s)) (omega (arith, bytes-size (digit_of c) s)))
     (omega (arith, bytes-size h s))
 
-pub on-long : (line : List ℕ) → 56 < length line → NotOneNote ≡ note_on line
+pub on-long : (line : List ℕ) → 56 < length line → None ≡ note_on line
 unfolding note_on
 on-long line h = simp (lt-ltb 56 (length line) h)
 
@@ -42,6 +42,6 @@ module _ (line : List ℕ) (h : length line ≤ 56) (t : List ℕ) (e : t ≡ he
   unfolding note_on
   on_same y = simp (le-ltb 56 (length line) h, ← e, ← q, y)
 
-  pub on-other : f ≡ false → NotOneNote ≡ note_on line
+  pub on-other : f ≡ false → None ≡ note_on line
   unfolding note_on
   on-other y = simp (le-ltb 56 (length line) h, ← e, ← q, y)

@@ -17,6 +17,7 @@ use lib.Dec.{eqb, ltb}
 use lib.ListN.{length, get_or, length-append}
 use lib.Seq.{take-append_seam}
 use borrow.Author.Tests.{le-ltb}
+use Rattle.std.specs.Prelude.{Option, Some, None}
 use Rattle.lists.proofs.Cases.{ltb-cases, bool_cases, by_cond, zero-not-one}
 use Rattle.slices.specs.Same.{same, begins}
 use Rattle.slices.proofs.Sames.{same_self, same-equal}
@@ -24,8 +25,6 @@ use Rattle.slices.specs.Text.{text}
 use Rattle.lines.specs.Text.{hex_bytes, hex_text}
 use Rattle.lines.proofs.Hex.{hex-size}
 use Rattle.notes.specs.declared.Note.{Note}
-use Rattle.notes.specs.declared.NoteRead.{NoteRead}
-use Rattle.notes.specs.declared.NoteRead.TheVariants.{Taken, NotOneNote}
 use Rattle.notes.specs.declared.Shape.{Shape}
 use Rattle.notes.specs.declared.Shape.TheVariants.{Old, New}
 use Rattle.notes.specs.Note.{new_mark, numbers_for, note_of, tells_in, AllBelow}
@@ -38,7 +37,7 @@ use Rattle.explanations.specs.Explanation.{refusal_words, head_part, words_part,
 use Rattle.explanations.proofs.Printed.{note-bytes, read-bytes, printed-back}
 
 module _ (shape : Shape) (n : Note) (h : AllBelow (2 ^ 21) (numbers_for shape n)) (f : n.refusal ≡ new_mark → ⊥) where
-  on-printed : note_on (hex_text (note_of shape n)) ≡ Taken (tells_in shape n)
+  on-printed : note_on (hex_text (note_of shape n)) ≡ Some (tells_in shape n)
   unfolding note_on
   on-printed =
       let s = note_of shape n in
@@ -92,7 +91,7 @@ in-depth = refl
 
 -- ---- the six numbers decide
 abbrev six : Note → List ℕ
-six n = six_of (Taken n)
+six n = six_of (Some n)
 
 same_numbers : (n m : Note) → six n ≡ six m → explained n ≡ explained m
 same_numbers n m e =
@@ -101,15 +100,15 @@ same_numbers n m e =
     explained (record { refusal = get_or l 0 0; place = get_or l 1 0; kind = get_or l 2 0; series = get_or l 3 0; intervals = get_or l 4 0; depth = get_or l 5 0 }))
     e
 
-pub numbers-decide : (x y : List ℕ) (n m : Note) → note_on x ≡ Taken n → note_on y ≡ Taken m → six n ≡ six m → explanation x ≡ explanation y
+pub numbers-decide : (x y : List ℕ) (n m : Note) → note_on x ≡ Some n → note_on y ≡ Some m → six n ≡ six m → explanation x ≡ explanation y
 unfolding explanation
 numbers-decide x y n m ex ey e = ap meaning ex ∙ same_numbers n m e ∙ sym (ap meaning ey)
 
 -- ---- nothing else is explained
-not_taken : {n : Note} → NotOneNote ≡ Taken n → ⊥
+not_taken : {n : Note} → None ≡ Some n → ⊥
 not_taken e = zero-not-one (cc)
 
-pub only-notes : (line : List ℕ) (n : Note) → note_on line ≡ Taken n → (shape : Shape) × (line ≡ hex_text (note_of shape n)) × AllBelow (2 ^ 21) (numbers_for shape n)
+pub only-notes : (line : List ℕ) (n : Note) → note_on line ≡ Some n → (shape : Shape) × (line ≡ hex_text (note_of shape n)) × AllBelow (2 ^ 21) (numbers_for shape n)
 unfolding note_on
 only-notes line n e =
     let b = hex_bytes 16 line in
@@ -118,7 +117,7 @@ only-notes line n e =
     (λ y.
     ⊎_elim
     (λ z.
-    let q : note_in b ≡ Taken n = rw (y.1, z) at e in
+    let q : note_in b ≡ Some n = rw (y.1, z) at e in
     let i = (accepts-exactly b n (read-bytes 16 line)).0 q in
     (i.0, sym (same-equal (hex_text b) line z) ∙ ap hex_text i.1.bytes, i.1.small))
     (λ z. absurd (not_taken (rw (y.1, z) at e)))
@@ -185,9 +184,9 @@ depth-size : (n : ℕ) → Short 40 (depth_line n)
 unfolding depth_line most
 depth-size n = by_cond (Short 40) (ltb 12 n) (omega (arith, around-size (text "Depth: ") n (text " elements deep.\n"))) (omega (arith, row-size depth_lines n))
 
-meaning-size : (r : NoteRead) → Short 370 (meaning r)
+meaning-size : (r : Option Note) → Short 370 (meaning r)
 unfolding explained
-meaning-size (Taken n) =
+meaning-size (Some n) =
     let l1 = refusal_line n.refusal in
     let l2 = place_line n.refusal n.place in
     let l3 = kind_line n.kind in
@@ -208,7 +207,7 @@ meaning-size (Taken n) =
       intervals-size n.intervals,
       depth-size n.depth,
     )
-meaning-size NotOneNote = omega arith
+meaning-size None = omega arith
 
 pub explanation-fits : (line : List ℕ) → length (explanation line) ≤ 370
 unfolding explanation

@@ -1,11 +1,9 @@
 -- What a note says, in words. Every note is explained by its numbers, also one that no document reader gives, as acceptance with kind 0.
-use Rattle.std.specs.Prelude.{ℕ, List, [], ◌∷◌, ◌++◌, cond, eqb, ltb, length, get_or}
+use Rattle.std.specs.Prelude.{ℕ, List, [], ◌∷◌, ◌++◌, cond, eqb, ltb, length, get_or, Option, Some, None}
 use Rattle.slices.specs.Same.{same}
 use Rattle.slices.specs.Text.{text}
 use Rattle.lines.specs.Text.{hex_bytes, hex_text}
 use Rattle.notes.specs.declared.Note.{Note}
-use Rattle.notes.specs.declared.NoteRead.{NoteRead}
-use Rattle.notes.specs.declared.NoteRead.TheVariants.{Taken, NotOneNote}
 use Rattle.notes.specs.Reader.{note_in}
 use Rattle.explanations.specs.Decimal.{around}
 
@@ -92,14 +90,14 @@ explained n =
 
 -- The note on a line, of either shape, where the line is as the program prints one: "two-digit upper-case hex, single spaces". No note has more than 19 bytes
 -- (`fits-most` of notes), so no line of a note has more than 56 characters.
-unfoldable pub note_on : List ℕ → NoteRead
+unfoldable pub note_on : List ℕ → Option Note
 note_on line =
-    cond (ltb 56 (length line)) NotOneNote
-    (cond (same (hex_text (hex_bytes 16 line)) line) (note_in (hex_bytes 16 line)) NotOneNote)
+    cond (ltb 56 (length line)) None
+    (cond (same (hex_text (hex_bytes 16 line)) line) (note_in (hex_bytes 16 line)) None)
 
-abbrev pub meaning : NoteRead → List ℕ
-meaning (Taken n) = explained n
-meaning NotOneNote = text "This is not a note.\n"
+abbrev pub meaning : Option Note → List ℕ
+meaning (Some n) = explained n
+meaning None = text "This is not a note.\n"
 
 unfoldable pub explanation : List ℕ → List ℕ
 explanation line = meaning (note_on line)

@@ -10,7 +10,7 @@ ghost use Rattle.explanations.specs.Decimal.{decimal, around};
 ghost use Rattle.explanations.specs.Explanation.{head_part, words_part, refusal_line, place_line, kind_line, series_part, intervals_part, depth_line, explained, note_on, explanation};
 
 use lines::{put_bytes, put_hex, put_text};
-use notes::{Note, NoteRead, read_note};
+use notes::{Note, read_note};
 use slices::{front, is_same};
 
 fn add_text(out: &mut [u8], at: usize, s: &[u8]) -> usize
@@ -31,6 +31,7 @@ fn add_number(out: &mut [u8], at: usize, n: u32) -> usize
     let mut digits = [0u8; 10];
     let mut i: usize = 9;
     let mut rest = n;
+    // no `for`: the turns end with the digits, so it would need a break
     while 10 <= rest {
         digits[i] = (48 + rest % 10) as u8;
         rest = rest / 10;
@@ -199,11 +200,11 @@ fn add_note(out: &mut [u8], at: usize, n: Note) -> usize
 }
 
 // The note on a line, of either shape, as the program prints one. The bytes are printed again and compared, so that a line with anything else on it is none.
-fn read_line(line: &[u8]) -> NoteRead
+fn read_line(line: &[u8]) -> Option<Note>
     ensures { result ≡ note_on line.now }
 {
     if 56 < line.len() {
-        return NoteRead::NotOneNote;
+        return None;
     }
     let mut bytes = [0u8; 56];
     let n = put_bytes(line, &mut bytes);
@@ -212,7 +213,7 @@ fn read_line(line: &[u8]) -> NoteRead
     if is_same(front(&text, m), line) {
         return read_note(front(&bytes, n));
     }
-    NoteRead::NotOneNote
+    None
 }
 
 // Puts what the note on a line means at the start of out, as much as it has room for, and answers how many characters.
@@ -223,7 +224,7 @@ pub fn put_explanation(line: &[u8], out: &mut [u8]) -> usize
     ensures room { IsPrefixLen result out.new }
 {
     match read_line(line) {
-        NoteRead::Taken(n) => add_note(out, 0, n),
-        NoteRead::NotOneNote => add_text(out, 0, b"This is not a note.\n"),
+        Some(n) => add_note(out, 0, n),
+        None => add_text(out, 0, b"This is not a note.\n"),
     }
 }

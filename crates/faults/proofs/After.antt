@@ -8,6 +8,7 @@ use native.Mathlib.Omega.{arith}
 use lib.ListN.{length, take, drop, length-drop, length-take, drop_of_length-le, take-append-drop}
 use lib.Seq.{drop-cons, drop-drop, length-take-le, take-take, take-append-le, drop-append-le}
 use borrow.Author.Tests.{le-ltb}
+use Rattle.std.specs.Prelude.{Result, Ok, Err}
 use Rattle.lists.proofs.Cases.{bool_cases, ltb-cases, by_cond, never}
 use Rattle.slices.specs.Bytes.{byte}
 use Rattle.slices.specs.Walk.{walk}
@@ -15,8 +16,6 @@ use Rattle.slices.specs.Same.{here, first_at}
 use Rattle.structure.specs.Rows.{over_of}
 use Rattle.guideline.specs.Rows.{rows_of}
 use Rattle.prolog.specs.Prolog.{begin}
-use Rattle.prolog.specs.declared.Begin.{Begin}
-use Rattle.prolog.specs.declared.Begin.TheVariants.{From, Misdeclared}
 use Rattle.prolog.proofs.Promises.{refused-declaration}
 use Rattle.items.specs.Text.{text_to, text_item}
 use Rattle.items.specs.Item.{item, is_readable, item_end}
@@ -27,8 +26,7 @@ use Rattle.states.specs.Moves.{begun}
 use Rattle.states.specs.declared.State.{State}
 use Rattle.states.specs.declared.Room.{Room}
 use Rattle.states.specs.declared.Entry.{Entry}
-use Rattle.states.specs.declared.Step.{Step}
-use Rattle.states.specs.declared.Step.TheVariants.{Next, Refused}
+use Rattle.states.specs.Step.{Step, Next, Refused}
 use Rattle.reader.specs.Items.{Placed, placed, items_after, items_from}
 use Rattle.reader.specs.Reading.{Tables, Out, blank, refused_at, accepted_at, ended_at, step_of, tables_after, read_items, items_read, read_after, read_into, read_sheet, room_in}
 use Rattle.reader.specs.Answer.{Outcome, read_of}
@@ -194,11 +192,11 @@ module _ (x y : List ℕ) (room : Room) (r q : List ℕ) (stop : TextEnds r → 
 
 -- ---- a document x, read from its first item on, at k, up to the place p
 
-into : (doc : List ℕ) (t : Tables) (k : ℕ) → begin doc ≡ From k → read_into doc t ≡ read_items doc (room_in t) (items_after 0 k (drop k doc)) begun t
+into : (doc : List ℕ) (t : Tables) (k : ℕ) → begin doc ≡ Ok k → read_into doc t ≡ read_items doc (room_in t) (items_after 0 k (drop k doc)) begun t
 unfolding read_into read_after items_read items_from
 into doc t k e = rw e
 
-module _ (x : List ℕ) (t : Tables) (k p : ℕ) (bx : begin x ≡ From k) (place : (read_items x (room_in t) (items_after 0 k (drop k x)) begun t).found.place ≡ p) where
+module _ (x : List ℕ) (t : Tables) (k p : ℕ) (bx : begin x ≡ Ok k) (place : (read_items x (room_in t) (items_after 0 k (drop k x)) begun t).found.place ≡ p) where
   long : k + length (drop k x) ≡ length x
   long = let b = begin-told x k bx in omega (arith, b.inside, length-drop k x)
 
@@ -295,10 +293,10 @@ module _ (x : List ℕ) (ns np na : ℕ) where
   none-shown y = shown-none x y ◌≡◌ refl ns
 
   module _ (p : ℕ) (place : (read_into x t).found.place ≡ p) where
-    at_place : (k : ℕ) → begin x ≡ From k → (read_items x (room_in t) (items_after 0 k (drop k x)) begun t).found.place ≡ p
+    at_place : (k : ℕ) → begin x ≡ Ok k → (read_items x (room_in t) (items_after 0 k (drop k x)) begun t).found.place ≡ p
     at_place k e = sym (ap (λ (o : Out). o.found.place) (into x t k e)) ∙ place
 
-    misdeclared-place : (q : ℕ) → begin x ≡ Misdeclared q → q ≡ p
+    misdeclared-place : (q : ℕ) → begin x ≡ Err q → q ≡ p
     unfolding read_into read_after refused_at
     misdeclared-place q e = rw e at place
 
@@ -323,7 +321,7 @@ module _ (x : List ℕ) (ns np na : ℕ) where
       behind : take (item_end (item p (drop p x))) (drop p y) ≡ take (item_end (item p (drop p x))) (drop p x)
       behind = shared-behind x y p (item_end (item p (drop p x))) bytes size.1
 
-      from-same : (k : ℕ) → begin x ≡ From k → begin y ≡ From k → item p (drop p y) ≡ item p (drop p x) → read_into y t ≡ read_into x t
+      from-same : (k : ℕ) → begin x ≡ Ok k → begin y ≡ Ok k → item p (drop p y) ≡ item p (drop p x) → read_into y t ≡ read_into x t
       from-same k ex ey same =
           let z = at_place k ex in
           let c = come x t k p ex z y (fewer p (omega arith)) ends-too (none-shown y) in
@@ -339,15 +337,15 @@ module _ (x : List ℕ) (ns np na : ℕ) where
       unfolding read_into read_after
       into-same eb same = by (begin x) refl
         where
-          by : (b : Begin) → begin x ≡ b → read_into y t ≡ read_into x t
-          by (From k) e = from-same k e (eb ∙ e) same
-          by (Misdeclared q) e = rw (eb ∙ e, e)
+          by : (b : Result ℕ ℕ) → begin x ≡ b → read_into y t ≡ read_into x t
+          by (Ok k) e = from-same k e (eb ∙ e) same
+          by (Err q) e = rw (eb ∙ e, e)
 
       module _ (read : is_readable (item p (drop p x)) ≡ true) where
-        begin-here : (k : ℕ) → begin x ≡ From k → k ≡ p → begin y ≡ From k
+        begin-here : (k : ℕ) → begin x ≡ Ok k → k ≡ p → begin y ≡ Ok k
         begin-here k e z = rw z (begin-front x y p (rw z at e) read bytes)
 
-        begin-again : (k : ℕ) → begin x ≡ From k → begin y ≡ From k
+        begin-again : (k : ℕ) → begin x ≡ Ok k → begin y ≡ Ok k
         begin-again k e =
             let z = at_place k e in
             let low = within x t k p e z in
@@ -363,9 +361,9 @@ module _ (x : List ℕ) (ns np na : ℕ) where
           let same = item-near p (drop p x) (drop p y) behind (rw (drop-drop (item_end (item p (drop p x))) p y) h) in
           by (begin x) refl read same
         where
-          by : (b : Begin) → begin x ≡ b → is_readable (item p (drop p x)) ≡ true → item p (drop p y) ≡ item p (drop p x) → read_into y t ≡ read_into x t
-          by (From k) e read same = from-same k e (begin-again read k e) same
-          by (Misdeclared q) e read same =
+          by : (b : Result ℕ ℕ) → begin x ≡ b → is_readable (item p (drop p x)) ≡ true → item p (drop p y) ≡ item p (drop p x) → read_into y t ≡ read_into x t
+          by (Ok k) e read same = from-same k e (begin-again read k e) same
+          by (Err q) e read same =
               let d = rw (misdeclared-place q e) at (refused-declaration x q e) in never (sym (xml-unread p (drop p x) d) ∙ read)
 
     -- ---- x cut at p
@@ -386,20 +384,20 @@ module _ (x : List ℕ) (ns np na : ℕ) where
     pub cut-into : EndedAt p (read_into (take p x) t).found
     cut-into = by (begin x) refl
       where
-        by : (b : Begin) → begin x ≡ b → EndedAt p (read_into (take p x) t).found
-        by (From k) e =
+        by : (b : Result ℕ ℕ) → begin x ≡ b → EndedAt p (read_into (take p x) t).found
+        by (Ok k) e =
             let z = at_place k e in
             let low = within x t k p e z in
             let c = come x t k p e z (take p x) (take-take p p x (omega arith)) nothing_ends (none-shown (take p x)) in
-            let again : begin (take p x) ≡ From k =
+            let again : begin (take p x) ≡ Ok k =
             ⊎_elim
             (λ l. let f = first-passed x t k p e z l.0 in begin-front x (take p x) k e f.0 (take-take (k + item_end (item k (drop k x))) p x f.1))
             (λ l. let same : k ≡ p = omega (arith, l.0, low.0) in rw same (begin-cut x p (rw same at e)))
             (ltb-cases k p) in
             ended-cut low.1 c.state c.tables (into (take p x) t k again ∙ c.right)
-        by (Misdeclared q) e =
+        by (Err q) e =
             let same = misdeclared-place q e in
-            let c : (begin (take p x) ≡ From p) × (p ≤ length x) = rw same at (misdeclared-cut x q e) in
+            let c : (begin (take p x) ≡ Ok p) × (p ≤ length x) = rw same at (misdeclared-cut x q e) in
             ended-cut c.1 begun t (into (take p x) t p c.0)
 
 -- ---- what is answered

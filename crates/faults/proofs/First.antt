@@ -7,19 +7,17 @@ use mathlib.Core.Logic.{◌⊎◌, inl, inr, ⊎_elim}
 use native.Mathlib.Omega.{arith}
 use lib.Dec.{eqb, ltb}
 use lib.ListN.{length}
+use Rattle.std.specs.Prelude.{Result, Ok, Err}
 use Rattle.lists.proofs.Cases.{bool_cases, never}
 use Rattle.structure.specs.Rows.{over_of}
 use Rattle.guideline.specs.Rows.{rows_of}
 use Rattle.prolog.specs.Prolog.{begin}
-use Rattle.prolog.specs.declared.Begin.{Begin}
-use Rattle.prolog.specs.declared.Begin.TheVariants.{From, Misdeclared}
 use Rattle.notes.specs.declared.Shape.{Shape}
 use Rattle.states.specs.Moves.{begun}
 use Rattle.states.specs.declared.State.{State}
 use Rattle.states.specs.declared.Room.{Room}
 use Rattle.states.specs.declared.Entry.{Entry}
-use Rattle.states.specs.declared.Step.{Step}
-use Rattle.states.specs.declared.Step.TheVariants.{Next, Refused}
+use Rattle.states.specs.Step.{Step, Next, Refused}
 use Rattle.reader.specs.Items.{Placed, items_from}
 use Rattle.reader.specs.Reading.{Tables, Out, blank, refused_at, accepted_at, ended_at, step_of, tables_after, read_items, items_read, read_after, read_into, room_in}
 use Rattle.reader.specs.Answer.{Outcome, answer_of, told, noted, read_of}
@@ -104,20 +102,20 @@ none_first doc room (i ∷ xs) x t n p a b =
 
 -- ---- the document
 
-told-after : (doc : List ℕ) (t : Tables) (b : Begin) → Told (FirstFaultAfter doc t b) (NoFaultAfter doc t b) (read_after doc t b).found.refusal (read_after doc t b).found.place
+told-after : (doc : List ℕ) (t : Tables) (b : Result ℕ ℕ) → Told (FirstFaultAfter doc t b) (NoFaultAfter doc t b) (read_after doc t b).found.refusal (read_after doc t b).found.place
 unfolding read_after items_read FirstFaultAfter NoFaultAfter refused_at
-told-after doc t (From k) = items-told doc (room_in t) (items_from doc k) begun t
-told-after doc t (Misdeclared q) = inr ((λ z. omega (arith, z)), (refl, refl))
+told-after doc t (Ok k) = items-told doc (room_in t) (items_from doc k) begun t
+told-after doc t (Err q) = inr ((λ z. omega (arith, z)), (refl, refl))
 
-after_one : (doc : List ℕ) (t : Tables) (b : Begin) {n p m q : ℕ} → FirstFaultAfter doc t b n p → FirstFaultAfter doc t b m q → Same n p m q
+after_one : (doc : List ℕ) (t : Tables) (b : Result ℕ ℕ) {n p m q : ℕ} → FirstFaultAfter doc t b n p → FirstFaultAfter doc t b m q → Same n p m q
 unfolding FirstFaultAfter
-after_one doc t (From k) a b = first_one doc (room_in t) (items_from doc k) begun t a b
-after_one doc t (Misdeclared r) a b = (a.0 ∙ sym b.0, a.1 ∙ sym b.1)
+after_one doc t (Ok k) a b = first_one doc (room_in t) (items_from doc k) begun t a b
+after_one doc t (Err r) a b = (a.0 ∙ sym b.0, a.1 ∙ sym b.1)
 
-after_none : (doc : List ℕ) (t : Tables) (b : Begin) (n p : ℕ) → NoFaultAfter doc t b → FirstFaultAfter doc t b n p → ⊥
+after_none : (doc : List ℕ) (t : Tables) (b : Result ℕ ℕ) (n p : ℕ) → NoFaultAfter doc t b → FirstFaultAfter doc t b n p → ⊥
 unfolding FirstFaultAfter NoFaultAfter
-after_none doc t (From k) n p a b = none_first doc (room_in t) (items_from doc k) begun t n p a b
-after_none doc t (Misdeclared r) n p a b = a
+after_none doc t (Ok k) n p a b = none_first doc (room_in t) (items_from doc k) begun t n p a b
+after_none doc t (Err r) n p a b = a
 
 module _ (doc : List ℕ) (ns np na : ℕ) (shape : Shape) (nb : ℕ) (wide : 16 ≤ nb) (short : length doc ≤ 1048576) where
   abbrev answer : Answer

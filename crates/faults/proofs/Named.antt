@@ -8,14 +8,13 @@ use native.Mathlib.Omega.{arith}
 use lib.Dec.{eqb, ltb}
 use lib.ListN.{get_or, length, get_or-eq_default}
 use borrow.Author.Tests.{eqb-true, eq-eqb, ltb-true, ltb-false}
+use Rattle.std.specs.Prelude.{Option, Some, None}
 use Rattle.lists.proofs.Cases.{bool_cases, eqb-cases, by_cond}
 use Rattle.slices.specs.Same.{same}
 use Rattle.slices.specs.Part.{part_of}
 use Rattle.elements.specs.Names.{names, number_in, element_no}
 use Rattle.columns.specs.Columns.{form_of, role_of, no_form, root_role, period_role}
 use Rattle.structure.specs.Rows.{start_of, end_of}
-use Rattle.structure.specs.declared.Due.{Due}
-use Rattle.structure.specs.declared.Due.TheVariants.{Row, NotDue}
 use Rattle.guideline.specs.Kinds.{kind_at, has_enough}
 use Rattle.guideline.specs.Rows.{beschaffungsanforderung, kostenblatt, network_constraint_document, rows_of}
 use Rattle.guideline.proofs.Each.{of-table, each_row, row_of}
@@ -29,8 +28,7 @@ use Rattle.states.specs.declared.State.{State}
 use Rattle.states.specs.declared.Room.{Room}
 use Rattle.states.specs.declared.Entry.{Entry}
 use Rattle.states.specs.declared.Entry.TheVariants.{Nothing}
-use Rattle.states.specs.declared.Step.{Step}
-use Rattle.states.specs.declared.Step.TheVariants.{Next, Refused}
+use Rattle.states.specs.Step.{Step, Next, Refused}
 use Rattle.reader.specs.Items.{Placed}
 use Rattle.reader.specs.Rows.{used_with, brought_by, used_before}
 use Rattle.reader.specs.Reading.{without_used, step_of}
@@ -101,20 +99,20 @@ module _ (doc table : List ℕ) (item : Item) (s : List ℕ) where
       (λ (y : eqb n 0 ≡ false). rw y (refused-number n))
       (bool_cases (eqb n 0))
 
-  ended : (x : State) (rows : List ℕ) (d : Due) → refusal_in (without_used doc table item s (after_end_at x rows d)) ≡ first_held (end_faults x rows d)
+  ended : (x : State) (rows : List ℕ) (d : Option ℕ) → refusal_in (without_used doc table item s (after_end_at x rows d)) ≡ first_held (end_faults x rows d)
   unfolding after_end_at end_faults end_clauses
-  ended x rows NotDue = refused-number 3
-  ended x rows (Row r) =
+  ended x rows None = refused-number 3
+  ended x rows (Some r) =
       end_by (end_refusal x rows r) (closed_at x r) ∙ end_same x rows r
 
 -- ---- any item
 
 module _ (doc table : List ℕ) (room : Room) (x : State) (kind : ℕ) (s : List ℕ) where
-  begins : (item : Item) (t : Tag) (empty : Bool) → span_of item ≡ t.v → (d : Due)
+  begins : (item : Item) (t : Tag) (empty : Bool) → span_of item ≡ t.v → (d : Option ℕ)
       → refusal_in (without_used doc table item s (started_at x kind (rows_of kind) t s empty room d)) ≡ first_held (start_faults doc table room x kind (rows_of kind) t.v t s empty d)
   unfolding started_at start_judged start_faults
-  begins item t empty e NotDue = refused-number doc table item s 3
-  begins item t empty e (Row r) = start-same doc table x kind (rows_of kind) r (get_or (rows_of kind) r 0) item t s empty room e (quiet kind r)
+  begins item t empty e None = refused-number doc table item s 3
+  begins item t empty e (Some r) = start-same doc table x kind (rows_of kind) r (get_or (rows_of kind) r 0) item t s empty room e (quiet kind r)
 
   moved_same : (item : Item) → refusal_in (without_used doc table item s (moved x kind (rows_of kind) item s room)) ≡ first_held (faults_by doc table room x kind (rows_of kind) item s)
   unfolding moved started after_end faults_by span_of
@@ -145,17 +143,17 @@ used-numbered doc table item s (Next x e) h = by_cond Numbered (used_before doc 
 used-numbered doc table item s (Refused n) h = h
 
 module _ (x : State) (kind : ℕ) (rows s : List ℕ) (room : Room) where
-  begins-numbered : (t : Tag) (empty : Bool) (d : Due) → Numbered (started_at x kind rows t s empty room d)
+  begins-numbered : (t : Tag) (empty : Bool) (d : Option ℕ) → Numbered (started_at x kind rows t s empty room d)
   unfolding started_at started_by
-  begins-numbered t empty NotDue = λ z. omega (arith, z)
-  begins-numbered t empty (Row r) =
+  begins-numbered t empty None = λ z. omega (arith, z)
+  begins-numbered t empty (Some r) =
       let j = start_judged x kind rows r t s empty room in
       by_number j.number (entered x kind r (get_or rows r 0) j (not empty)) (entry_of (role_of (get_or rows r 0)) j.first)
 
-  ended-numbered : (d : Due) → Numbered (after_end_at x rows d)
+  ended-numbered : (d : Option ℕ) → Numbered (after_end_at x rows d)
   unfolding after_end_at
-  ended-numbered NotDue = λ z. omega (arith, z)
-  ended-numbered (Row r) = by_number (end_refusal x rows r) (closed_at x r) Nothing
+  ended-numbered None = λ z. omega (arith, z)
+  ended-numbered (Some r) = by_number (end_refusal x rows r) (closed_at x r) Nothing
 
   moved-numbered : (item : Item) → Numbered (moved x kind rows item s room)
   unfolding moved started after_end
@@ -175,17 +173,17 @@ step-numbered doc table room p x =
 
 -- ---- the clauses come in the order of their numbers
 
-start-rising : (doc table : List ℕ) (room : Room) (x : State) (kind : ℕ) (rows : List ℕ) (s : List ℕ) (t : Tag) (empty : Bool) (d : Due)
+start-rising : (doc table : List ℕ) (room : Room) (x : State) (kind : ℕ) (rows : List ℕ) (s : List ℕ) (t : Tag) (empty : Bool) (d : Option ℕ)
     → Rising 2 (start_faults doc table room x kind rows t.v t s empty d)
 unfolding start_faults start_clauses
-start-rising doc table room x kind rows s t empty NotDue = (omega arith, tt)
-start-rising doc table room x kind rows s t empty (Row r) =
+start-rising doc table room x kind rows s t empty None = (omega arith, tt)
+start-rising doc table room x kind rows s t empty (Some r) =
     (omega arith, (omega arith, (omega arith, (omega arith, (omega arith, (omega arith, (omega arith, (omega arith, (omega arith, (omega arith, (omega arith, (omega arith, tt))))))))))))
 
-end-rising : (x : State) (rows : List ℕ) (d : Due) → Rising 2 (end_faults x rows d)
+end-rising : (x : State) (rows : List ℕ) (d : Option ℕ) → Rising 2 (end_faults x rows d)
 unfolding end_faults end_clauses
-end-rising x rows NotDue = (omega arith, tt)
-end-rising x rows (Row r) = (omega arith, (omega arith, (omega arith, tt)))
+end-rising x rows None = (omega arith, tt)
+end-rising x rows (Some r) = (omega arith, (omega arith, (omega arith, tt)))
 
 all-rising : (doc table : List ℕ) (room : Room) (x : State) (kind : ℕ) (rows s : List ℕ) (item : Item) → Rising 2 (faults_by doc table room x kind rows item s)
 unfolding faults_by

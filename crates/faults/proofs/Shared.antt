@@ -4,12 +4,11 @@ use mathlib.Core.Path.{◌≡◌, refl, ap, ◌∙◌}
 use mathlib.Core.List.{List}
 use mathlib.Core.Bool.{Bool, true, false}
 use lib.ListN.{drop, get_or}
+use Rattle.std.specs.Prelude.{Option, Some, None}
 use Rattle.lists.proofs.Cases.{zero-not-one}
 use Rattle.slices.specs.Part.{part_of}
 use Rattle.elements.specs.Names.{element_no}
 use Rattle.structure.specs.Rows.{start_of}
-use Rattle.structure.specs.declared.Due.{Due}
-use Rattle.structure.specs.declared.Due.TheVariants.{Row, NotDue}
 use Rattle.guideline.specs.Rows.{rows_of}
 use Rattle.items.specs.Item.{is_readable}
 use Rattle.items.specs.Parts.{span_of}
@@ -22,8 +21,7 @@ use Rattle.states.specs.Moves.{held_of, values_judged, judged_at, start_judged, 
 use Rattle.states.specs.declared.State.{State}
 use Rattle.states.specs.declared.Room.{Room}
 use Rattle.states.specs.declared.Entry.{Entry}
-use Rattle.states.specs.declared.Step.{Step}
-use Rattle.states.specs.declared.Step.TheVariants.{Next, Refused}
+use Rattle.states.specs.Step.{Step, Next, Refused}
 use Rattle.reader.specs.Rows.{quoted}
 use Rattle.reader.specs.Items.{Placed}
 use Rattle.reader.specs.Reading.{Tables, without_used, step_of, tables_after}
@@ -45,9 +43,9 @@ module _ (t : Tag) (s s' : List ℕ) (p : PartsSame t s s' × (value_in s t.v �
   start-same x kind rows empty room =
       by (start_of rows x.row x.inside (element_no (part_of s 1 t.name))) ∙ ap (λ (n : List ℕ). started x kind rows (element_no n) t s' empty room) p.0.name
     where
-      by : (d : Due) → started_at x kind rows t s empty room d ≡ started_at x kind rows t s' empty room d
-      by (Row r) = rw (judge-same (get_or rows r 0) (held_of x kind))
-      by NotDue = refl
+      by : (d : Option ℕ) → started_at x kind rows t s empty room d ≡ started_at x kind rows t s' empty room d
+      by (Some r) = rw (judge-same (get_or rows r 0) (held_of x kind))
+      by None = refl
 
 module _ (s s' : List ℕ) where
   pub step_same : (x : State) (room : Room) (i : Item) → Says i s s' → step x i s room ≡ step x i s' room

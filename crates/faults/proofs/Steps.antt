@@ -17,16 +17,13 @@ use Rattle.columns.specs.Columns.{form_of, scheme_of, role_of, no_form, no_schem
 use Rattle.codes.specs.Lists.{listed, codes_of}
 use Rattle.items.specs.declared.Tag.{Tag}
 use Rattle.items.specs.declared.Item.{Item}
-use Rattle.times.specs.declared.Interval.{Interval}
-use Rattle.times.specs.declared.Interval.TheVariants.{Minutes, NotInterval}
-use Rattle.numbers.specs.declared.Number.{Number}
-use Rattle.numbers.specs.declared.Number.TheVariants.{Is, NotNumber}
+use Rattle.std.specs.Prelude.{Option, Some, None}
 use Rattle.times.specs.Times.{interval}
 use Rattle.numbers.specs.Number.{number_of}
 use Rattle.forms.specs.Forms.{quarter_hour}
 use Rattle.rules.specs.Rules.{unless, form_refusal, period_fits, position_fits, judge_period_by, judge_period, judge_interval_by, judge_interval, judge_position_by, judge_position, judge, refused}
 use Rattle.rules.specs.declared.Held.{Held}
-use Rattle.rules.specs.declared.Judged.{Judged}
+use Rattle.rules.specs.Judged.{Judged}
 use Rattle.states.specs.Attributes.{there, agree, asks_v, asks_scheme, attributes_fit, said_in, scheme_refusal, least, also_scheme, dtd_fixed, judge_tag}
 use Rattle.states.specs.Moves.{held_of, half_originals, against_others, beside_others, values_judged}
 use Rattle.states.specs.Constraints.{against}
@@ -58,20 +55,20 @@ module _ (P : ℕ → Type 0) (none : P 0) (six : P 6) (seven : P 7) (eight : P 
   abbrev By : Judged → Type 0
   By j = P j.number
 
-  period-by : (kind : ℕ) (i : Interval) → By (judge_period_by kind i)
+  period-by : (kind : ℕ) (i : Option (ℕ × ℕ)) → By (judge_period_by kind i)
   unfolding judge_period_by
-  period-by kind (Minutes from to) = by_cond By (period_fits kind from to) none eight
-  period-by kind NotInterval = six
+  period-by kind (Some (from, to)) = by_cond By (period_fits kind from to) none eight
+  period-by kind None = six
 
-  interval-by : (from to : ℕ) (i : Interval) → By (judge_interval_by from to i)
+  interval-by : (from to : ℕ) (i : Option (ℕ × ℕ)) → By (judge_interval_by from to i)
   unfolding judge_interval_by
-  interval-by from to (Minutes a b) = by_cond By (eqb a from) (by_cond By (eqb b to) none eight) eight
-  interval-by from to NotInterval = six
+  interval-by from to (Some (a, b)) = by_cond By (eqb a from) (by_cond By (eqb b to) none eight) eight
+  interval-by from to None = six
 
-  position-by : (kind quarters last : ℕ) (n : Number) → By (judge_position_by kind quarters last n)
+  position-by : (kind quarters last : ℕ) (n : Option ℕ) → By (judge_position_by kind quarters last n)
   unfolding judge_position_by
-  position-by kind quarters last (Is p) = by_cond By (position_fits kind quarters last p) none eight
-  position-by kind quarters last NotNumber = six
+  position-by kind quarters last (Some p) = by_cond By (position_fits kind quarters last p) none eight
+  position-by kind quarters last None = six
 
   pub judge-by : (form : ℕ) (h : Held) (cs : List ℕ) → By (judge form h cs)
   unfolding judge judge_period judge_interval judge_position

@@ -15,15 +15,14 @@ use Rattle.items.specs.Parts.{span_of}
 use Rattle.items.specs.declared.Tag.{Tag}
 use Rattle.items.specs.declared.Item.{Item}
 use Rattle.rules.specs.Rules.{refused}
-use Rattle.rules.specs.declared.Judged.{Judged}
+use Rattle.rules.specs.Judged.{Judged}
 use Rattle.states.specs.Attributes.{attributes_fit}
 use Rattle.states.specs.Moves.{cut_short, too_many, no_room, values_judged, judged_at, at_row, one_series, one_interval, one_original, last_pos, covering, kept, entered, entry_of, started_by}
 use Rattle.states.specs.Constraints.{noticed}
 use Rattle.states.specs.declared.State.{State}
 use Rattle.states.specs.declared.Room.{Room}
 use Rattle.states.specs.declared.Entry.{Entry}
-use Rattle.states.specs.declared.Step.{Step}
-use Rattle.states.specs.declared.Step.TheVariants.{Next, Refused}
+use Rattle.states.specs.Step.{Step, Next, Refused}
 use Rattle.reader.specs.Rows.{used_in, used_with, brought_by, used_before}
 use Rattle.reader.specs.Reading.{without_used}
 use Rattle.faults.specs.Faults.{Clause, when, start_clauses}

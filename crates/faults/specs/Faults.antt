@@ -1,19 +1,15 @@
 -- 01's table of refusals, clause by clause and in no order of tests: which faults an item has. "The first item with a fault decides; where it has several, the
 -- smallest number." What stands before the item is told by the state that the items before it leave, and by the series table.
-use Rattle.std.specs.Prelude.{ℕ, ◌-◌, ◌≤◌, ◌≡◌, List, [], ◌∷◌, Bool, true, false, cond, ◌&&◌, not, ◌⊎◌, eqb, get_or, length}
+use Rattle.std.specs.Prelude.{ℕ, ◌-◌, ◌≤◌, ◌≡◌, List, [], ◌∷◌, Bool, true, false, cond, ◌&&◌, not, ◌⊎◌, eqb, get_or, length, Option, Some, None, Result, Ok, Err}
 use Rattle.refusals.specs.Refusals.{unreadable_item, not_due, table_full, wrong_attribute, against_form, outside_list, against_value, used_again}
 use Rattle.slices.specs.Part.{part_of}
 use Rattle.slices.specs.declared.Span.{Span}
 use Rattle.elements.specs.Names.{element_no}
 use Rattle.columns.specs.Columns.{form_of, role_of, no_form, root_role, period_role}
 use Rattle.structure.specs.Rows.{start_of, end_of, over_of}
-use Rattle.structure.specs.declared.Due.{Due}
-use Rattle.structure.specs.declared.Due.TheVariants.{Row, NotDue}
 use Rattle.guideline.specs.Kinds.{kind_at, has_enough}
 use Rattle.guideline.specs.Rows.{rows_of}
 use Rattle.prolog.specs.Prolog.{begin}
-use Rattle.prolog.specs.declared.Begin.{Begin}
-use Rattle.prolog.specs.declared.Begin.TheVariants.{From, Misdeclared}
 use Rattle.items.specs.declared.Tag.{Tag}
 use Rattle.items.specs.declared.Item.{Item}
 use Rattle.items.specs.declared.Item.TheVariants.{Start, Empty, End, Text, Comment, Unreadable}
@@ -24,8 +20,7 @@ use Rattle.states.specs.Moves.{held_of, cut_short, too_many, no_room, half_origi
 use Rattle.states.specs.declared.State.{State}
 use Rattle.states.specs.declared.Room.{Room}
 use Rattle.states.specs.declared.Entry.{Entry}
-use Rattle.states.specs.declared.Step.{Step}
-use Rattle.states.specs.declared.Step.TheVariants.{Next, Refused}
+use Rattle.states.specs.Step.{Step, Next, Refused}
 use Rattle.reader.specs.Rows.{used_before}
 use Rattle.reader.specs.Items.{Placed, items_from}
 use Rattle.reader.specs.Reading.{Tables, blank, step_of, tables_after, room_in}
@@ -84,9 +79,9 @@ start_clauses doc table room x kind rows r w span t s empty =
 -- ---- any item
 
 -- "3: element not due"
-unfoldable pub start_faults : List ℕ → List ℕ → Room → State → ℕ → List ℕ → Span → Tag → List ℕ → Bool → Due → List Clause
-start_faults doc table room x kind rows span t s empty (Row r) = start_clauses doc table room x kind rows r (get_or rows r 0) span t s empty
-start_faults doc table room x kind rows span t s empty NotDue = when not_due true ∷ []
+unfoldable pub start_faults : List ℕ → List ℕ → Room → State → ℕ → List ℕ → Span → Tag → List ℕ → Bool → Option ℕ → List Clause
+start_faults doc table room x kind rows span t s empty (Some r) = start_clauses doc table room x kind rows r (get_or rows r 0) span t s empty
+start_faults doc table room x kind rows span t s empty None = when not_due true ∷ []
 
 -- "3: .. wrong end tag"; "too few", and "8: .. count against another value", at the end of Period; and what a constraint lacks, at the root's
 unfoldable pub end_clauses : State → ℕ → List Clause
@@ -95,9 +90,9 @@ end_clauses x w =
     when against_value (eqb (role_of w) period_role && ((kind_at x.kind).full && not (eqb (x.intervals - x.first) x.quarters))) ∷
     when against_value (eqb (role_of w) root_role && ((kind_at x.kind).constrained && lacking x.seen x.series)) ∷ []
 
-unfoldable pub end_faults : State → List ℕ → Due → List Clause
-end_faults x rows (Row r) = end_clauses x (get_or rows r 0)
-end_faults x rows NotDue = when not_due true ∷ []
+unfoldable pub end_faults : State → List ℕ → Option ℕ → List Clause
+end_faults x rows (Some r) = end_clauses x (get_or rows r 0)
+end_faults x rows None = when not_due true ∷ []
 
 unfoldable pub faults_by : List ℕ → List ℕ → Room → State → ℕ → List ℕ → Item → List ℕ → List Clause
 faults_by doc table room x kind rows (Start t) s =
@@ -149,13 +144,13 @@ NoFault doc room (i ∷ xs) x t =
     × after (step_of doc t.series room i x) (λ x' e. NoFault doc room xs x' (tables_after i x' e t))
 
 -- of a whole document, read into blank tables t: what stands before the first item is the XML declaration, "2" where it is unreadable
-unfoldable pub FirstFaultAfter : List ℕ → Tables → Begin → ℕ → ℕ → Type 0
-FirstFaultAfter doc t (From k) n p = FirstFault doc (room_in t) (items_from doc k) begun t n p
-FirstFaultAfter doc t (Misdeclared q) n p = (n ≡ unreadable_item) × (p ≡ q)
+unfoldable pub FirstFaultAfter : List ℕ → Tables → Result ℕ ℕ → ℕ → ℕ → Type 0
+FirstFaultAfter doc t (Ok k) n p = FirstFault doc (room_in t) (items_from doc k) begun t n p
+FirstFaultAfter doc t (Err q) n p = (n ≡ unreadable_item) × (p ≡ q)
 
-unfoldable pub NoFaultAfter : List ℕ → Tables → Begin → Type 0
-NoFaultAfter doc t (From k) = NoFault doc (room_in t) (items_from doc k) begun t
-NoFaultAfter doc t (Misdeclared q) = ⊥
+unfoldable pub NoFaultAfter : List ℕ → Tables → Result ℕ ℕ → Type 0
+NoFaultAfter doc t (Ok k) = NoFault doc (room_in t) (items_from doc k) begun t
+NoFaultAfter doc t (Err q) = ⊥
 
 -- n is the first fault of the document, at p, and the document has none: read into tables of these lengths
 unfoldable pub FirstIn : List ℕ → ℕ → ℕ → ℕ → ℕ → ℕ → Type 0

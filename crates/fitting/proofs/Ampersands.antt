@@ -8,12 +8,11 @@ use mathlib.Core.Logic.{⊎_elim}
 use native.Mathlib.Omega.{arith}
 use lib.Dec.{eqb}
 use borrow.Author.Tests.{eqb-false, ne_eqb}
+use Rattle.std.specs.Prelude.{Option, Some, None}
 use Rattle.lists.proofs.Cases.{eqb-cases, never, past-cond}
 use Rattle.slices.specs.Bytes.{byte}
 use Rattle.characters.specs.Utf8.{char_at}
 use Rattle.characters.specs.Says.{all_chars, char_of, said_by, said_at, says_after, says}
-use Rattle.characters.specs.declared.Char.{Char}
-use Rattle.characters.specs.declared.Char.TheVariants.{Is, NoChar}
 use Rattle.characters.proofs.Saying.{said-some}
 use Rattle.attributes.proofs.Values.{met-other}
 use Rattle.trims.specs.Trim.{space, drop_lead, kept_before, drop_trail, dropped}
@@ -50,9 +49,9 @@ says-after [] (suc k) h = refl
 says-after (b ∷ v) (suc k) h = says-after v k (no_front b v h).1
 says-after (b ∷ v) zero h = by (char_at (b ∷ v)) refl (λ (k : ℕ). says-after v k (no_front b v h).1)
   where
-    by : (x : Char) → char_at (b ∷ v) ≡ x → ((k : ℕ) → says_after k v ≡ chars_after k v) → says_after 0 (b ∷ v) ≡ chars_after 0 (b ∷ v)
-    by (Is c n) g ih = rw (says_after, chars_after, said-itself b v (no_front b v h).0, g) (ap (λ (l : List ℕ). c ∷ l) (ih (pred n)))
-    by NoChar g ih = rw (says_after, chars_after, said-itself b v (no_front b v h).0, g) (ap (λ (l : List ℕ). 0 ∷ l) (ih 0))
+    by : (x : Option (ℕ × ℕ)) → char_at (b ∷ v) ≡ x → ((k : ℕ) → says_after k v ≡ chars_after k v) → says_after 0 (b ∷ v) ≡ chars_after 0 (b ∷ v)
+    by (Some (c, n)) g ih = rw (says_after, chars_after, said-itself b v (no_front b v h).0, g) (ap (λ (l : List ℕ). c ∷ l) (ih (pred n)))
+    by None g ih = rw (says_after, chars_after, said-itself b v (no_front b v h).0, g) (ap (λ (l : List ℕ). 0 ∷ l) (ih 0))
 
 pub plain-says : (v : List ℕ) → has_ampersand v ≡ false → says v ≡ chars_of v
 unfolding says chars_of

@@ -21,7 +21,7 @@ use Rattle.series.specs.Row.{field_at}
 use Rattle.series.specs.declared.Field.TheVariants.{FirstRow, Count}
 use Rattle.times.specs.Times.{interval}
 use Rattle.times.specs.Periods.{quarter_hours}
-use Rattle.times.specs.declared.Interval.TheVariants.{Minutes, NotInterval}
+use Rattle.std.specs.Prelude.{Some, None}
 use Rattle.rules.specs.Rules.{judge}
 use Rattle.rules.specs.declared.Held.{Held}
 use Rattle.views.specs.Layout.{header_pairs, series_pairs, first_pair, cell_of}
@@ -56,7 +56,7 @@ module _ (kind from to : ℕ) (text pairs : List ℕ) where
       let z = past-cond (has_ampersand v) (λ e. never e) u in
       (z.0, eqb-true (judge period_form held (says v)).number 0 z.1)
 
-  single-covered : (w k : ℕ) → form_of w ≡ period_form → collapsed w ≡ false → required w ≡ true → single_told kind from to text pairs w k ≡ true → covered_at text pairs k ≡ NotInterval → ⊥
+  single-covered : (w k : ℕ) → form_of w ≡ period_form → collapsed w ≡ false → required w ≡ true → single_told kind from to text pairs w k ≡ true → covered_at text pairs k ≡ None → ⊥
   unfolding single_told covered_at
   single-covered w k f c r s n = by (has_pair pairs k) refl
     where
@@ -69,13 +69,13 @@ module _ (kind from to : ℕ) (text pairs : List ℕ) where
           let u = text-covered w (pair_view text pairs k) f c t in
           period-minutes held (says (pair_view text pairs k)) u.1 (rw (x, u.0) at n)
 
-  pub covered-fits : (ws : List ℕ) (k : ℕ) → has_covered ws ≡ true → singles_told kind from to text pairs k ws ≡ true → covered_at text pairs (covered_pair k ws) ≡ NotInterval → ⊥
+  pub covered-fits : (ws : List ℕ) (k : ℕ) → has_covered ws ≡ true → singles_told kind from to text pairs k ws ≡ true → covered_at text pairs (covered_pair k ws) ≡ None → ⊥
   unfolding has_covered singles_told covered_pair
   covered-fits [] k h s n = never h
   covered-fits (w ∷ ws) k h s n = by (asks_v w) (eqb (form_of w) period_form) refl refl (covered-fits ws (k + pairs_of w))
     where
       by : (a f : Bool) → asks_v w ≡ a → eqb (form_of w) period_form ≡ f
-          → (has_covered ws ≡ true → singles_told kind from to text pairs (k + pairs_of w) ws ≡ true → covered_at text pairs (covered_pair (k + pairs_of w) ws) ≡ NotInterval → ⊥) → ⊥
+          → (has_covered ws ≡ true → singles_told kind from to text pairs (k + pairs_of w) ws ≡ true → covered_at text pairs (covered_pair (k + pairs_of w) ws) ≡ None → ⊥) → ⊥
       by false f x y ih = never (rw x at h)
       by true true x y ih =
           let c = past-cond (collapsed w) (λ z. never z) (let t : cond (collapsed w) false (required w) ≡ true = rw (x, y) at h in t) in
@@ -155,9 +155,9 @@ module _ (d : Draft) (k : ℕ) where
 pub record CoveredThere (text pairs : List ℕ) (k from to : ℕ) : Type 0 where
   pub pair : has_pair pairs k ≡ true
   pub plain : has_ampersand (pair_view text pairs k) ≡ false
-  pub minutes : interval (says (pair_view text pairs k)) ≡ Minutes from to
+  pub minutes : interval (says (pair_view text pairs k)) ≡ Some (from, to)
 
-covered-there : (text pairs : List ℕ) (k from to : ℕ) → covered_at text pairs k ≡ Minutes from to → CoveredThere text pairs k from to
+covered-there : (text pairs : List ℕ) (k from to : ℕ) → covered_at text pairs k ≡ Some (from, to) → CoveredThere text pairs k from to
 unfolding covered_at
 covered-there text pairs k from to h = by (has_pair pairs k) (has_ampersand (pair_view text pairs k)) refl refl
   where
@@ -168,7 +168,7 @@ covered-there text pairs k from to h = by (has_pair pairs k) (has_ampersand (pai
 
 -- it is the period by which a draft is judged
 pub covered-period : (d : Draft) (l : Laid (rows_of d.kind)) (c : Covers (rows_of d.kind)) → ((j : ℕ) → j < header_pairs → pair_fits d j ≡ true) → (from to : ℕ)
-    → covered_told d.text d.pairs (rows_of d.kind) ≡ Minutes from to → period_of (rows_of d.kind) (draft_content d) ≡ record { start = from; end = to }
+    → covered_told d.text d.pairs (rows_of d.kind) ≡ Some (from, to) → period_of (rows_of d.kind) (draft_content d) ≡ record { start = from; end = to }
 unfolding covered_told period_of period_in period_by
 covered-period d l c fits from to h =
     let rows = rows_of d.kind in
@@ -182,7 +182,7 @@ covered-period d l c fits from to h =
     ∙ append-nil _
     ∙ c.one d
     ∙ rw (said-there d k w t.pair) refl in
-    let said : interval (says (bytes (single_tag d w k).v)) ≡ Minutes from to =
+    let said : interval (says (bytes (single_tag d w k).v)) ≡ Some (from, to) =
     ap (λ (b : List ℕ). interval (says b)) (bytes-there d k w t.pair) ∙ ap interval (plain-escaped _ legal t.plain) ∙ t.minutes in
     rw (tags, said) refl
 

@@ -12,8 +12,7 @@ use lib.ListN.{length, drop, get_or}
 use Rattle.lists.proofs.Cases.{both_true, never}
 use Rattle.characters.specs.Says.{all_chars}
 use Rattle.guideline.specs.Rows.{rows_of}
-use Rattle.times.specs.declared.Interval.{Interval}
-use Rattle.times.specs.declared.Interval.TheVariants.{Minutes, NotInterval}
+use Rattle.std.specs.Prelude.{Option, Some, None}
 use Rattle.views.specs.Layout.{header_pairs, series_pairs, first_pair, cell_of}
 use Rattle.contents.specs.Legal.{Period, period_of, element_fits, identifications, Legal}
 use Rattle.drafts.specs.Draft.{Draft, root_tag, pair_for, draft_content, pair_fits, Lent}
@@ -102,25 +101,25 @@ module _ (d : Draft) (written : is_written d.kind ≡ true) (fits : (j : ℕ) �
   abbrev period : Period
   period = period_of rows (draft_content d)
 
-  covered-so : (from to : ℕ) → covered_told d.text d.pairs rows ≡ Minutes from to → period ≡ record { start = from; end = to }
+  covered-so : (from to : ℕ) → covered_told d.text d.pairs rows ≡ Some (from, to) → period ≡ record { start = from; end = to }
   covered-so from to e = covered-period d lies.laid lies.covers (λ j l. fits j (omega (arith, l))) from to e
 
   sheet-parts : sheet_told d.kind rows d.text d.pairs d.count d.series d.positions d.amounts ≡ true → Parts period
   unfolding sheet_told sheet_by
   sheet-parts h = by (covered_told d.text d.pairs rows) refl
     where
-      by : (x : Interval) → covered_told d.text d.pairs rows ≡ x → Parts period
-      by (Minutes from to) e = subst Parts (sym (covered-so from to e)) (parts (record { start = from; end = to }) (rw e at h))
-      by NotInterval e = never (rw e at h)
+      by : (x : Option (ℕ × ℕ)) → covered_told d.text d.pairs rows ≡ x → Parts period
+      by (Some (from, to)) e = subst Parts (sym (covered-so from to e)) (parts (record { start = from; end = to }) (rw e at h))
+      by None e = never (rw e at h)
 
   parts-sheet : Parts period → sheet_told d.kind rows d.text d.pairs d.count d.series d.positions d.amounts ≡ true
   unfolding sheet_told sheet_by covered_told
   parts-sheet w = by (covered_at d.text d.pairs (covered_pair 3 (drop 2 rows))) refl
     where
-      by : (x : Interval) → covered_at d.text d.pairs (covered_pair 3 (drop 2 rows)) ≡ x
+      by : (x : Option (ℕ × ℕ)) → covered_at d.text d.pairs (covered_pair 3 (drop 2 rows)) ≡ x
           → sheet_told d.kind rows d.text d.pairs d.count d.series d.positions d.amounts ≡ true
-      by (Minutes from to) e = rw e (whole (record { start = from; end = to }) (subst Parts (covered-so from to e) w))
-      by NotInterval e =
+      by (Some (from, to)) e = rw e (whole (record { start = from; end = to }) (subst Parts (covered-so from to e) w))
+      by None e =
           absurd (covered-fits d.kind period.start period.end d.text d.pairs (drop 2 rows) 3 lies.covers.there (header-told period ∙ w.singles) e)
 
 -- ---- the whole

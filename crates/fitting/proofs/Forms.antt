@@ -19,12 +19,11 @@ use Rattle.numbers.specs.Number.{number_form, at_most_nine, number_within, numbe
 use Rattle.amounts.proofs.Digits.{AllDigits}
 use Rattle.amounts.proofs.Shapes.{only-split}
 use Rattle.times.specs.Times.{date_time, interval}
-use Rattle.times.specs.declared.Interval.{Interval}
-use Rattle.times.specs.declared.Interval.TheVariants.{Minutes, NotInterval}
+use Rattle.std.specs.Prelude.{Option, Some, None}
 use Rattle.codes.specs.Lists.{listed, lists, codes_of}
 use Rattle.columns.specs.Columns.{identification_form, series_id_form, partner_form, version_form, date_time_form, period_form, interval_form, resolution_form, object_form, party_form, in_list}
 use Rattle.refusals.specs.Refusals.{against_form}
-use Rattle.rules.specs.Rules.{unless, version_by, is_version, form_refusal, judge_period_by, judge_period, judge_interval_by, judge_interval, judge}
+use Rattle.rules.specs.Rules.{unless, is_version, form_refusal, judge_period_by, judge_period, judge_interval_by, judge_interval, judge}
 use Rattle.rules.specs.declared.Held.{Held}
 use Rattle.drafts.proofs.Quoted.{digit-bounds}
 use Rattle.fitting.specs.Told.{has_ampersand, is_id}
@@ -67,7 +66,7 @@ module _ (l : List ℕ) where
   unfolding date_time fits_of rejects takes digit
   time-plain h = held_plain (map takes (text "9999-99-99T99:99:99Z")) l refl ((and-eq-true_iff (held (map takes (text "9999-99-99T99:99:99Z")) l) _).0 h).0
 
-  interval-plain : (from to : ℕ) → interval l ≡ Minutes from to → has_ampersand l ≡ false
+  interval-plain : (from to : ℕ) → interval l ≡ Some (from, to) → has_ampersand l ≡ false
   unfolding interval fits_of rejects takes digit
   interval-plain from to h =
       ⊎_elim
@@ -88,7 +87,7 @@ digits-plain (c ∷ l) h =
     let b = digit-bounds c h.0 in let low = b.0 in rw (ne_eqb c 0x26 (λ z. omega (arith, z, low))) (digits-plain l h.1)
 
 version-plain : (l : List ℕ) → is_version l ≡ true → has_ampersand l ≡ false
-unfolding is_version version_by number_of at_most_nine number_within number_form
+unfolding is_version number_of at_most_nine number_within number_form
 version-plain l h =
     ⊎_elim
     (λ (y : number_form 3 l ≡ true). let z = past-cond (eqb (get_or l 0 0) 0x30) (λ w. never w) y in digits-plain l (only-split 3 l z.1).0)
@@ -148,24 +147,24 @@ fits-unless n false e = absurd (omega (arith, e))
 
 module _ (h : Held) (cs : List ℕ) where
   -- where TimePeriodCovered fits, it is an interval
-  pub period-minutes : (judge period_form h cs).number ≡ 0 → (interval cs ≡ NotInterval → ⊥)
+  pub period-minutes : (judge period_form h cs).number ≡ 0 → (interval cs ≡ None → ⊥)
   unfolding judge judge_period judge_period_by
   period-minutes e g = let z : against_form ≡ 0 = rw g at e in omega (arith, z)
 
   period-plain : (judge period_form h cs).number ≡ 0 → has_ampersand cs ≡ false
   period-plain e = by (interval cs) refl
     where
-      by : (x : Interval) → interval cs ≡ x → has_ampersand cs ≡ false
-      by (Minutes a b) g = interval-plain cs a b g
-      by NotInterval g = absurd (period-minutes e g)
+      by : (x : Option (ℕ × ℕ)) → interval cs ≡ x → has_ampersand cs ≡ false
+      by (Some (a, b)) g = interval-plain cs a b g
+      by None g = absurd (period-minutes e g)
 
   inner-plain : (judge interval_form h cs).number ≡ 0 → has_ampersand cs ≡ false
   unfolding judge judge_interval judge_interval_by
   inner-plain e = by (interval cs) refl
     where
-      by : (x : Interval) → interval cs ≡ x → has_ampersand cs ≡ false
-      by (Minutes a b) g = interval-plain cs a b g
-      by NotInterval g = absurd (let z : against_form ≡ 0 = rw g at e in omega (arith, z))
+      by : (x : Option (ℕ × ℕ)) → interval cs ≡ x → has_ampersand cs ≡ false
+      by (Some (a, b)) g = interval-plain cs a b g
+      by None g = absurd (let z : against_form ≡ 0 = rw g at e in omega (arith, z))
 
   small_plain : (f : ℕ) → f < in_list → plain_form f ≡ true → (judge f h cs).number ≡ 0 → has_ampersand cs ≡ false
   unfolding judge form_refusal plain_form

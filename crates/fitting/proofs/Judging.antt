@@ -2,16 +2,17 @@
 use Prim.Native.Nat.{ℕ, zero, suc, ◌+◌, ◌*◌, ◌-◌, ◌≤◌, ◌<◌}
 use mathlib.Core.Path.{◌≡◌, refl, sym, ap, ◌∙◌}
 use mathlib.Core.List.{List, [], ◌∷◌}
-use mathlib.Core.Bool.{Bool, true, false, not}
+use mathlib.Core.Bool.{Bool, true, false, not, cond, ◌||◌}
+use lib.Dec.{eqb}
+use Rattle.std.specs.List.{list_any}
 use native.Mathlib.Omega.{arith}
 use native.Mathlib.Nat.{zero-add}
 use native.Mathlib.Numerals.{add-one}
 use lib.ListN.{length, drop, get_or, drop_of_length-le, length-drop}
 use lib.Seq.{drop-cons, drop-drop}
 use borrow.Author.Tests.{eq-eqb, ne_eqb, not-true, not-false}
-use Rattle.characters.specs.Utf8.{char_at}
-use Rattle.characters.specs.declared.Char.{Char}
-use Rattle.characters.specs.declared.Char.TheVariants.{Is, NoChar}
+use Rattle.std.specs.Prelude.{Option, Some, None, unwrap_or}
+use Rattle.characters.specs.Utf8.{char_use, char_at}
 use Rattle.characters.specs.Says.{says}
 use Rattle.slices.specs.Part.{part_of}
 use Rattle.trims.specs.Trim.{dropped, trimmed_of}
@@ -80,26 +81,14 @@ module _ {text pairs : List ℕ} {n k : ℕ} (r : Texts text pairs n k) where
 
 -- ---- the bytes of a value
 
-pub record Sought (v : List ℕ) (i : ℕ) : Type 0 where
-  pub left : has_ampersand (drop i v) ≡ has_ampersand v
+or_cond : (t : Bool) {a b : Bool} → a ≡ b → (t || a) ≡ cond t true b
+or_cond true e = refl
+or_cond false e = e
 
-pub sought-start : (v : List ℕ) → Sought v 0
-sought-start v = record { left = refl }
-
-module _ {v : List ℕ} {i : ℕ} (r : Sought v i) where
-  pub sought-here : i < length v → get_or v i 0 ≡ 0x26 → true ≡ has_ampersand v
-  unfolding has_ampersand
-  sought-here h e = let z : has_ampersand (drop i v) ≡ true = rw (drop-cons v i 0 h, eq-eqb _ _ e) refl in sym z ∙ r.left
-
-  pub sought-next : i < length v → (get_or v i 0 ≡ 0x26 → ⊥) → Sought v (i + 1)
-  unfolding has_ampersand
-  sought-next h d =
-      let z : has_ampersand (drop i v) ≡ has_ampersand (drop (i + 1) v) = rw (drop-cons v i 0 h, ne_eqb _ _ d, add-one i) refl in
-      record { left = sym z ∙ r.left }
-
-  pub sought-over : length v ≤ i → false ≡ has_ampersand v
-  unfolding has_ampersand
-  sought-over h = let z : has_ampersand (drop i v) ≡ false = rw (drop_of_length-le v h) refl in sym z ∙ r.left
+pub any-ampersand : (v : List ℕ) → list_any (λ b. eqb b 0x26) v ≡ has_ampersand v
+unfolding has_ampersand
+any-ampersand [] = refl
+any-ampersand (b ∷ v) = or_cond (eqb b 0x26) (any-ampersand v)
 
 -- ---- the characters of a text
 
@@ -109,13 +98,13 @@ skip zero v = refl
 skip (suc k) [] = refl
 skip (suc k) (b ∷ t) = skip k t
 
-chars-one : (v : List ℕ) (c n : ℕ) → 0 < length v → char_at v ≡ Is c n → 1 ≤ n → chars_of v ≡ c ∷ chars_of (drop n v)
+chars-one : (v : List ℕ) (c n : ℕ) → 0 < length v → char_at v ≡ Some (c, n) → 1 ≤ n → chars_of v ≡ c ∷ chars_of (drop n v)
 unfolding chars_of chars_after
 chars-one [] c n p q m = absurd (omega arith)
 chars-one (b ∷ t) c zero p q m = absurd (omega arith)
 chars-one (b ∷ t) c (suc n) p q m = rw (chars_after, q) (ap (λ (l : List ℕ). c ∷ l) (skip n t))
 
-chars-stray : (v : List ℕ) → 0 < length v → char_at v ≡ NoChar → chars_of v ≡ 0 ∷ chars_of (drop 1 v)
+chars-stray : (v : List ℕ) → 0 < length v → char_at v ≡ None → chars_of v ≡ 0 ∷ chars_of (drop 1 v)
 unfolding chars_of chars_after
 chars-stray [] p q = absurd (omega arith)
 chars-stray (b ∷ t) p q = rw (chars_after, q) refl
@@ -130,14 +119,14 @@ counted_start v = record { left = zero-add _; few = omega arith }
 
 module _ {v : List ℕ} {n i : ℕ} (r : Counted v n i) where
   -- x is what `char_at` answered on s, the rest of v from i on
-  module _ {s : List ℕ} {x : Char} (h : i < length v) (a : s ≡ drop i v) (e : x ≡ char_at s) where
+  module _ {s : List ℕ} {x : Option (ℕ × ℕ)} (h : i < length v) (a : s ≡ drop i v) (e : x ≡ char_at s) where
     here : char_at (drop i v) ≡ x
     here = ap char_at (sym a) ∙ sym e
 
     more : 0 < length (drop i v)
     more = rw length-drop (omega arith)
 
-    pub counted-one : {c k : ℕ} → x ≡ Is c k → 1 ≤ k → Counted v (n + 1) (i + k)
+    counted-one : {c k : ℕ} → x ≡ Some (c, k) → 1 ≤ k → Counted v (n + 1) (i + k)
     counted-one {c} {k} q m =
         let z : length (chars_of (drop i v)) ≡ suc (length (chars_of (drop (i + k) v))) =
         rw (← drop-drop k i v) (ap length (chars-one (drop i v) c k more (here ∙ q) m)) in
@@ -145,13 +134,20 @@ module _ {v : List ℕ} {n i : ℕ} (r : Counted v n i) where
         let f = r.few in
         record { left = omega (arith, z, l); few = omega (arith, f, m) }
 
-    pub counted-stray : x ≡ NoChar → Counted v (n + 1) (i + 1)
+    counted-stray : x ≡ None → Counted v (n + 1) (i + 1)
     counted-stray q =
         let z : length (chars_of (drop i v)) ≡ suc (length (chars_of (drop (i + 1) v))) =
         rw (← drop-drop 1 i v) (ap length (chars-stray (drop i v) more (here ∙ q))) in
         let l = r.left in
         let f = r.few in
         record { left = omega (arith, z, l); few = omega (arith, f) }
+
+    pub counted-next : {k : ℕ} → k ≡ (unwrap_or x (0, 1)).1 → 1 ≤ char_use x → Counted v (n + 1) (i + k)
+    counted-next {k} u m = rw u (by x refl m)
+      where
+        by : (y : Option (ℕ × ℕ)) → x ≡ y → 1 ≤ char_use y → Counted v (n + 1) (i + (unwrap_or y (0, 1)).1)
+        by None q m = counted-stray q
+        by (Some (c, k)) q m = counted-one q m
 
   pub counted-over : length v ≤ i → n ≡ length (chars_of v)
   unfolding chars_of chars_after

@@ -1,5 +1,5 @@
 -- For private contracts: how the code tells whether a draft is fit, over the lent lists. `told-exactly` of proofs/ says that it is `draft_fits`.
-use Rattle.std.specs.Prelude.{ℕ, zero, suc, ◌+◌, ◌*◌, ◌-◌, List, [], ◌∷◌, Bool, true, false, cond, ◌&&◌, not, eqb, leb, ltb, ℤ, pos, nat_abs, length, get_or, drop}
+use Rattle.std.specs.Prelude.{ℕ, zero, suc, ◌+◌, ◌*◌, ◌-◌, List, [], ◌∷◌, Bool, true, false, cond, ◌&&◌, not, eqb, leb, ltb, ℤ, pos, nat_abs, length, get_or, drop, Option, Some, None}
 use Prim.Native.Char.{code}
 use Rattle.slices.specs.Same.{same}
 use Rattle.characters.specs.Says.{all_chars, says}
@@ -13,8 +13,6 @@ use Rattle.states.specs.Attributes.{asks_v, asks_scheme}
 use Rattle.rules.specs.Rules.{judge, position_fits}
 use Rattle.times.specs.Times.{interval}
 use Rattle.times.specs.Periods.{quarter_hours}
-use Rattle.times.specs.declared.Interval.{Interval}
-use Rattle.times.specs.declared.Interval.TheVariants.{Minutes, NotInterval}
 use Rattle.series.specs.Row.{room_for, field_at}
 use Rattle.series.specs.declared.Field.TheVariants.{FirstRow, Count}
 use Rattle.views.specs.Layout.{header_pairs, series_pairs, cell_of}
@@ -88,11 +86,11 @@ unfoldable pub covered_pair : ℕ → List ℕ → ℕ
 covered_pair k [] = k
 covered_pair k (w ∷ ws) = cond (eqb (form_of w) period_form) k (covered_pair (k + pairs_of w) ws)
 
-unfoldable pub covered_at : List ℕ → List ℕ → ℕ → Interval
+unfoldable pub covered_at : List ℕ → List ℕ → ℕ → Option (ℕ × ℕ)
 covered_at text pairs k =
-    cond (has_pair pairs k) (cond (has_ampersand (pair_view text pairs k)) NotInterval (interval (says (pair_view text pairs k)))) NotInterval
+    cond (has_pair pairs k) (cond (has_ampersand (pair_view text pairs k)) None (interval (says (pair_view text pairs k)))) None
 
-unfoldable pub covered_told : List ℕ → List ℕ → List ℕ → Interval
+unfoldable pub covered_told : List ℕ → List ℕ → List ℕ → Option (ℕ × ℕ)
 covered_told text pairs rows = covered_at text pairs (covered_pair 3 (drop 2 rows))
 
 -- ---- a series
@@ -155,12 +153,12 @@ every_told kind from to text pairs rows series positions amounts i (suc n) =
 unfoldable pub count_lent : ℕ → ℕ → ℕ → Bool
 count_lent np count ns = cond (leb 1 count) (cond (leb (cell_of (header_pairs + series_pairs * count)) np) (leb count (room_for ns)) false) false
 
-unfoldable pub sheet_by : ℕ → List ℕ → List ℕ → List ℕ → ℕ → List ℕ → List ℕ → List ℤ → Interval → Bool
-sheet_by kind rows text pairs count series positions amounts (Minutes from to) =
+unfoldable pub sheet_by : ℕ → List ℕ → List ℕ → List ℕ → ℕ → List ℕ → List ℕ → List ℤ → Option (ℕ × ℕ) → Bool
+sheet_by kind rows text pairs count series positions amounts (Some (from, to)) =
     cond (root_told kind text pairs)
     (cond (singles_told kind from to text pairs 3 (drop 2 rows)) (every_told kind from to text pairs rows series positions amounts 0 count) false)
     false
-sheet_by kind rows text pairs count series positions amounts NotInterval = false
+sheet_by kind rows text pairs count series positions amounts None = false
 
 unfoldable pub sheet_told : ℕ → List ℕ → List ℕ → List ℕ → ℕ → List ℕ → List ℕ → List ℤ → Bool
 sheet_told kind rows text pairs count series positions amounts =

@@ -10,10 +10,10 @@ ghost use Rattle.drafts.specs.Fit.{draft_of, draft_fits};
 
 use guideline::{every_row, rows_of};
 use rows::{every_series_fits, is_count_lent};
-use times::Interval;
 use values::{are_texts, covered, root_fits, singles_fit};
 
 // The values of the header and the series, by the rows of the kind, where all of it is lent.
+#[tactic(auto, unfolding(crate::specs::Told::sheet_told, crate::specs::Told::sheet_by))]
 fn sheet_fits(
     kind: u32,
     rows: &[usize],
@@ -27,20 +27,18 @@ fn sheet_fits(
     requires { length rows.now ≤ 34 }
     ensures { result ≡ sheet_told kind rows.now text.now pairs.now count series.now positions.now amounts.now }
 {
-    match covered(text, pairs, rows) {
-        Interval::Minutes(from, to) => {
-            if !root_fits(kind, text, pairs) {
-                return false;
-            }
-            if !singles_fit(kind, from, to, text, pairs, rows, 2, 3) {
-                return false;
-            }
-            every_series_fits(
-                kind, from, to, text, pairs, rows, count, series, positions, amounts,
-            )
-        }
-        Interval::NotInterval => false,
+    let Some((from, to)) = covered(text, pairs, rows) else {
+        return false;
+    };
+    if !root_fits(kind, text, pairs) {
+        return false;
     }
+    if !singles_fit(kind, from, to, text, pairs, rows, 2, 3) {
+        return false;
+    }
+    every_series_fits(
+        kind, from, to, text, pairs, rows, count, series, positions, amounts,
+    )
 }
 
 // Whether a draft is fit: its kind is one of the two that are written, all that it counts is lent, and its content is legal.

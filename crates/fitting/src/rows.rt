@@ -63,14 +63,12 @@ fn rows_fit(
 {
     let end = first as usize + count as usize;
     let mut last: u32 = 0;
-    let mut j = first as usize;
-    while j < end {
+    for j in first as usize..end {
         let p = number_at(positions, j);
         if !row_fits(kind, quarters, last, p, amount_at(amounts, j)) {
             return false;
         }
         last = p;
-        j += 1;
     }
     true
 }
@@ -148,8 +146,7 @@ fn is_used_before(text: &[u8], pairs: &[u32], i: u32) -> bool
         pairs,
         2 * (HEADER_PAIRS + SERIES_PAIRS * (i as usize)),
     );
-    let mut j: u32 = 0;
-    while j < i {
+    for j in 0..i {
         if is_same(
             id,
             shown(
@@ -160,7 +157,6 @@ fn is_used_before(text: &[u8], pairs: &[u32], i: u32) -> bool
         ) {
             return true;
         }
-        j += 1;
     }
     false
 }
@@ -181,8 +177,7 @@ pub(crate) fn every_series_fits(
     ensures { result ≡ every_told kind from to text.now pairs.now rows.now series.now positions.now amounts.now 0 count }
 {
     let row = role_row(rows, SERIES_ROLE) + 1;
-    let mut i: u32 = 0;
-    while i < count {
+    for i in 0..count {
         let k = HEADER_PAIRS + SERIES_PAIRS * (i as usize);
         let first = field_of(series, i, Field::FirstRow);
         let n = field_of(series, i, Field::Count);
@@ -192,7 +187,6 @@ pub(crate) fn every_series_fits(
         {
             return false;
         }
-        i += 1;
     }
     true
 }

@@ -6,7 +6,7 @@ ghost use Rattle.escapes.specs.Spelled.{chars_of};
 ghost use Rattle.views.specs.Layout.{header_pairs, series_pairs};
 ghost use Rattle.fitting.specs.Told.{is_text, texts_told, has_ampersand, said_of, is_id, text_fits, scheme_told, single_told, singles_told, originals_told, root_told, covered_pair, covered_told};
 
-use characters::{Char, all_chars, char_at};
+use characters::{all_chars, char_at};
 use codes::is_listed;
 use columns::{
     BY_LIST, IDENTIFICATION_FORM, ORIGINAL_ROLE, PERIOD_FORM, PERIOD_ROLE, SERIES_ID_FORM, form_of,
@@ -14,13 +14,12 @@ use columns::{
 };
 use drafts::{HEADER_PAIRS, SERIES_PAIRS, is_given, pairs_of, shown};
 use guideline::{DTD_MESSAGE, is_fixed};
-use refusals::NO_REFUSAL;
 use rules::{Held, judge_value};
 use slices::rest;
 use states::{asks_scheme, asks_v};
 use structure::is_required;
 use tables::number_at;
-use times::{Interval, interval_of, quarter_hours};
+use times::{interval_of, quarter_hours};
 use trims::trimmed;
 
 // The most characters of an identification.
@@ -44,12 +43,10 @@ pub(crate) fn are_texts(text: &[u8], pairs: &[u32], count: u32) -> bool
     ensures { result ≡ texts_told text.now pairs.now 0 (header_pairs + series_pairs * count) }
 {
     let n = HEADER_PAIRS + SERIES_PAIRS * (count as usize);
-    let mut k: usize = 0;
-    while k < n {
+    for k in 0..n {
         if !is_text(text, pairs, k) {
             return false;
         }
-        k += 1;
     }
     true
 }
@@ -57,14 +54,7 @@ pub(crate) fn are_texts(text: &[u8], pairs: &[u32], count: u32) -> bool
 fn has_ampersand(v: &[u8]) -> bool
     ensures { result ≡ has_ampersand v.now }
 {
-    let mut i: usize = 0;
-    while i < v.len() {
-        if v[i] == AMPERSAND {
-            return true;
-        }
-        i += 1;
-    }
-    false
+    v.contains(&AMPERSAND)
 }
 
 // How many characters a text has, in which `&` stands for itself.
@@ -74,16 +64,9 @@ fn count_literal(v: &[u8]) -> usize
     let mut n: usize = 0;
     let mut i: usize = 0;
     while i < v.len() {
-        match char_at(rest(v, i)) {
-            Char::Is(_, k) => {
-                i += k;
-                n += 1;
-            }
-            Char::NoChar => {
-                i += 1;
-                n += 1;
-            }
-        }
+        let (_, k) = char_at(rest(v, i)).unwrap_or((0, 1));
+        i += k;
+        n += 1;
     }
     n
 }
@@ -125,7 +108,7 @@ fn text_fits(kind: u32, from: u32, to: u32, w: usize, v: &[u8]) -> bool
         quarters: quarter_hours(from, to),
         last: 0,
     };
-    judge_value(form, said_of(w, v), held).number == NO_REFUSAL
+    judge_value(form, said_of(w, v), held).is_ok()
 }
 
 // Whether codingScheme, which is collapsed in every row that has it, is in its code list.
@@ -190,9 +173,8 @@ pub(crate) fn singles_fit(
     requires pair { k ≤ 99999999000 }
     ensures { result ≡ singles_told kind from to text.now pairs.now k (drop row rows.now) }
 {
-    let mut q = row;
     let mut next = k;
-    while q < rows.len() {
+    for q in row..rows.len() {
         let w = rows[q];
         if asks_v(w) {
             if !single_fits(kind, from, to, text, pairs, w, next) {
@@ -202,7 +184,6 @@ pub(crate) fn singles_fit(
         } else if role_of(w) != PERIOD_ROLE {
             return true;
         }
-        q += 1;
     }
     true
 }
@@ -214,9 +195,8 @@ pub(crate) fn originals_in(pairs: &[u32], rows: &[usize], row: usize, k: usize) 
     ensures { result ≡ originals_told pairs.now k (drop row rows.now) }
 {
     let mut n: usize = 0;
-    let mut q = row;
     let mut next = k;
-    while q < rows.len() {
+    for q in row..rows.len() {
         let w = rows[q];
         if !asks_v(w) {
             return n;
@@ -225,7 +205,6 @@ pub(crate) fn originals_in(pairs: &[u32], rows: &[usize], row: usize, k: usize) 
             n += 1;
         }
         next += pairs_of(w);
-        q += 1;
     }
     n
 }
@@ -257,30 +236,28 @@ fn covered_pair(rows: &[usize]) -> usize
     ensures size { result ≤ 71 }
 {
     let mut k: usize = 3;
-    let mut q: usize = 2;
-    while q < rows.len() {
+    for q in 2..rows.len() {
         let w = rows[q];
         if form_of(w) == PERIOD_FORM {
             return k;
         }
         k += pairs_of(w);
-        q += 1;
     }
     k
 }
 
 // TimePeriodCovered, against which later values are held.
-pub(crate) fn covered(text: &[u8], pairs: &[u32], rows: &[usize]) -> Interval
+pub(crate) fn covered(text: &[u8], pairs: &[u32], rows: &[usize]) -> Option<(u32, u32)>
     requires { length rows.now ≤ 34 }
     ensures { result ≡ covered_told text.now pairs.now rows.now }
 {
     let k = covered_pair(rows);
     if !is_given(pairs, 2 * k) {
-        return Interval::NotInterval;
+        return None;
     }
     let v = shown(text, pairs, 2 * k);
     if has_ampersand(v) {
-        return Interval::NotInterval;
+        return None;
     }
     interval_of(v)
 }

@@ -4,8 +4,6 @@
 //   as it stands and with spaces dropped: the numbers of the code lists that have it, each after a comma
 #![tactic(auto)]
 
-use numbers::{Amount, Number};
-
 fn print_flag(yes: bool) {
     if yes {
         lines::print_text(b" 1");
@@ -20,10 +18,7 @@ fn print_field(n: u64) {
 }
 
 fn print_version(v: &[u8], most: usize) {
-    match numbers::number_of(v, most) {
-        Number::Is(n) => print_field(n as u64),
-        Number::NotNumber => print_field(0),
-    }
+    print_field(numbers::number_of(v, most).unwrap_or(0) as u64);
 }
 
 fn print_signed(x: i64) {
@@ -39,8 +34,8 @@ fn print_signed(x: i64) {
 fn print_amount(v: &[u8]) {
     lines::print_text(b" ");
     match numbers::amount_of(v) {
-        Amount::Thousandths(x) => print_signed(x),
-        Amount::NotAmount => lines::print_text(b"x"),
+        Some(x) => print_signed(x),
+        None => lines::print_text(b"x"),
     }
 }
 

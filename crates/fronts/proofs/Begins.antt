@@ -7,6 +7,7 @@ use mathlib.Core.Logic.{◌⊎◌, inl, inr, ⊎_elim}
 use native.Mathlib.Omega.{arith}
 use lib.ListN.{length, take, drop, length-take, length-drop, drop_of_length-le, take-append-drop}
 use lib.Seq.{take-take}
+use Rattle.std.specs.Prelude.{Result, Ok, Err}
 use Rattle.lists.proofs.Cases.{bool_cases, ltb-cases, never, zero-not-one}
 use Rattle.slices.specs.Bytes.{byte}
 use Rattle.slices.specs.Run.{run}
@@ -18,8 +19,6 @@ use Rattle.characters.specs.Utf8.{seq_len, low, high, second, later_byte, triple
 use Rattle.characters.specs.Says.{char_next, chars_over, all_chars}
 use Rattle.attributes.specs.Names.{name_start, white}
 use Rattle.prolog.specs.Prolog.{declaration, mark_len, behind_mark, begin_after, begin}
-use Rattle.prolog.specs.declared.Begin.{Begin}
-use Rattle.prolog.specs.declared.Begin.TheVariants.{From, Misdeclared}
 use Rattle.prolog.proofs.Promises.{mark-three, refused-at}
 use Rattle.items.specs.Text.{text_to, text_item}
 use Rattle.items.specs.Item.{start_tag, item, is_readable, item_end}
@@ -112,23 +111,23 @@ pub record Begun (x : List ℕ) (k : ℕ) : Type 0 where
   pub inside : k ≤ length x
   pub from : ((k ≡ mark_len x) × (begins xml (drop (mark_len x) x) ≡ false)) ⊎ (mark_len x + 5 ≤ k)
 
-pub begin-told : (x : List ℕ) (k : ℕ) → begin x ≡ From k → Begun x k
+pub begin-told : (x : List ℕ) (k : ℕ) → begin x ≡ Ok k → Begun x k
 unfolding begin begin_after behind_mark
 begin-told x k q =
     ⊎_elim
     (λ (t : begins xml (drop (mark_len x) x) ≡ true). by (declaration (mark_len x) (drop (mark_len x) x)) refl (rw t at q))
     (λ (t : begins xml (drop (mark_len x) x) ≡ false).
-    let z : From (mark_len x) ≡ From k = rw t at q in
+    let z : ◌≡◌ {A = Result ℕ ℕ} (Ok (mark_len x)) (Ok k) = rw t at q in
     let e : mark_len x ≡ k = cc in
     record { inside = omega (arith, e, mark-inside x); from = inl (sym e, t) })
     (bool_cases (begins xml (drop (mark_len x) x)))
   where
-    by : (b : Begin) → declaration (mark_len x) (drop (mark_len x) x) ≡ b → behind_mark (mark_len x) b ≡ From k → Begun x k
-    by (From n) e z =
+    by : (b : Result ℕ ℕ) → declaration (mark_len x) (drop (mark_len x) x) ≡ b → behind_mark (mark_len x) b ≡ Ok k → Begun x k
+    by (Ok n) e z =
         let s : mark_len x + n ≡ k = cc in
         let d = declaration-same (mark_len x) (drop (mark_len x) x) (drop (mark_len x) x) n (λ l. l) (λ i l. refl) e in
         record { inside = omega (arith, d.1, d.2, length-drop (mark_len x) x); from = inr (omega (arith, d.2)) }
-    by (Misdeclared p) e z = absurd (zero-not-one (cc))
+    by (Err p) e z = absurd (zero-not-one (cc))
 
 mark-told : (x : List ℕ) (k : ℕ) → Begun x k → (3 ≤ k) ⊎ ((k ≡ 0) × (mark_len x ≡ 0))
 mark-told x k b =
@@ -138,7 +137,7 @@ mark-told x k b =
     (mark-three x)
 
 module _ (x y : List ℕ) (k : ℕ) where
-  begin-with : begins mark y ≡ begins mark x → begins xml (drop (mark_len x) y) ≡ begins xml (drop (mark_len x) x) → take k y ≡ take k x → begin x ≡ From k → begin y ≡ From k
+  begin-with : begins mark y ≡ begins mark x → begins xml (drop (mark_len x) y) ≡ begins xml (drop (mark_len x) x) → take k y ≡ take k x → begin x ≡ Ok k → begin y ≡ Ok k
   unfolding begin begin_after
   begin-with em ex q e =
       let same : mark_len y ≡ mark_len x = mark-is y em ∙ sym (mark-is x refl) in
@@ -148,16 +147,16 @@ module _ (x y : List ℕ) (k : ℕ) where
       (λ (t : begins xml (drop (mark_len x) x) ≡ false). rw (same, ex, t) (rw t at e))
       (bool_cases (begins xml (drop (mark_len x) x)))
     where
-      rest : begins xml (drop (mark_len x) x) ≡ true → (n : ℕ) → mark_len x + n ≡ k → declaration (mark_len x) (drop (mark_len x) x) ≡ From n → declaration (mark_len x) (drop (mark_len x) y) ≡ From n
+      rest : begins xml (drop (mark_len x) x) ≡ true → (n : ℕ) → mark_len x + n ≡ k → declaration (mark_len x) (drop (mark_len x) x) ≡ Ok n → declaration (mark_len x) (drop (mark_len x) y) ≡ Ok n
       rest t n z d =
           let b = begin-told x k e in
           let s = shared-behind x y (mark_len x) n (rw z q) (omega (arith, z, b.inside)) in
           (declaration-same (mark_len x) (drop (mark_len x) x) (drop (mark_len x) y) n (shared_long (drop (mark_len x) x) (drop (mark_len x) y) n s)
           (shared-front (drop (mark_len x) x) (drop (mark_len x) y) n s) d).0
 
-  module _ (q : begin x ≡ From k) where
+  module _ (q : begin x ≡ Ok k) where
     -- y begins with the first item of x, which can be read
-    pub begin-front : is_readable (item k (drop k x)) ≡ true → take (k + item_end (item k (drop k x))) y ≡ take (k + item_end (item k (drop k x))) x → begin y ≡ From k
+    pub begin-front : is_readable (item k (drop k x)) ≡ true → take (k + item_end (item k (drop k x))) y ≡ take (k + item_end (item k (drop k x))) x → begin y ≡ Ok k
     begin-front r e =
         let n = item_end (item k (drop k x)) in
         let m = mark_len x in
@@ -186,17 +185,17 @@ none-mark : begins mark [] ≡ false
 unfolding begins same
 none-mark = refl
 
-empty-begin : begin [] ≡ From 0
+empty-begin : begin [] ≡ Ok 0
 unfolding begin begin_after mark_len begins same
 empty-begin = refl
 
-mark-begin : begin mark ≡ From 3
+mark-begin : begin mark ≡ Ok 3
 unfolding begin begin_after mark_len begins same
 mark-begin = refl
 
 -- a document that ends where its items would begin
 module _ (x : List ℕ) where
-  pub begin-cut : (k : ℕ) → begin x ≡ From k → begin (take k x) ≡ From k
+  pub begin-cut : (k : ℕ) → begin x ≡ Ok k → begin (take k x) ≡ Ok k
   begin-cut k q =
       let m = mark_len x in
       let b = begin-told x k q in
@@ -214,7 +213,7 @@ module _ (x : List ℕ) where
       bare (suc k) z e = absurd (omega arith)
 
   -- or where its declaration, which cannot be read
-  pub misdeclared-cut : (p : ℕ) → begin x ≡ Misdeclared p → (begin (take p x) ≡ From p) × (p ≤ length x)
+  pub misdeclared-cut : (p : ℕ) → begin x ≡ Err p → (begin (take p x) ≡ Ok p) × (p ≤ length x)
   misdeclared-cut p e =
       rw (refused-at x p e)
       (⊎_elim

@@ -3,6 +3,8 @@
 use Rattle.std.specs.Prelude.{ℕ, suc, List, [], Bool, true, false, cond, eqb, leb}
 use Rattle.slices.specs.Text.{text}
 use Rattle.elements.specs.Names.{element_no}
+use Rattle.guideline.specs.declared.Demand.{Demand}
+use Rattle.guideline.specs.declared.Demand.TheVariants.{NotKnown, Asked, Optional}
 use Rattle.guideline.specs.declared.Demands.{Demands}
 use Rattle.guideline.specs.declared.Kind.{Kind}
 
@@ -21,27 +23,17 @@ dtd_release = 1
 abbrev pub dtd_message : ℕ
 dtd_message = 2
 
--- what a kind asks of each: the root may not have it, has it, or may have it
-abbrev pub not_known : ℕ
-not_known = 0
-
-abbrev pub asked : ℕ
-asked = 1
-
-abbrev pub optional : ℕ
-optional = 2
-
 -- none of the three is known
 unfoldable pub no_demands : Demands
-no_demands = record { version = not_known; release = not_known; message = not_known }
+no_demands = record { version = NotKnown; release = NotKnown; message = NotKnown }
 
 -- DtdBDEWNachrichtenVersion has to come, and the others are not known
 unfoldable pub message_alone : Demands
-message_alone = record { version = not_known; release = not_known; message = asked }
+message_alone = record { version = NotKnown; release = NotKnown; message = Asked }
 
 -- DtdVersion and DtdRelease have to come, and DtdBDEWNachrichtenVersion may
 unfoldable pub version_and_release : Demands
-version_and_release = record { version = asked; release = asked; message = optional }
+version_and_release = record { version = Asked; release = Asked; message = Optional }
 
 -- ---- the kinds
 

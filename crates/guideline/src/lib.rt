@@ -112,19 +112,21 @@ use elements::TIME_SERIES_IDENTIFICATION;
 use pictures::is_said;
 use structure::DOCUMENT;
 
-// What a kind asks of each of the attributes that a root may have.
+// What a kind asks of an attribute that a root may have: the root may not have it, has it, or may have it.
 #[derive(Clone, Copy)]
-pub struct Demands {
-    pub version: usize,
-    pub release: usize,
-    pub message: usize,
+pub enum Demand {
+    NotKnown,
+    Asked,
+    Optional,
 }
 
-pub const NOT_KNOWN: usize = 0;
-
-pub const ASKED: usize = 1;
-
-pub const OPTIONAL: usize = 2;
+// What a kind asks of each of those attributes.
+#[derive(Clone, Copy)]
+pub struct Demands {
+    pub version: Demand,
+    pub release: Demand,
+    pub message: Demand,
+}
 
 impl Demands {
     // Ruled out: one of the three asked for, or let through.
@@ -132,9 +134,9 @@ impl Demands {
         ensures { result ≡ no_demands }
     {
         Demands {
-            version: NOT_KNOWN,
-            release: NOT_KNOWN,
-            message: NOT_KNOWN,
+            version: Demand::NotKnown,
+            release: Demand::NotKnown,
+            message: Demand::NotKnown,
         }
     }
 
@@ -142,9 +144,9 @@ impl Demands {
         ensures { result ≡ message_alone }
     {
         Demands {
-            version: NOT_KNOWN,
-            release: NOT_KNOWN,
-            message: ASKED,
+            version: Demand::NotKnown,
+            release: Demand::NotKnown,
+            message: Demand::Asked,
         }
     }
 
@@ -152,14 +154,14 @@ impl Demands {
         ensures { result ≡ version_and_release }
     {
         Demands {
-            version: ASKED,
-            release: ASKED,
-            message: OPTIONAL,
+            version: Demand::Asked,
+            release: Demand::Asked,
+            message: Demand::Optional,
         }
     }
 }
 
-// Those attributes: DtdVersion, DtdRelease, DtdBDEWNachrichtenVersion.
+// Those attributes: DtdVersion, DtdRelease, DtdBDEWNachrichtenVersion. Numbers, since `is_fixed` is promised for any.
 pub const DTD_VERSION: usize = 0;
 
 pub const DTD_RELEASE: usize = 1;
@@ -499,37 +501,17 @@ pub fn kind_of_root(name: usize) -> u32
     0
 }
 
-fn is_fixed_one(attribute: usize, v: &[u8]) -> bool
-    ensures { result ≡ same (fixed_one attribute) (says v.now) }
+#[tactic(auto, unfolding(crate::specs::Kinds::fixed_for, crate::specs::Kinds::fixed_one, crate::specs::Kinds::fixed_two, crate::specs::Kinds::fixed_three))]
+fn fixed_for(kind: u32, attribute: usize) -> &'static [u8]
+    ensures { result.now ≡ fixed_for kind attribute }
 {
-    if attribute == DTD_MESSAGE {
-        return is_said(b"1.0", v);
+    match (kind, attribute) {
+        (1 | 2, DTD_MESSAGE) => b"1.0",
+        (3, DTD_VERSION) => b"4",
+        (3, DTD_RELEASE) => b"1",
+        (3, DTD_MESSAGE) => b"1.1a",
+        _ => b"",
     }
-    is_said(b"", v)
-}
-
-fn is_fixed_two(attribute: usize, v: &[u8]) -> bool
-    ensures { result ≡ same (fixed_two attribute) (says v.now) }
-{
-    if attribute == DTD_MESSAGE {
-        return is_said(b"1.0", v);
-    }
-    is_said(b"", v)
-}
-
-fn is_fixed_three(attribute: usize, v: &[u8]) -> bool
-    ensures { result ≡ same (fixed_three attribute) (says v.now) }
-{
-    if attribute == DTD_VERSION {
-        return is_said(b"4", v);
-    }
-    if attribute == DTD_RELEASE {
-        return is_said(b"1", v);
-    }
-    if attribute == DTD_MESSAGE {
-        return is_said(b"1.1a", v);
-    }
-    is_said(b"", v)
 }
 
 // Whether a value is the fixed one of an attribute of the root, which is no text for an attribute that the kind does not know.
@@ -537,12 +519,7 @@ fn is_fixed_three(attribute: usize, v: &[u8]) -> bool
 pub fn is_fixed(kind: u32, attribute: usize, v: &[u8]) -> bool
     ensures { result ≡ same (fixed_for kind attribute) (says v.now) }
 {
-    match kind {
-        1 => is_fixed_one(attribute, v),
-        2 => is_fixed_two(attribute, v),
-        3 => is_fixed_three(attribute, v),
-        _ => is_said(b"", v),
-    }
+    is_said(fixed_for(kind, attribute), v)
 }
 
 // Whether a Period that has n Intervals takes another. Ruled out: a 101st in kinds 1 and 3; an end to the Intervals of kind 2.

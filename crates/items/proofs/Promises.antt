@@ -8,6 +8,7 @@ use mathlib.Core.Bool.{true, false}
 use native.Mathlib.Omega.{arith}
 use lib.ListN.{drop, take}
 use lib.Dec.{eqb, ltb}
+use Rattle.std.specs.Prelude.{Option, Some, None}
 use Rattle.lists.proofs.Cases.{bool_cases, by_cond}
 use Rattle.slices.specs.Bytes.{byte}
 use Rattle.slices.specs.Run.{run}
@@ -19,8 +20,6 @@ use Rattle.tags.specs.Tail.{Ends, closed, torn, twice}
 use Rattle.items.specs.Comment.{comment}
 use Rattle.items.specs.Text.{text_to, text_item}
 use Rattle.items.specs.Item.{tag_item, start_tag, end_tag, end_name, end_close, comment_item, comment_tag, item, is_readable, item_refusal}
-use Rattle.items.specs.declared.Reach.{Reach}
-use Rattle.items.specs.declared.Reach.TheVariants.{Upto, Unread}
 use Rattle.items.specs.declared.Item.{Item}
 use Rattle.items.specs.declared.Item.TheVariants.{Start, Empty, End, Text, Comment, Unreadable}
 
@@ -49,10 +48,10 @@ module _ (before : ℕ) (s : List ℕ) where
       let n = run name_byte (drop 2 s) in
       by_cond (Placed before s) (name_start (byte s 2)) (by_cond (Placed before s) (eqb (byte s (2 + n + run white (drop (2 + n) s))) 0x3E) tt refl) refl
 
-  reach-placed : (x : Reach) → Placed before s (comment_item before x)
+  reach-placed : (x : Option ℕ) → Placed before s (comment_item before x)
   unfolding comment_item Placed
-  reach-placed (Upto e) = tt
-  reach-placed Unread = refl
+  reach-placed (Some e) = tt
+  reach-placed None = refl
 
   comment-placed : Placed before s (comment_tag before s)
   unfolding comment_tag Placed

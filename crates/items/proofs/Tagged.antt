@@ -7,14 +7,16 @@ use mathlib.Core.Logic.{⊎_elim}
 use native.Mathlib.Omega.{arith}
 use lib.Dec.{ltb}
 use lib.ListN.{drop}
+use Rattle.std.specs.Prelude.{None}
 use Rattle.lists.proofs.Cases.{ltb-cases}
 use Rattle.slices.specs.Bytes.{byte}
 use Rattle.slices.specs.Run.{run}
 use Rattle.attributes.specs.Names.{name_start, name_byte}
+use Rattle.std.proofs.lemmas.Option.{same_Some}
 use Rattle.tags.specs.Known.{none_known}
-use Rattle.tags.specs.Tail.{Attr, Ends, closed, torn, ends, kept_of, tail, twice, twice_in}
+use Rattle.tags.specs.Tail.{Attr, Ends, closed, torn, ends, kept_of, tail, twice, twice_in, shut}
 use Rattle.tags.specs.declared.Known.{Known}
-use Rattle.tags.specs.declared.Tail.TheVariants.{Shut, Breaks}
+use Rattle.tags.specs.declared.Tail.{Tail}
 use Rattle.tags.proofs.Many.{few}
 use Rattle.items.specs.Item.{tag_of, tag_item, start_tag}
 use Rattle.items.specs.declared.Item.TheVariants.{Start, Empty, Unreadable}
@@ -26,19 +28,20 @@ short more =
 
 -- r is what was answered to whether an attribute stands twice
 pub tagged : (before n : ℕ) (x : Ends) (k : Known) (empty : Bool) (e : ℕ) (r : Bool)
-    → Shut k empty e ≡ tail none_known x → r ≡ cond (ltb k.many 2) false (twice_in x)
+    → shut k empty e ≡ tail none_known x → r ≡ cond (ltb k.many 2) false (twice_in x)
     → tag_item before n x ≡ cond r (Unreadable before) (cond empty (Empty (tag_of n k e)) (Start (tag_of n k e)))
 unfolding tail tag_item twice_in
-tagged before n (closed more shut m) k empty e r q h =
-    let ek : k ≡ kept_of none_known more = cc in
-    let ee : e ≡ m = cc in
-    let es : empty ≡ shut = cc in
+tagged before n (closed more closing m) k empty e r q h =
+    let t = same_Some _ _ q in
+    let ek : k ≡ kept_of none_known more = ap (λ (y : Tail). y.known) t in
+    let ee : e ≡ m = ap (λ (y : Tail). y.end) t in
+    let es : empty ≡ closing = ap (λ (y : Tail). y.empty) t in
     rw (ek, ee, es) (rw (rw ek at h, ← short more))
 tagged before n torn k empty e r q h = let z : ◌≡◌ {A = ℕ} 0 1 = cc in absurd (omega arith)
 
-pub broken : (before n : ℕ) (x : Ends) → Breaks ≡ tail none_known x → tag_item before n x ≡ Unreadable before
+pub broken : (before n : ℕ) (x : Ends) → None ≡ tail none_known x → tag_item before n x ≡ Unreadable before
 unfolding tail tag_item
-broken before n (closed more shut m) q = let z : ◌≡◌ {A = ℕ} 0 1 = cc in absurd (omega arith)
+broken before n (closed more closing m) q = let z : ◌≡◌ {A = ℕ} 0 1 = cc in absurd (omega arith)
 broken before n torn q = refl
 
 -- b, t, l and n are what the function's calls found on its way to the tag's name

@@ -1,6 +1,6 @@
 -- "An item is either one of five kinds or a refusal with its place: start tag, empty tag, end tag, text, comment."
 -- The item at the front of s, the part of the document after its first `before` bytes.
-use Rattle.std.specs.Prelude.{ℕ, ◌+◌, List, Bool, true, false, cond, drop, eqb}
+use Rattle.std.specs.Prelude.{ℕ, ◌+◌, List, Bool, true, false, cond, drop, eqb, Option, Some, None}
 use Rattle.refusals.specs.Refusals.{no_refusal, unreadable_item, not_due}
 use Rattle.slices.specs.Bytes.{byte}
 use Rattle.slices.specs.Run.{run}
@@ -10,8 +10,6 @@ use Rattle.tags.specs.Tail.{Ends, closed, torn, ends, kept_of, twice}
 use Rattle.tags.specs.declared.Known.{Known}
 use Rattle.items.specs.Comment.{comment}
 use Rattle.items.specs.Text.{text_item}
-use Rattle.items.specs.declared.Reach.{Reach}
-use Rattle.items.specs.declared.Reach.TheVariants.{Upto, Unread}
 use Rattle.items.specs.declared.Tag.{Tag}
 use Rattle.items.specs.declared.Item.{Item}
 use Rattle.items.specs.declared.Item.TheVariants.{Start, Empty, End, Text, Comment, Unreadable}
@@ -41,9 +39,9 @@ unfoldable pub end_tag : ℕ → List ℕ → Item
 end_tag before s = cond (name_start (byte s 2)) (end_name before s (run name_byte (drop 2 s))) (Unreadable before)
 
 -- `<!--`, and the rest of the comment
-unfoldable pub comment_item : ℕ → Reach → Item
-comment_item before (Upto e) = Comment (4 + e)
-comment_item before Unread = Unreadable before
+unfoldable pub comment_item : ℕ → Option ℕ → Item
+comment_item before (Some e) = Comment (4 + e)
+comment_item before None = Unreadable before
 
 unfoldable pub comment_tag : ℕ → List ℕ → Item
 comment_tag before s =
@@ -95,6 +93,6 @@ item_value (Text w e) = 0
 item_value (Comment e) = 0
 item_value (Unreadable p) = 0
 
-abbrev pub read_end : Reach → ℕ
-read_end (Upto e) = e
-read_end Unread = 1
+abbrev pub read_end : Option ℕ → ℕ
+read_end (Some e) = e
+read_end None = 1

@@ -12,7 +12,7 @@ use attributes::{is_name_start, name_len, white_len};
 use characters::all_chars;
 use repeats::has_twice;
 use slices::{Span, byte_at, first_at, front, part, rest};
-use tags::{Dtd, Known, Tail, tail_at};
+use tags::{Dtd, Known, tail_at};
 
 // A start or empty tag: `<` and the name, whose length is `name`; the values of the attributes that the guideline knows; whether it
 // has others, and whether all of those may be passed over on a root; how many bytes it takes.
@@ -40,24 +40,18 @@ pub enum Item {
     Unreadable(usize),
 }
 
-// How far a comment reaches, or that it is unreadable.
-#[derive(Clone, Copy)]
-enum Reach {
-    Upto(usize),
-    Unread,
-}
-
-fn comment_at(s: &[u8]) -> Reach
+// How far a comment reaches, if it is readable.
+fn comment_at(s: &[u8]) -> Option<usize>
     ensures reach { result ≡ comment s.now }
     ensures size { (1 ≤ read_end result) × (read_end result ≤ length s.now + 3) }
 {
     let n = first_at(b"--", s);
     if byte_at(s, n + 2) == 0x3E {
         if all_chars(front(s, n)) {
-            return Reach::Upto(n + 3);
+            return Some(n + 3);
         }
     }
-    Reach::Unread
+    None
 }
 
 fn comment_tag(before: usize, s: &[u8]) -> Item
@@ -67,8 +61,8 @@ fn comment_tag(before: usize, s: &[u8]) -> Item
     if byte_at(s, 2) == 0x2D {
         if byte_at(s, 3) == 0x2D {
             return match comment_at(rest(s, 4)) {
-                Reach::Upto(e) => Item::Comment(4 + e),
-                Reach::Unread => Item::Unreadable(before),
+                Some(e) => Item::Comment(4 + e),
+                None => Item::Unreadable(before),
             };
         }
     }
@@ -149,17 +143,18 @@ fn start_tag(before: usize, s: &[u8]) -> Item
         let n = name_len(rest(s, 1));
         let b = 1 + n;
         match tail_at(s, b) {
-            Tail::Shut(k, empty, e) => {
-                if is_repeated(k, s, b) {
+            Some(tail) => {
+                let known = tail.known;
+                if is_repeated(known, s, b) {
                     return Item::Unreadable(before);
                 }
-                let t = tag_of(n, k, e);
-                if empty {
+                let t = tag_of(n, known, tail.end);
+                if tail.empty {
                     return Item::Empty(t);
                 }
                 return Item::Start(t);
             }
-            Tail::Breaks => return Item::Unreadable(before),
+            None => return Item::Unreadable(before),
         }
     }
     Item::Unreadable(before)

@@ -8,7 +8,6 @@
 ghost use Rattle.std.specs.Prelude.{◌+◌, ◌≤◌, length};
 
 use items::{Item, Tag};
-use prolog::Begin;
 use slices::Span;
 
 fn show_number(n: usize) {
@@ -134,12 +133,12 @@ fn show_items(doc: &[u8], from: usize) {
 
 fn show_document(doc: &[u8]) {
     match prolog::first_item(doc) {
-        Begin::From(at) => {
+        Ok(at) => {
             lines::print_text(b"from");
             show_number(at);
             show_items(doc, at);
         }
-        Begin::Misdeclared(at) => {
+        Err(at) => {
             lines::print_text(b"unreadable");
             show_number(at);
             show_items(doc, at);

@@ -8,13 +8,13 @@ use lib.Dec.{eqb}
 use lib.ListN.{length, drop, get_or, length-append, length-drop}
 use lib.ListN.{drop_of_length-le}
 use borrow.Author.Tests.{ne_eqb}
+use Rattle.std.specs.Prelude.{Ok}
 use Rattle.lists.proofs.Cases.{never}
 use Rattle.slices.specs.Bytes.{byte}
 use Rattle.slices.specs.Same.{same, begins}
 use Rattle.slices.specs.Text.{text}
 use Rattle.attributes.specs.Names.{name_start}
 use Rattle.prolog.specs.Prolog.{mark_len, begin_after, begin}
-use Rattle.prolog.specs.declared.Begin.TheVariants.{From}
 use Rattle.structure.specs.Rows.{name_of}
 use Rattle.guideline.specs.Rows.{rows_of}
 use Rattle.notes.specs.declared.Shape.{Shape}
@@ -193,21 +193,21 @@ laid rows (element q a inner after) w doc at r d =
 -- ---- a document of the layout alone
 
 -- no byte order mark and no declaration stand before a tag
-plain-begin : (l : List ℕ) → name_start (byte l 0) ≡ true → begin (0x3C ∷ l) ≡ From 0
+plain-begin : (l : List ℕ) → name_start (byte l 0) ≡ true → begin (0x3C ∷ l) ≡ Ok 0
 unfolding begin begin_after mark_len begins same byte name_start
 plain-begin [] h = never h
 plain-begin (c ∷ t) h =
     let f = start-range c h in
     rw (ne_eqb 0x3F c (λ z. omega (arith, z, f))) refl
 
-begins-tag : (e : ℕ) (a : TagSaid) (close r : List ℕ) → HasName e → begin (tag_text e a close ++ r) ≡ From 0
+begins-tag : (e : ℕ) (a : TagSaid) (close r : List ℕ) → HasName e → begin (tag_text e a close ++ r) ≡ Ok 0
 begins-tag e a close r h = ap begin (tag-shape e a close r) ∙ plain-begin _ (name-starts (names-fine e h).0 (attributes_text a ++ (close ++ r)))
 
-begins-element : (e : ℕ) (a : TagSaid) (v : Bool) (x y : List ℕ) → HasName e → begin (cond v (tag_text e a (text "/>")) (tag_text e a (text ">") ++ x) ++ y) ≡ From 0
+begins-element : (e : ℕ) (a : TagSaid) (v : Bool) (x y : List ℕ) → HasName e → begin (cond v (tag_text e a (text "/>")) (tag_text e a (text ">") ++ x) ++ y) ≡ Ok 0
 begins-element e a true x y h = begins-tag e a (text "/>") y h
 begins-element e a false x y h = ap begin (append_assoc (tag_text e a (text ">")) x y) ∙ begins-tag e a (text ">") (x ++ y) h
 
-layout-begins : (rows : List ℕ) (c : Trees TagSaid) → Writable rows c → begin (layout_of rows c) ≡ From 0
+layout-begins : (rows : List ℕ) (c : Trees TagSaid) → Writable rows c → begin (layout_of rows c) ≡ Ok 0
 unfolding layout_of Writable begin begin_after mark_len begins same
 layout-begins rows none w = refl
 layout-begins rows (element q a inner after) w =

@@ -15,8 +15,6 @@ use Rattle.slices.specs.Text.{text}
 use Rattle.slices.specs.declared.Span.{Span}
 use Rattle.attributes.specs.Names.{name_start, name_byte, white}
 use Rattle.attributes.specs.Attribute.{quote, value, opening, opening_from, attribute_end, attribute_quote, attribute_name, attribute, piece_after, piece}
-use Rattle.attributes.specs.declared.Value.{Value}
-use Rattle.attributes.specs.declared.Value.TheVariants.{Long, Broken}
 use Rattle.attributes.specs.declared.Piece.{Piece}
 use Rattle.attributes.specs.declared.Piece.TheVariants.{Attribute, Close, CloseEmpty, Torn}
 use Rattle.tags.specs.Known.{absent, no_dtd, with_dtd, none_known, up_to_two, with_attribute, dtd_name}

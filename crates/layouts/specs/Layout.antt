@@ -1,8 +1,7 @@
 -- K6: "The layout is fixed: no declaration, no text between tags, double quotes, guideline order of attributes, empty tags for single values".
-use Rattle.std.specs.Prelude.{ℕ, ◌-◌, ◌≤◌, ◌≡◌, List, [], ◌∷◌, ◌++◌, Bool, true, false, cond, length, get_or}
+use Rattle.std.specs.Prelude.{ℕ, ◌-◌, ◌≤◌, ◌≡◌, List, [], ◌∷◌, ◌++◌, Bool, true, false, cond, length, get_or, Some}
 use Rattle.slices.specs.Text.{text}
 use Rattle.attributes.specs.Attribute.{value}
-use Rattle.attributes.specs.declared.Value.TheVariants.{Long}
 use Rattle.elements.specs.Names.{names}
 use Rattle.structure.specs.Rows.{name_of}
 use Rattle.states.specs.Attributes.{asks_v}
@@ -52,7 +51,7 @@ layout_of rows (element r tag inner after) =
 
 -- a value that may stand between double quotes, whatever follows
 unfoldable pub Quotable : List ℕ → Type 0
-Quotable b = (r : List ℕ) → value 0x22 (b ++ (0x22 ∷ r)) ≡ Long (length b)
+Quotable b = (r : List ℕ) → value 0x22 (b ++ (0x22 ∷ r)) ≡ Some (length b)
 
 unfoldable pub QuotableIn : AttributeValue → Type 0
 QuotableIn Absent = Unit {0}

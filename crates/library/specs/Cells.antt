@@ -1,14 +1,14 @@
 -- The numbers of an answer, in the cells of a lent slice.
-use Rattle.std.specs.Prelude.{ℕ, ◌≡◌, List, [], ◌∷◌, ◌++◌, cond, eqb, ℤ, take}
+use Rattle.std.specs.Prelude.{ℕ, ◌≡◌, List, [], ◌∷◌, ◌++◌, cond, eqb, ℤ, take, Option, Result}
 use Rattle.lists.specs.Zeros.{zeros}
 use Rattle.notes.specs.Reader.{read_refusal, six_of}
 use Rattle.notes.specs.Converter.{converted, converted_out, convert_refusal, convert_length}
-use Rattle.notes.specs.declared.NoteRead.{NoteRead}
-use Rattle.notes.specs.declared.Converted.{Converted}
 use Rattle.notes.specs.declared.Shape.{Shape}
 use Rattle.notes.specs.declared.Shape.TheVariants.{Old, New}
 use Rattle.reader.specs.Answer.{Outcome, Permitted}
 use Rattle.reader.specs.declared.Answer.{Answer}
+use Rattle.notes.specs.declared.Note.{Note}
+use Rattle.notes.specs.declared.ConvertError.{ConvertError}
 
 -- n cells: the numbers from the first cell on, as far as there are cells, and 0 in those after them
 unfoldable pub cells : ℕ → List ℕ → List ℕ
@@ -30,12 +30,12 @@ pub record PermittedCall (o : Outcome) (k refusal : ℕ) (series positions : Lis
   pub puts : answer ≡ cells k (seven_of o.answer)
 
 -- what `lumintayag_read_note_v2` answers and leaves: 0 and the six numbers, the depth last, or 11 and zeros, in k cells
-pub record PermittedNote (n : NoteRead) (k refusal : ℕ) (six : List ℕ) : Type 0 where
+pub record PermittedNote (n : Option Note) (k refusal : ℕ) (six : List ℕ) : Type 0 where
   pub refuses : refusal ≡ read_refusal n
   pub puts : six ≡ cells k (six_of n)
 
 -- the refusal of a conversion, and the length of the note that was written
-unfoldable pub two_of : Converted → List ℕ
+unfoldable pub two_of : Result ℕ ConvertError → List ℕ
 two_of c = convert_refusal c ∷ convert_length c ∷ []
 
 -- what `lumintayag_convert_note` answers and leaves of an output of `room` bytes: the refusal, the note, and refusal and length in k cells

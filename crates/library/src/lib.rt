@@ -2,17 +2,17 @@
 // stand in one of them.
 #![tactic(auto)]
 
-ghost use Rattle.std.specs.Prelude.{◌≡◌, ◌≤◌, [], ◌∷◌, length};
+ghost use Rattle.std.specs.Prelude.{◌≡◌, ◌≤◌, [], ◌∷◌, length, Err};
 ghost use Rattle.notes.specs.Reader.{note_in};
 ghost use Rattle.notes.specs.Converter.{convert_refusal, convert_length};
 ghost use Rattle.reader.specs.Answer.{outcome_of};
 ghost use Rattle.library.specs.Cells.{cells, shape_of, seven_of, two_of, PermittedCall, PermittedNote, PermittedConversion};
 ghost use Rattle.library.specs.Version.{library_version};
 
-use notes::{Converted, NoteRead, Shape, convert_note, read_note};
+use notes::{ConvertError, Shape, convert_note, read_note};
 use reader::{Answer, read};
-use refusals::{BUFFER_SHORT, NO_REFUSAL, NOT_ONE_NOTE};
-use tables::{clear_numbers, set_number};
+use refusals::{NO_REFUSAL, Refusal};
+use tables::set_number;
 
 // A function whose arguments, cells or rows are laid out anew gets a new name, so that no program is linked with a layout it does not know.
 const VERSION: u32 = 800;
@@ -28,15 +28,13 @@ pub fn lumintayag_version() -> u32
 fn put_numbers(t: &mut [u32], ns: &[u32])
     ensures { t.new ≡ cells (length t.old) ns.now }
 {
-    clear_numbers(t);
-    let mut i: usize = 0;
-    while i < ns.len() {
+    t.fill(0);
+    for i in 0..ns.len() {
         set_number(t, i, ns[i]);
-        i += 1;
     }
 }
 
-// The old shape for 0, and the new one for any other number.
+// The old shape for 0, and the new one for any other number. No From: which number asks for which shape is the C interface's, not the note's.
 fn shape_of(n: u32) -> Shape
     ensures { result ≡ shape_of n }
 {
@@ -92,15 +90,15 @@ pub fn lumintayag_read_note_v2(note: &[u8], six: &mut [u32]) -> u32
     ensures { PermittedNote (note_in note.now) (length six.old) result six.new }
 {
     match read_note(note) {
-        NoteRead::Taken(n) => {
+        Some(n) => {
             let ns = [n.refusal, n.place, n.kind, n.series, n.intervals, n.depth];
             put_numbers(six, &ns);
             NO_REFUSAL
         }
-        NoteRead::NotOneNote => {
+        None => {
             let none = [0u32; 6];
             put_numbers(six, &none);
-            NOT_ONE_NOTE
+            Refusal::NotOneNote.number()
         }
     }
 }
@@ -115,15 +113,23 @@ fn put_pair(t: &mut [u32], refusal: u32, len: u32) -> u32
     refusal
 }
 
-fn put_converted(t: &mut [u32], c: Converted) -> u32
+fn refusal_of(e: ConvertError) -> u32
+    ensures { result ≡ convert_refusal (Err e) }
+{
+    match e {
+        ConvertError::OutShort => Refusal::BufferShort.number(),
+        ConvertError::NeitherShape => Refusal::NotOneNote.number(),
+    }
+}
+
+fn put_converted(t: &mut [u32], c: Result<usize, ConvertError>) -> u32
     requires { convert_length c ≤ 35 }
     ensures answer { result ≡ convert_refusal c }
     ensures pair { t.new ≡ cells (length t.old) (two_of c) }
 {
     match c {
-        Converted::Turned(k) => put_pair(t, NO_REFUSAL, k as u32),
-        Converted::OutShort => put_pair(t, BUFFER_SHORT, 0),
-        Converted::NeitherShape => put_pair(t, NOT_ONE_NOTE, 0),
+        Ok(k) => put_pair(t, NO_REFUSAL, k as u32),
+        Err(e) => put_pair(t, refusal_of(e), 0),
     }
 }
 

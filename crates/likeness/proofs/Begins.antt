@@ -6,6 +6,7 @@ use mathlib.Core.Bool.{true, false}
 use mathlib.Core.Logic.{◌⊎◌, inl, inr, ⊎_elim}
 use native.Mathlib.Omega.{arith}
 use lib.ListN.{length, drop, length-drop, take-append-drop}
+use Rattle.std.specs.Prelude.{Result, Ok, Err}
 use Rattle.lists.proofs.Cases.{bool_cases, never, zero-not-one}
 use Rattle.slices.specs.Bytes.{byte}
 use Rattle.slices.specs.Run.{run}
@@ -17,8 +18,6 @@ use Rattle.slices.proofs.Near.{Front, front-drop, take-front, begins-take}
 use Rattle.attributes.specs.Names.{name_start, white}
 use Rattle.items.specs.Item.{start_tag, item}
 use Rattle.prolog.specs.Prolog.{declaration, mark_len, behind_mark, begin_after, begin}
-use Rattle.prolog.specs.declared.Begin.{Begin}
-use Rattle.prolog.specs.declared.Begin.TheVariants.{From, Misdeclared}
 use Rattle.digits.proofs.Begins.{declaration-same}
 use Rattle.fronts.proofs.Searches.{upto}
 use Rattle.reader.specs.Items.{items_after}
@@ -62,31 +61,31 @@ module _ (x y : List ℕ) (n : ℕ) (lx : n ≤ length x) (ly : n ≤ length y) 
 
   -- behind a mark of m bytes: no declaration, or one
   record After (m : ℕ) : Type 0 where
-    from : begin_after y m ≡ From n
+    from : begin_after y m ≡ Ok n
     way : (n ≡ m) ⊎ (m + 5 ≤ n)
 
-  declared-on : (m : ℕ) → begins (text "<?xml") (drop m x) ≡ true → (b : Begin) → declaration m (drop m x) ≡ b → behind_mark m b ≡ From n → After m
+  declared-on : (m : ℕ) → begins (text "<?xml") (drop m x) ≡ true → (b : Result ℕ ℕ) → declaration m (drop m x) ≡ b → behind_mark m b ≡ Ok n → After m
   unfolding behind_mark begin_after
-  declared-on m t (From k) e q =
+  declared-on m t (Ok k) e q =
       let z : m + k ≡ n = cc in
       let d = declaration-same m (drop m x) (drop m y) k (λ g. rw length-drop (omega arith)) (front-drop x y m k (λ i g. f i (omega arith))) e in
       let l : m + 5 ≤ n = omega (arith, d.2) in
       record { from = rw (begins-on m (text "<?xml") l, t, d.0) q; way = inr l }
-  declared-on m t (Misdeclared p) e q = absurd (zero-not-one (cc))
+  declared-on m t (Err p) e q = absurd (zero-not-one (cc))
 
-  after_on : (m : ℕ) → begin_after x m ≡ From n → After m
+  after_on : (m : ℕ) → begin_after x m ≡ Ok n → After m
   unfolding begin_after
   after_on m q =
       ⊎_elim
       (λ (t : begins (text "<?xml") (drop m x) ≡ true). declared-on m t (declaration m (drop m x)) refl (rw t at q))
       (λ (t : begins (text "<?xml") (drop m x) ≡ false).
-      let z : From m ≡ From n = rw t at q in
+      let z : ◌≡◌ {A = Result ℕ ℕ} (Ok m) (Ok n) = rw t at q in
       let e : n ≡ m = cc in
       let none = not-begun (text "<?xml") (drop m y) declaration-falls (subst (λ (k : ℕ). StandIn (drop k y)) e stands) in
       record { from = rw none z; way = inl e })
       (bool_cases (begins (text "<?xml") (drop m x)))
 
-  pub begin-on : begin x ≡ From n → begin y ≡ From n
+  pub begin-on : begin x ≡ Ok n → begin y ≡ Ok n
   unfolding begin mark_len
   begin-on q =
       ⊎_elim

@@ -7,13 +7,12 @@ use mathlib.Core.Logic.{⊎_elim}
 use native.Mathlib.Omega.{arith}
 use lib.Dec.{eqb}
 use lib.ListN.{get_or}
+use Rattle.std.specs.Prelude.{Option, Some, None}
 use Rattle.lists.proofs.Cases.{bool_cases, eqb-cases, never, zero-not-one}
 use Rattle.slices.specs.Part.{part_of}
 use Rattle.slices.specs.declared.Span.{Span}
 use Rattle.elements.specs.Names.{element_no}
 use Rattle.structure.specs.Rows.{start_of}
-use Rattle.structure.specs.declared.Due.{Due}
-use Rattle.structure.specs.declared.Due.TheVariants.{Row, NotDue}
 use Rattle.guideline.specs.Rows.{rows_of}
 use Rattle.items.specs.declared.Tag.{Tag}
 use Rattle.items.specs.declared.Item.TheVariants.{Start, Empty}
@@ -100,9 +99,9 @@ module _ (t : Tag) (s : List ℕ) (t' : Tag) (s' : List ℕ) (laid : TagLaid t) 
   start-same x kind rows empty room =
       by (start_of rows x.row x.inside (element_no (part_of s 1 t.name))) ∙ ap (λ (n : List ℕ). started x kind rows (element_no n) t' s' empty room) name
     where
-      by : (d : Due) → started_at x kind rows t s empty room d ≡ started_at x kind rows t' s' empty room d
-      by (Row r) = rw (fit_same kind (get_or rows r 0), judge-same (get_or rows r 0) (held_of x kind))
-      by NotDue = refl
+      by : (d : Option ℕ) → started_at x kind rows t s empty room d ≡ started_at x kind rows t' s' empty room d
+      by (Some r) = rw (fit_same kind (get_or rows r 0), judge-same (get_or rows r 0) (held_of x kind))
+      by None = refl
 
   pub start-moves : (x : State) (room : Room) → step x (Start t) s room ≡ step x (Start t') s' room
   unfolding step kind_told root_kind moved

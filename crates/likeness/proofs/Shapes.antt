@@ -9,6 +9,7 @@ use lib.Dec.{eqb, ltb, leb}
 use lib.ListN.{length, take, drop, length-append, length-take, take-append-drop, get_or-append}
 use lib.Seq.{length-take-le, drop-drop, get_or_at}
 use borrow.Author.Tests.{eqb-true}
+use Rattle.std.specs.Prelude.{Some}
 use Rattle.lists.proofs.Cases.{bool_cases, ltb-cases, by_cond, never, zero-not-one}
 use Rattle.slices.specs.Bytes.{byte}
 use Rattle.slices.specs.Run.{run}
@@ -22,7 +23,6 @@ use Rattle.attributes.specs.Names.{name_start, name_byte, white}
 use Rattle.attributes.specs.Attribute.{quote, value, opening_from, opening, attribute, piece_after, piece}
 use Rattle.attributes.specs.declared.Piece.{Piece}
 use Rattle.attributes.specs.declared.Piece.TheVariants.{Attribute, Close, CloseEmpty, Torn}
-use Rattle.attributes.specs.declared.Value.TheVariants.{Long}
 use Rattle.attributes.proofs.Values.{quote-range}
 use Rattle.tags.specs.Tail.{Attr, Ends, closed, torn, ends_after, ends, twice}
 use Rattle.tags.proofs.Ends.{attr}
@@ -72,7 +72,7 @@ name-some [] e = never e
 name-some (c ∷ l) e = rw (run_by name_byte c l (start-named c e)) (omega arith)
 
 -- a value is whole between its own quotes
-quoted-take : (q : ℕ) (x : List ℕ) (m : ℕ) → quote q ≡ true → value q x ≡ Long m → (byte x m ≡ q) × Quoted q (take m x)
+quoted-take : (q : ℕ) (x : List ℕ) (m : ℕ) → quote q ≡ true → value q x ≡ Some m → (byte x m ≡ q) × Quoted q (take m x)
 unfolding byte
 quoted-take q x m t e =
     let r = quote-range q t in
@@ -87,7 +87,7 @@ quoted-take q x m t e =
     (λ (z : (i < m) × (ltb i m ≡ true)). sym (get_or-append (take m x) (q ∷ []) 0 i (omega (arith, k, z.0)) ∙ byte-take x m i z.0))
     (λ (z : (m ≤ i) × (ltb i m ≡ false)). let u : i ≡ m = omega (arith, z.0) in ap (byte x) u ∙ c ∙ sym (ap (byte y) u ∙ get_or_at (take m x) q [] 0 m k))
     (ltb-cases i m) in
-    (c, value-near q small x y m (omega (arith, length-append (take m x) (q ∷ []))) e same ∙ ap Long (sym k))
+    (c, value-near q small x y m (omega (arith, length-append (take m x) (q ∷ []))) e same ∙ ap Some (sym k))
 
 -- ---- an attribute
 

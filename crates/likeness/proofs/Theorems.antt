@@ -7,6 +7,7 @@ use mathlib.Core.Logic.{inl}
 use native.Mathlib.Omega.{arith}
 use lib.ListN.{length, drop, length-append, length-drop, get_or-append}
 use lib.Seq.{drop-append-le, drop-append-add, drop-append_seam}
+use Rattle.std.specs.Prelude.{Result, Ok}
 use Rattle.slices.specs.Bytes.{byte}
 use Rattle.attributes.specs.Attribute.{quote}
 use Rattle.items.specs.Parts.{passed}
@@ -14,7 +15,6 @@ use Rattle.items.specs.Item.{item, is_readable, item_end}
 use Rattle.items.specs.declared.Item.{Item}
 use Rattle.items.specs.declared.Item.TheVariants.{Comment}
 use Rattle.prolog.specs.Prolog.{begin}
-use Rattle.prolog.specs.declared.Begin.TheVariants.{From}
 use Rattle.fronts.specs.Front.{EndsBefore}
 use Rattle.fronts.proofs.Items.{item-whole, item-front}
 use Rattle.notes.specs.declared.Shape.{Shape}
@@ -69,7 +69,7 @@ module _ (a l m : List ℕ) (h : BetweenItems (a ++ l) (length a)) (alike : SayA
   said : StandIn (s ++ m) × (signs_in (s ++ l) ≡ signs_in (s ++ m))
   said = kept l m alike whole stand
 
-  begins-again : begin (a ++ m) ≡ From h.from
+  begins-again : begin (a ++ m) ≡ Ok h.from
   unfolding byte
   begins-again =
       begin-on (a ++ l) (a ++ m) n (omega (arith, low, length-append a l)) (omega (arith, low, length-append a m))
@@ -129,7 +129,7 @@ alike-on x y z g h =
       tags = g.tags ∙ ap (λ (n : ℕ). signs_of (items_from y n)) e ∙ h.tags;
     }
   where
-    from_is : {m n : ℕ} → From m ≡ From n → m ≡ n
+    from_is : {m n : ℕ} → ◌≡◌ {A = Result ℕ ℕ} (Ok m) (Ok n) → m ≡ n
     from_is e = cc
 
 -- ---- attributes that stay

@@ -9,18 +9,16 @@ use lib.Dec.{eqb}
 use lib.ListN.{length, length-append, get_or-append}
 use lib.Seq.{get_or-append_seam}
 use borrow.Author.Tests.{le-ltb, lt-ltb, eq-eqb, ne_eqb}
+use Rattle.std.specs.Prelude.{Option, Some, None}
 use Rattle.lists.proofs.Cases.{bool_cases, eqb-cases, zero-not-one}
 use Rattle.slices.specs.Bytes.{byte}
 use Rattle.slices.specs.Walk.{go, stop, walk}
 use Rattle.slices.proofs.Firsts.{first_by}
 use Rattle.characters.specs.Utf8.{char_at}
 use Rattle.characters.specs.Says.{standing, met}
-use Rattle.characters.specs.declared.Char.{Char}
-use Rattle.characters.specs.declared.Char.TheVariants.{Is, NoChar}
 use Rattle.characters.proofs.Low.{char-low}
 use Rattle.characters.proofs.Units.{unit-some}
 use Rattle.attributes.specs.Attribute.{quote, fit, standing_next, value_next, value_over, value, plain}
-use Rattle.attributes.specs.declared.Value.TheVariants.{Long}
 use Rattle.attributes.proofs.Values.{met-amp, met-other, quote-range, plain_step}
 use Rattle.escapes.proofs.Values.{Next, ended, passed, value-next, value-from}
 use Rattle.digits.proofs.Near.{met-front, value_from, value-near}
@@ -29,7 +27,7 @@ use Rattle.likeness.specs.Alike.{Quoted, Without}
 small : (q : ℕ) → quote q ≡ true → q < 0x80
 small q e = let r = quote-range q e in omega (arith, r.1)
 
-pub value_on : (q : ℕ) (v r : List ℕ) → quote q ≡ true → Quoted q v → value q (v ++ (q ∷ r)) ≡ Long (length v)
+pub value_on : (q : ℕ) (v r : List ℕ) → quote q ≡ true → Quoted q v → value q (v ++ (q ∷ r)) ≡ Some (length v)
 unfolding byte
 value_on q v r t e =
     let u = v ++ (q ∷ []) in
@@ -41,7 +39,7 @@ value_on q v r t e =
 
 module _ (q q' : ℕ) (t : quote q ≡ true) (t' : quote q' ≡ true) where
   -- the closing quote
-  quote-step : (at : ℕ) (s : List ℕ) → byte s 0 ≡ q' → value_next q' at (met s) ≡ stop (Long at)
+  quote-step : (at : ℕ) (s : List ℕ) → byte s 0 ≡ q' → value_next q' at (met s) ≡ stop (Some at)
   unfolding plain
   quote-step at s e =
       let r = quote-range q' t' in
@@ -58,9 +56,9 @@ module _ (q q' : ℕ) (t : quote q ≡ true) (t' : quote q' ≡ true) where
       (λ (a : (byte s 0 ≡ 0x26 → ⊥) × (eqb (byte s 0) 0x26 ≡ false)). rw (met-other s a.0) (by (char_at s) refl (rw (met-other s a.0) at e)))
       (eqb-cases (byte s 0) 0x26)
     where
-      by : (z : Char) → char_at s ≡ z → value_next q at (standing z) ≡ go n to → value_next q' at (standing z) ≡ go n to
-      by NoChar g f = absurd (zero-not-one (cc))
-      by (Is d k) g f =
+      by : (z : Option (ℕ × ℕ)) → char_at s ≡ z → value_next q at (standing z) ≡ go n to → value_next q' at (standing z) ≡ go n to
+      by None g f = absurd (zero-not-one (cc))
+      by (Some (d, k)) g f =
           ⊎_elim
           (λ (y : fit d ≡ true).
           ⊎_elim
@@ -71,9 +69,9 @@ module _ (q q' : ℕ) (t : quote q ≡ true) (t' : quote q' ≡ true) where
           (λ (y : fit d ≡ false). let z = rw y at f in absurd (zero-not-one (cc)))
           (bool_cases (fit d))
 
-  other : (x y : List ℕ) (k at m : ℕ) → m + k < at + length y → value_from q (small q t) at k x ≡ Long m
+  other : (x y : List ℕ) (k at m : ℕ) → m + k < at + length y → value_from q (small q t) at k x ≡ Some m
       → ((i : ℕ) → i + at < m + k → (byte x i ≡ byte y i) × (byte x i ≡ q' → ⊥)) → ((i : ℕ) → i + at ≡ m + k → byte y i ≡ q')
-      → value_from q' (small q' t') at k y ≡ Long m
+      → value_from q' (small q' t') at k y ≡ Some m
   unfolding walk value_over byte
   other [] y k at m l e h c = absurd (zero-not-one (cc))
   other (b ∷ x) [] k at m l e h c = let r = value-from q (small q t) (b ∷ x) k at m e in absurd (omega arith)
@@ -81,11 +79,11 @@ module _ (q q' : ℕ) (t : quote q ≡ true) (t' : quote q' ≡ true) where
   other (b ∷ x) (d ∷ y) zero at m l e h c = by (value-next q (small q t) at b x m e) (other x y)
     where
       by : Next q (small q t) at b x m
-          → ((k at m : ℕ) → m + k < at + length y → value_from q (small q t) at k x ≡ Long m
+          → ((k at m : ℕ) → m + k < at + length y → value_from q (small q t) at k x ≡ Some m
           → ((i : ℕ) → i + at < m + k → (byte x i ≡ byte y i) × (byte x i ≡ q' → ⊥)) → ((i : ℕ) → i + at ≡ m + k → byte y i ≡ q')
-          → value_from q' (small q' t') at k y ≡ Long m)
-          → value_from q' (small q' t') at zero (d ∷ y) ≡ Long m
-      by (ended g u s z) f = rw (walk, quote-step at (d ∷ y) (c 0 (omega arith))) (ap Long z)
+          → value_from q' (small q' t') at k y ≡ Some m)
+          → value_from q' (small q' t') at zero (d ∷ y) ≡ Some m
+      by (ended g u s z) f = rw (walk, quote-step at (d ∷ y) (c 0 (omega arith))) (ap Some z)
       by (passed ch n g s z) f =
           let r = value-from q (small q t) x (pred n) (at + n) m z in
           let u = unit-some (b ∷ x) g in

@@ -9,6 +9,7 @@ use lib.Dec.{ltb, leb}
 use lib.ListN.{length, take, drop, length-append}
 use lib.Seq.{take-append_seam, drop-drop}
 use borrow.Author.Tests.{lt-leb, lt-ltb, ne_eqb, ltb-false}
+use Rattle.std.specs.Prelude.{Some}
 use Rattle.lists.proofs.Cases.{leb-cases, past-cond, never}
 use Rattle.slices.specs.Bytes.{byte}
 use Rattle.slices.specs.Part.{part_of}
@@ -17,7 +18,6 @@ use Rattle.slices.proofs.Bytes.{byte-drop}
 use Rattle.attributes.specs.Names.{name_start, name_byte, white}
 use Rattle.attributes.specs.Attribute.{quote, value, opening_from, opening, attribute_end, attribute_quote, attribute_name, attribute, piece_after, piece}
 use Rattle.attributes.specs.declared.Piece.TheVariants.{Attribute, Close, CloseEmpty}
-use Rattle.attributes.specs.declared.Value.TheVariants.{Long}
 use Rattle.attributes.proofs.Values.{quote-range}
 use Rattle.tags.specs.Tail.{Attr, closed, onto, ends}
 use Rattle.tags.proofs.Ends.{attr, ends-attribute, ends_close, ends-empty}
@@ -74,7 +74,7 @@ white-then (c ∷ w) r e f = white-unnamed c (all_first white c w e).0
 module _ (s : List ℕ) (w n l r m q : ℕ) where
   piece-by : run white s ≡ w → 0 < w → name_start (byte s w) ≡ true → run name_byte (drop w s) ≡ n → run white (drop (w + n) s) ≡ l
       → byte s (w + n + l) ≡ 0x3D → run white (drop (w + n + l + 1) s) ≡ r → byte s (w + n + l + 1 + r) ≡ q → quote q ≡ true
-      → value q (drop (w + n + l + 1 + r + 1) s) ≡ Long m
+      → value q (drop (w + n + l + 1 + r + 1) s) ≡ Some m
       → piece s ≡ Attribute w n (w + n + l + 1 + r + 1) m (w + n + l + 1 + r + 1 + m + 1)
   unfolding piece piece_after attribute attribute_name opening opening_from attribute_quote attribute_end
   piece-by ew some start en el ee er eq qq ev =

@@ -1,16 +1,14 @@
 -- Ways to write a document otherwise so that its tags say the same: white text and comments between its items, and in a tag the quotes of a value, the order of
 -- the attributes, white space, and an empty tag for a start tag and its end.
-use Rattle.std.specs.Prelude.{ℕ, ◌+◌, ◌<◌, ◌≡◌, List, [], ◌∷◌, ◌++◌, Bool, true, false, ◌⊎◌, length}
+use Rattle.std.specs.Prelude.{ℕ, ◌+◌, ◌<◌, ◌≡◌, List, [], ◌∷◌, ◌++◌, Bool, true, false, ◌⊎◌, length, Ok, Some}
 use Rattle.slices.specs.Bytes.{byte}
 use Rattle.slices.specs.Run.{run}
 use Rattle.slices.specs.Same.{first_at}
 use Rattle.attributes.specs.Names.{name_start, name_byte, white}
 use Rattle.attributes.specs.Attribute.{quote, value}
-use Rattle.attributes.specs.declared.Value.TheVariants.{Long}
 use Rattle.items.specs.Item.{item, item_end}
 use Rattle.items.specs.declared.Item.TheVariants.{Comment}
 use Rattle.prolog.specs.Prolog.{begin}
-use Rattle.prolog.specs.declared.Begin.TheVariants.{From}
 use Rattle.reader.specs.Items.{Placed, items_after, items_from}
 use Rattle.contents.specs.Spelled.{signs_of, AllAllowed}
 
@@ -24,7 +22,7 @@ Between (x ∷ xs) p = (x.at ≡ p) ⊎ ((x.at + item_end x.item ≡ p) ⊎ Betw
 -- The document has only items that may stand in it, and p is a place between them.
 pub record BetweenItems (doc : List ℕ) (p : ℕ) : Type 0 where
   pub from : ℕ
-  pub begins : begin doc ≡ From from
+  pub begins : begin doc ≡ Ok from
   pub items : AllAllowed (items_from doc from)
   pub between : Between (items_from doc from) p
 
@@ -83,7 +81,7 @@ pub record IsName (n : List ℕ) : Type 0 where
 
 -- a value that may stand between two quotes q, and ends at the second
 abbrev pub Quoted : ℕ → List ℕ → Type 0
-Quoted q v = value q (v ++ (q ∷ [])) ≡ Long (length v)
+Quoted q v = value q (v ++ (q ∷ [])) ≡ Some (length v)
 
 -- bytes without the quote q
 abbrev pub Without : ℕ → List ℕ → Type 0

@@ -1,6 +1,5 @@
 pub mod Below
 pub mod Cases
-pub mod Fill
 pub mod Loans
 pub mod Signs
 pub mod Stores

@@ -9,9 +9,5 @@ ghost use Rattle.lists.specs.Zeros.{zeros};
 pub fn clear_bytes(b: &mut [u8])
     ensures { b.new ≡ zeros (length b.old) }
 {
-    let mut i: usize = 0;
-    while i < b.len() {
-        b[i] = 0;
-        i += 1;
-    }
+    b.fill(0);
 }

@@ -17,12 +17,12 @@ use mathlib.Core.Path.{◌≡◌, refl, sym, ap, ◌∙◌}
 use mathlib.Core.List.{List, [], ◌∷◌, ◌++◌}
 use Prim.Native.Nat.{ℕ, ◌+◌, ◌*◌, ◌^◌, ◌≤◌, ◌<◌}
 use native.Mathlib.Omega.{arith}
-use mathlib.Core.Option.{Option, some, none}
 use mathlib.Core.Logic.{⊎_elim}
 use native.Mathlib.Nat.{zero-add}
 use lib.ListN.{length, take, drop, get_or, length-append, length-replicate}
 use lib.Seq.{sets-eq}
 use borrow.Author.Tests.{eq-eqb, ne_eqb}
+use Rattle.std.specs.Prelude.{Option, Some, None, Ok}
 use Rattle.lists.specs.Zeros.{zeros, padded}
 use Rattle.lists.proofs.Cases.{eqb-cases, zero-not-one}
 use Rattle.lists.proofs.Zeros.{drop-zeros, take-padded}
@@ -32,9 +32,6 @@ use Rattle.notes.specs.Converter.{in_shape, converted, converted_out}
 use Rattle.notes.specs.declared.Note.{Note}
 use Rattle.notes.specs.declared.Shape.{Shape}
 use Rattle.notes.specs.declared.Shape.TheVariants.{Old, New}
-use Rattle.notes.specs.declared.NoteRead.{NoteRead}
-use Rattle.notes.specs.declared.NoteRead.TheVariants.{Taken, NotOneNote}
-use Rattle.notes.specs.declared.Converted.TheVariants.{Turned}
 use Rattle.notes.proofs.Groups.{last, groups-three, groups-le}
 use Rattle.notes.proofs.Numbers.{numbers-back, numbers-other, numbers-are}
 use Rattle.notes.proofs.Converting.{conv-turned}
@@ -129,64 +126,64 @@ seven-are (a ∷ b ∷ l) h =
 module _ (ns : List ℕ) (h : AllBelow (2 ^ 21) ns) where
   pub of-five : length ns ≡ 5 → note_in (flat ns) ≡ old_note ns
   unfolding note_in
-  of-five e = let q : numbers_in 5 (flat ns) ≡ some ns = rw e at (numbers-back ns h) in rw q refl
+  of-five e = let q : numbers_in 5 (flat ns) ≡ Some ns = rw e at (numbers-back ns h) in rw q refl
 
   pub of-seven : length ns ≡ 7 → note_in (flat ns) ≡ new_note ns
   unfolding note_in
   of-seven e =
-      let q : numbers_in 7 (flat ns) ≡ some ns = rw e at (numbers-back ns h) in
-      let p : numbers_in 5 (flat ns) ≡ none = numbers-other 5 ns h (λ z. omega (arith, z, e)) in
+      let q : numbers_in 7 (flat ns) ≡ Some ns = rw e at (numbers-back ns h) in
+      let p : numbers_in 5 (flat ns) ≡ None = numbers-other 5 ns h (λ z. omega (arith, z, e)) in
       rw (p, q) refl
 
   -- "From now on five numbers beginning with 100 are no note, nor are seven whose second is 100."
-  pub hundred-first : length ns ≡ 5 → get_or ns 0 0 ≡ 100 → note_in (flat ns) ≡ NotOneNote
+  pub hundred-first : length ns ≡ 5 → get_or ns 0 0 ≡ 100 → note_in (flat ns) ≡ None
   hundred-first e z = of-five e ∙ rw (eq-eqb (get_or ns 0 0) 100 z) refl
 
-  pub hundred-twice : length ns ≡ 7 → get_or ns 0 0 ≡ 100 → get_or ns 1 0 ≡ 100 → note_in (flat ns) ≡ NotOneNote
+  pub hundred-twice : length ns ≡ 7 → get_or ns 0 0 ≡ 100 → get_or ns 1 0 ≡ 100 → note_in (flat ns) ≡ None
   hundred-twice e z y = of-seven e ∙ rw (eq-eqb (get_or ns 0 0) 100 z, eq-eqb (get_or ns 1 0) 100 y) refl
 
-  pub other-first : length ns ≡ 7 → (get_or ns 0 0 ≡ 100 → ⊥) → note_in (flat ns) ≡ NotOneNote
+  pub other-first : length ns ≡ 7 → (get_or ns 0 0 ≡ 100 → ⊥) → note_in (flat ns) ≡ None
   other-first e f = of-seven e ∙ rw (ne_eqb (get_or ns 0 0) 100 f) refl
 
-  pub other-count : (length ns ≡ 5 → ⊥) → (length ns ≡ 7 → ⊥) → note_in (flat ns) ≡ NotOneNote
+  pub other-count : (length ns ≡ 5 → ⊥) → (length ns ≡ 7 → ⊥) → note_in (flat ns) ≡ None
   unfolding note_in
   other-count f g =
-      let p : numbers_in 5 (flat ns) ≡ none = numbers-other 5 ns h (λ z. f (sym z)) in
-      let q : numbers_in 7 (flat ns) ≡ none = numbers-other 7 ns h (λ z. g (sym z)) in
+      let p : numbers_in 5 (flat ns) ≡ None = numbers-other 5 ns h (λ z. f (sym z)) in
+      let q : numbers_in 7 (flat ns) ≡ None = numbers-other 7 ns h (λ z. g (sym z)) in
       rw (p, q) refl
 
 pub round_trip : (shape : Shape) (n : Note) → AllBelow (2 ^ 21) (numbers_for shape n) → (n.refusal ≡ new_mark → ⊥)
-    → note_in (note_of shape n) ≡ Taken (tells_in shape n)
+    → note_in (note_of shape n) ≡ Some (tells_in shape n)
 round_trip Old n h f = of-five (numbers_for Old n) h refl ∙ rw (ne_eqb n.refusal 100 f) refl
 round_trip New n h f = of-seven (numbers_for New n) h refl ∙ rw (ne_eqb n.refusal 100 f) refl
 
 pub written_back : (shape : Shape) (n : Note) (room : ℕ) → AllBelow (2 ^ 21) (numbers_for shape n) → (n.refusal ≡ new_mark → ⊥)
-    → length (note_of shape n) ≤ room → note_in (take (length (note_of shape n)) (left (note_of shape n) room)) ≡ Taken (tells_in shape n)
+    → length (note_of shape n) ≤ room → note_in (take (length (note_of shape n)) (left (note_of shape n) room)) ≡ Some (tells_in shape n)
 written_back shape n room h f r = rw (left-padded (note_of shape n) room r, take-padded room (note_of shape n)) (round_trip shape n h f)
 
-not_taken : {n : Note} → NotOneNote ≡ Taken n → ⊥
+not_taken : {n : Note} → None ≡ Some n → ⊥
 not_taken e = zero-not-one (cc)
 
 module _ (s : List ℕ) (n : Note) where
-  old-is : (l : List ℕ) → length l ≡ 5 → AllBelow (2 ^ 21) l → s ≡ flat l → old_note l ≡ Taken n → IsNote s Old n
+  old-is : (l : List ℕ) → length l ≡ 5 → AllBelow (2 ^ 21) l → s ≡ flat l → old_note l ≡ Some n → IsNote s Old n
   old-is l m h b e =
       ⊎_elim
       (λ y. absurd (not_taken (rw y.1 at e)))
       (λ y.
-      let z : Taken (record { refusal = get_or l 0 0; place = get_or l 1 0; kind = get_or l 2 0; series = get_or l 3 0; intervals = get_or l 4 0; depth = 0 }) ≡ Taken n = rw y.1 at e in
+      let z : Some (record { refusal = get_or l 0 0; place = get_or l 1 0; kind = get_or l 2 0; series = get_or l 3 0; intervals = get_or l 4 0; depth = 0 }) ≡ Some n = rw y.1 at e in
       let q : record { refusal = get_or l 0 0; place = get_or l 1 0; kind = get_or l 2 0; series = get_or l 3 0; intervals = get_or l 4 0; depth = 0 } ≡ n = cc in
       let a = five-are l m in
       rw (← q) (record { small = rw a h; other = y.0; tells = refl; bytes = b ∙ ap flat (sym a) }))
       (eqb-cases (get_or l 0 0) 100)
 
-  new_is : (l : List ℕ) → length l ≡ 7 → AllBelow (2 ^ 21) l → s ≡ flat l → new_note l ≡ Taken n → IsNote s New n
+  new_is : (l : List ℕ) → length l ≡ 7 → AllBelow (2 ^ 21) l → s ≡ flat l → new_note l ≡ Some n → IsNote s New n
   new_is l m h b e =
       ⊎_elim
       (λ x.
       ⊎_elim
       (λ y. absurd (not_taken (rw (x.1, y.1) at e)))
       (λ y.
-      let z : Taken (record { refusal = get_or l 1 0; place = get_or l 2 0; kind = get_or l 3 0; series = get_or l 4 0; intervals = get_or l 5 0; depth = get_or l 6 0 }) ≡ Taken n = rw (x.1, y.1) at e in
+      let z : Some (record { refusal = get_or l 1 0; place = get_or l 2 0; kind = get_or l 3 0; series = get_or l 4 0; intervals = get_or l 5 0; depth = get_or l 6 0 }) ≡ Some n = rw (x.1, y.1) at e in
       let q : record { refusal = get_or l 1 0; place = get_or l 2 0; kind = get_or l 3 0; series = get_or l 4 0; intervals = get_or l 5 0; depth = get_or l 6 0 } ≡ n = cc in
       let a : new_mark ∷ get_or l 1 0 ∷ get_or l 2 0 ∷ get_or l 3 0 ∷ get_or l 4 0 ∷ get_or l 5 0 ∷ get_or l 6 0 ∷ [] ≡ l =
       ap (λ (v : ℕ). v ∷ get_or l 1 0 ∷ get_or l 2 0 ∷ get_or l 3 0 ∷ get_or l 4 0 ∷ get_or l 5 0 ∷ get_or l 6 0 ∷ []) (sym x.0) ∙ seven-are l m in
@@ -195,16 +192,16 @@ module _ (s : List ℕ) (n : Note) where
       (λ x. absurd (not_taken (rw x.1 at e)))
       (eqb-cases (get_or l 0 0) 100)
 
-  accepted : AllBelow 256 s → (o p : Option (List ℕ)) → numbers_in 5 s ≡ o → numbers_in 7 s ≡ p → note_answer o p ≡ Taken n → (shape : Shape) × IsNote s shape n
-  accepted a (some l) p eo ep e = let r = numbers-are 5 s l a eo in (Old, old-is l r.many r.small r.bytes e)
-  accepted a none (some l) eo ep e = let r = numbers-are 7 s l a ep in (New, new_is l r.many r.small r.bytes e)
-  accepted a none none eo ep e = absurd (not_taken e)
+  accepted : AllBelow 256 s → (o p : Option (List ℕ)) → numbers_in 5 s ≡ o → numbers_in 7 s ≡ p → note_answer o p ≡ Some n → (shape : Shape) × IsNote s shape n
+  accepted a (Some l) p eo ep e = let r = numbers-are 5 s l a eo in (Old, old-is l r.many r.small r.bytes e)
+  accepted a None (Some l) eo ep e = let r = numbers-are 7 s l a ep in (New, new_is l r.many r.small r.bytes e)
+  accepted a None None eo ep e = absurd (not_taken e)
 
   -- a note of either shape is taken, with what it tells
-  pub taken : (shape : Shape) → IsNote s shape n → note_in s ≡ Taken n
-  taken shape i = ap note_in i.bytes ∙ round_trip shape n i.small i.other ∙ ap Taken i.tells
+  pub taken : (shape : Shape) → IsNote s shape n → note_in s ≡ Some n
+  taken shape i = ap note_in i.bytes ∙ round_trip shape n i.small i.other ∙ ap Some i.tells
 
-  pub accepts-exactly : AllBelow 256 s → (note_in s ≡ Taken n → (shape : Shape) × IsNote s shape n) × ((shape : Shape) → IsNote s shape n → note_in s ≡ Taken n)
+  pub accepts-exactly : AllBelow 256 s → (note_in s ≡ Some n → (shape : Shape) × IsNote s shape n) × ((shape : Shape) → IsNote s shape n → note_in s ≡ Some n)
   unfolding note_in
   accepts-exactly a = (λ e. accepted a (numbers_in 5 s) (numbers_in 7 s) refl refl e, taken)
 
@@ -212,9 +209,9 @@ pub refuses-rest : (s : List ℕ) → AllBelow 256 s → ((shape : Shape) (n : N
     → (read_refusal (note_in s) ≡ 11) × (six_of (note_in s) ≡ zeros 6)
 refuses-rest s a f = go (note_in s) refl
   where
-    go : (r : NoteRead) → note_in s ≡ r → (read_refusal r ≡ 11) × (six_of r ≡ zeros 6)
-    go (Taken n) e = let i = (accepts-exactly s n a).0 e in absurd (f i.0 n i.1)
-    go NotOneNote e = (refl, refl)
+    go : (r : Option Note) → note_in s ≡ r → (read_refusal r ≡ 11) × (six_of r ≡ zeros 6)
+    go (Some n) e = let i = (accepts-exactly s n a).0 e in absurd (f i.0 n i.1)
+    go None e = (refl, refl)
 
 -- ---- converting
 -- its numbers are small in the other shape too
@@ -237,7 +234,7 @@ module _ (s : List ℕ) (shape : Shape) (n : Note) (i : IsNote s shape n) where
   in-shape to = rw (taken s n shape i) refl
 
   pub turned : (to : Shape) (room : ℕ) → 24 ≤ room
-      → (converted s to room ≡ Turned (length (note_of to n))) × (converted_out s to room ≡ padded room (note_of to n))
+      → (converted s to room ≡ Ok (length (note_of to n))) × (converted_out s to room ≡ padded room (note_of to n))
   turned to room h =
       let c = conv-turned s to room n h (taken s n shape i) in
       let f = fits-most to n (small-in s shape to n i) in
@@ -248,7 +245,7 @@ module _ (s : List ℕ) (shape : Shape) (n : Note) (i : IsNote s shape n) where
   own-shape = in-shape shape ∙ sym i.bytes
 
   -- the note in the other shape, read
-  there : (to : Shape) → note_in (in_shape to s) ≡ Taken (tells_in to n)
+  there : (to : Shape) → note_in (in_shape to s) ≡ Some (tells_in to n)
   there to = ap note_in (in-shape to) ∙ round_trip to n (small-in s shape to n i) i.other
 
   back : (to : Shape) → in_shape shape (in_shape to s) ≡ note_of shape (tells_in to n)
@@ -269,7 +266,7 @@ module _ (s : List ℕ) (n : Note) (i : IsNote s New n) where
 
   only_none : in_shape New (in_shape Old s) ≡ s → n.depth ≡ 0
   only_none e =
-      let z : Taken (tells_in Old n) ≡ Taken n = sym (round_trip New (tells_in Old n) no-depth i.other) ∙ ap note_in (sym gone ∙ e) ∙ taken s n New i in
+      let z : Some (tells_in Old n) ≡ Some n = sym (round_trip New (tells_in Old n) no-depth i.other) ∙ ap note_in (sym gone ∙ e) ∙ taken s n New i in
       let q : tells_in Old n ≡ n = cc in
       sym (ap (λ (m : Note). m.depth) q)
 

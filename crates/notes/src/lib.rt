@@ -4,10 +4,8 @@
 ghost use Rattle.std.specs.Prelude.{◌≡◌, ◌≤◌, min, length, set};
 ghost use Rattle.std.proofs.lemmas.List.Edits.{sets};
 ghost use Rattle.notes.specs.Note.{groups, flat, note_of, left};
-ghost use Rattle.notes.specs.Reader.{first_number, numbers_in, read_as, old_note, new_note, note_in};
+ghost use Rattle.notes.specs.Reader.{first_number, numbers_in, old_note, new_note, note_in};
 ghost use Rattle.notes.specs.Converter.{converted, converted_out};
-
-use lists::clear_bytes;
 
 // "The note is five numbers: refusal, place, kind, series, intervals."; the new one tells besides "the count of elements open before the faulty item".
 #[derive(Clone, Copy)]
@@ -44,6 +42,7 @@ fn put_number(free: &mut [u8], n: u32) -> usize
     ensures answer { result ≡ length (groups n) }
     ensures buffer { free.new ≡ sets free.old 0 (groups n) }
 {
+    // no for: what is left of n ends it, and groups past the last free byte count too
     let mut i: usize = 0;
     let mut rest = n;
     while 128 <= rest {
@@ -71,13 +70,11 @@ fn write_numbers(note: &mut [u8], ns: &[u32]) -> usize
     ensures answer { result ≡ length (flat ns.now) }
     ensures buffer { note.new ≡ left (flat ns.now) (length note.old) }
 {
-    clear_bytes(note);
+    note.fill(0);
     let mut at: usize = 0;
-    let mut i: usize = 0;
-    while i < ns.len() {
+    for i in 0..ns.len() {
         let free = free_from(at, note.len());
         at += put_number(&mut note[free..], ns[i]);
-        i += 1;
     }
     at
 }
@@ -109,82 +106,63 @@ pub fn write_note(note: &mut [u8], shape: Shape, n: Note) -> usize
     }
 }
 
-// A number that was read, with how many bytes it takes, or bytes that begin with none.
-#[derive(Clone, Copy)]
-enum Got {
-    Number(u32, usize),
-    Bad,
-}
-
-// The number that s begins with. `unit` is what the group at i counts and `value` what those before it come to;
+// The number that s begins with, with how many bytes it takes, or none. `unit` is what the group at i counts and `value` what those before it come to;
 // a last group below `least` says nothing, so the number would not be shortest.
-fn get_number(s: &[u8]) -> Got
+fn get_number(s: &[u8]) -> Option<(u32, usize)>
     ensures { result ≡ first_number 3 s.now }
 {
-    let mut i: usize = 0;
     let mut value: u32 = 0;
     let mut unit: u32 = 1;
     let mut least: u8 = 0;
-    while i < 3 {
+    for i in 0..3 {
         if s.len() <= i {
-            return Got::Bad;
+            return None;
         }
         let b = s[i];
         if b < least {
-            return Got::Bad;
+            return None;
         }
-        i += 1;
         if b < 128 {
             let last = b as u32;
             let whole = value + unit * last;
-            return Got::Number(whole, i);
+            return Some((whole, i + 1));
         }
         let group = (b - 128) as u32;
         value += unit * group;
         unit *= 128;
         least = 1;
     }
-    Got::Bad
+    None
 }
 
-// Reads as many numbers as ns has cells, and tells whether the bytes are those and nothing else.
-fn read_numbers(s: &[u8], ns: &mut [u32]) -> bool
-    ensures { read_as result ns.new ≡ numbers_in (length ns.old) s.now }
+// N numbers, where the bytes are those and nothing else.
+fn read_numbers<const N: usize>(s: &[u8]) -> Option<[u32; N]>
+    ensures { result ≡ numbers_in N s.now }
 {
+    let mut ns = [0u32; N];
     let mut at: usize = 0;
-    let mut i: usize = 0;
-    while i < ns.len() {
-        let Got::Number(v, u) = get_number(&s[at..]) else {
-            return false;
-        };
+    for i in 0..N {
+        let (v, u) = get_number(&s[at..])?;
         ns[i] = v;
         at += u;
-        i += 1;
     }
-    at == s.len()
-}
-
-// The numbers of a note, or bytes that "aren't one note".
-#[derive(Clone, Copy)]
-pub enum NoteRead {
-    Taken(Note),
-    NotOneNote,
+    if at == s.len() { Some(ns) } else { None }
 }
 
 // "From now on five numbers beginning with 100 are no note"; an old note has "depth 0".
-fn old_note(l: &[u32]) -> NoteRead
+fn old_note(l: &[u32]) -> Option<Note>
     requires { length l.now ≡ 5 }
     ensures { result ≡ old_note l.now }
 {
     let first = l[0];
     if first == MARK {
-        return NoteRead::NotOneNote;
+        return None;
     }
     let place = l[1];
     let kind = l[2];
     let series = l[3];
     let intervals = l[4];
-    NoteRead::Taken(Note {
+    Some(Note {
         refusal: first,
         place,
         kind,
@@ -195,24 +173,24 @@ fn old_note(l: &[u32]) -> NoteRead
 }
 
 // "A new note begins with the number 100"; "nor are seven whose second is 100".
-fn new_note(l: &[u32]) -> NoteRead
+fn new_note(l: &[u32]) -> Option<Note>
     requires { length l.now ≡ 7 }
     ensures { result ≡ new_note l.now }
 {
     let mark = l[0];
     if mark != MARK {
-        return NoteRead::NotOneNote;
+        return None;
     }
     let refusal = l[1];
     if refusal == MARK {
-        return NoteRead::NotOneNote;
+        return None;
     }
     let place = l[2];
     let kind = l[3];
     let series = l[4];
     let intervals = l[5];
     let depth = l[6];
-    NoteRead::Taken(Note {
+    Some(Note {
         refusal,
         place,
         kind,
@@ -226,24 +204,19 @@ fn new_note(l: &[u32]) -> NoteRead
 // both, an old one with depth 0".
 // Ruled out: a number taken that is not shortest (80 00) or is 2^21 or more; four or six numbers taken, or seven that do not begin with 100; a note taken
 // with zeros after it; five that begin with 100, or seven whose second is 100, taken; a note refused.
-pub fn read_note(s: &[u8]) -> NoteRead
+pub fn read_note(s: &[u8]) -> Option<Note>
     ensures { result ≡ note_in s.now }
 {
-    let mut five = [0u32; 5];
-    if read_numbers(s, &mut five) {
+    if let Some(five) = read_numbers::<5>(s) {
         return old_note(&five);
     }
-    let mut seven = [0u32; 7];
-    if read_numbers(s, &mut seven) {
-        return new_note(&seven);
-    }
-    NoteRead::NotOneNote
+    let seven = read_numbers::<7>(s)?;
+    new_note(&seven)
 }
 
-// A note written in the shape that was asked for, with its length; or an output that is too short, or bytes that are no note of either shape.
+// Why no note is written: the output is too short, or the bytes are no note of either shape.
 #[derive(Clone, Copy)]
-pub enum Converted {
-    Turned(usize),
+pub enum ConvertError {
     OutShort,
     NeitherShape,
 }
@@ -251,18 +224,17 @@ pub enum Converted {
 // "Old notes are turned into new ones with depth 0, new into old by leaving it out."; "converting into fewer than 24 bytes is 10, then 11 for bytes that are neither;
 // output is then all 0". A note that has the shape already is written as it is.
 // Ruled out: bytes left past the note, or on a refusal; 11 before 10; a depth that an old note was given; the note written in the shape that it has where the other was asked for.
-pub fn convert_note(s: &[u8], shape: Shape, out: &mut [u8]) -> Converted
+pub fn convert_note(s: &[u8], shape: Shape, out: &mut [u8]) -> Result<usize, ConvertError>
     ensures answer { result ≡ converted s.now shape (length out.old) }
     ensures buffer { out.new ≡ converted_out s.now shape (length out.old) }
 {
     if out.len() < 24 {
-        clear_bytes(out);
-        return Converted::OutShort;
+        out.fill(0);
+        return Err(ConvertError::OutShort);
     }
-    let NoteRead::Taken(n) = read_note(s) else {
-        clear_bytes(out);
-        return Converted::NeitherShape;
+    let Some(n) = read_note(s) else {
+        out.fill(0);
+        return Err(ConvertError::NeitherShape);
     };
-    let len = write_note(out, shape, n);
-    Converted::Turned(len)
+    Ok(write_note(out, shape, n))
 }

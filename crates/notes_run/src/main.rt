@@ -9,7 +9,7 @@
 
 ghost use Rattle.std.specs.Prelude.{◌<◌};
 
-use notes::{Converted, Note, NoteRead, Shape};
+use notes::{ConvertError, Note, Shape};
 
 fn print_numbers(refusal: u64, n: Note) {
     lines::print_number(refusal);
@@ -29,8 +29,8 @@ fn print_numbers(refusal: u64, n: Note) {
 
 fn show_read(s: &[u8]) {
     match notes::read_note(s) {
-        NoteRead::Taken(n) => print_numbers(0, n),
-        NoteRead::NotOneNote => print_numbers(
+        Some(n) => print_numbers(0, n),
+        None => print_numbers(
             11,
             Note {
                 refusal: 0,
@@ -96,9 +96,9 @@ fn run_write(s: &[u8], shape: Shape) {
 
 fn show_convert(s: &[u8], shape: Shape, out: &mut [u8]) {
     match notes::convert_note(s, shape, out) {
-        Converted::Turned(k) => show_bytes(0, k, out),
-        Converted::OutShort => show_bytes(10, 0, out),
-        Converted::NeitherShape => show_bytes(11, 0, out),
+        Ok(k) => show_bytes(0, k, out),
+        Err(ConvertError::OutShort) => show_bytes(10, 0, out),
+        Err(ConvertError::NeitherShape) => show_bytes(11, 0, out),
     }
 }
 

@@ -15,42 +15,45 @@ use borrow.Author.Rules.{sfits_of}
 use mir.Syntax.{w64}
 use mir.Val.{SFits, to_z, of_z}
 use mir.Facts.{to_z_pos, to_z-of_z}
+use Rattle.std.specs.Prelude.{Option, Some, None, is_none}
 use Rattle.slices.specs.Text.{text}
-use Rattle.characters.specs.Says.{said_at, says}
-use Rattle.characters.specs.declared.Said.{Said}
-use Rattle.characters.specs.declared.Said.TheVariants.{Says, Over}
+use Rattle.characters.specs.Says.{said_use, said_at, says}
 use Rattle.characters.proofs.Saying.{says-char, says-over}
 use Rattle.characters.specs.References.{digit}
 use Rattle.numbers.specs.Digits.{digits, number_from, nothing_left, only_digits}
 use Rattle.numbers.specs.Number.{number_form, number_within}
 use Rattle.numbers.specs.Amount.{minus, unsigned, fraction_form, unsigned_form, written_amount, filled, thousandths, signed, amount_of}
 use Rattle.numbers.specs.Parts.{point_of, fraction_of, unsigned_of, signed_of}
-use Rattle.numbers.specs.declared.Number.TheVariants.{Is, NotNumber}
-use Rattle.numbers.specs.declared.Amount.TheVariants.{Thousandths, NotAmount}
-use Rattle.numbers.specs.declared.Unsigned.{Unsigned}
-use Rattle.numbers.specs.declared.Unsigned.TheVariants.{Parts, NoParts}
+use Rattle.std.specs.Prelude.{Option, Some, None}
 use Rattle.numbers.proofs.Reading.{digits-none}
 
-char-of : (w : List ℕ) (c n : ℕ) → 1 ≤ n → said_at w ≡ Says c n → says w ≡ c ∷ says (drop n w)
+char-of : (w : List ℕ) (c n : ℕ) → 1 ≤ n → said_at w ≡ Some (c, n) → says w ≡ c ∷ says (drop n w)
 unfolding said_at
 char-of [] c n m p = let z : ◌≡◌ {A = ℕ} 0 1 = cc in absurd (omega arith)
 char-of (b ∷ t) c n m p = says-char (b ∷ t) c n (omega arith) p m
 
 -- x is what `said_at` answered of w
-module _ (w : List ℕ) {x : Said} (e : x ≡ said_at w) where
-  pub first-over : x ≡ Over → says w ≡ []
+module _ (w : List ℕ) {x : Option (ℕ × ℕ)} (e : x ≡ said_at w) where
+  pub first-over : x ≡ None → says w ≡ []
   first-over q = says-over w (sym e ∙ q)
 
-  pub first_char : {c n : ℕ} → x ≡ Says c n → 1 ≤ n → says w ≡ c ∷ says (drop n w)
+  pub first_char : {c n : ℕ} → x ≡ Some (c, n) → 1 ≤ n → says w ≡ c ∷ says (drop n w)
   first_char {c} {n} q m = char-of w c n m (sym e ∙ q)
 
-pub over_yes : {l : List ℕ} → l ≡ [] → true ≡ nothing_left l
+over_yes : {l : List ℕ} → l ≡ [] → true ≡ nothing_left l
 unfolding nothing_left
 over_yes e = rw e
 
-pub over_no : {l t : List ℕ} {c : ℕ} → l ≡ c ∷ t → false ≡ nothing_left l
+over_no : {l t : List ℕ} {c : ℕ} → l ≡ c ∷ t → false ≡ nothing_left l
 unfolding nothing_left
 over_no e = rw e
+
+pub over-none : (v : List ℕ) {x : Option (ℕ × ℕ)} → x ≡ said_at v → 1 ≤ said_use x → is_none x ≡ nothing_left (says v)
+over-none v {x} e m = by x refl m
+  where
+    by : (y : Option (ℕ × ℕ)) → x ≡ y → 1 ≤ said_use y → is_none y ≡ nothing_left (says v)
+    by None q m = over_yes (first-over v e q)
+    by (Some (c, n)) q m = over_no (first_char v e q m)
 
 digits_le : (k : ℕ) (l : List ℕ) → (digits k l ≤ k) × (digits k l ≤ length l)
 unfolding digits
@@ -89,33 +92,33 @@ module _ (l : List ℕ) (whole : ℕ) {k x : ℕ} (count : k ≡ digits 3 l) (va
       let q : length (take k l) ≡ k = length-take-le k l (omega arith) in
       rw (value, ← count) (sym (rw q at (filled-up whole (take k l) (omega arith))))
 
-  pub point-is : {m : ℕ} → only_digits 3 l ≡ true → k ≡ m → Parts (x * 10 ^ (3 - m)) ≡ point_of l whole
+  pub point-is : {m : ℕ} → only_digits 3 l ≡ true → k ≡ m → Some (x * 10 ^ (3 - m)) ≡ point_of l whole
   unfolding point_of
   point-is o q = rw (o, ← q, point-filled)
 
-  pub point-three : only_digits 3 l ≡ true → k ≡ 3 → Parts x ≡ point_of l whole
+  pub point-three : only_digits 3 l ≡ true → k ≡ 3 → Some x ≡ point_of l whole
   point-three o q = rw mul-one at (point-is o q)
 
-pub point-no : (l : List ℕ) (whole : ℕ) → only_digits 3 l ≡ false → NoParts ≡ point_of l whole
+pub point-no : (l : List ℕ) (whole : ℕ) → only_digits 3 l ≡ false → None ≡ point_of l whole
 unfolding point_of
 point-no l whole o = rw o
 
 -- after the digits before the point
-pub fraction-over : {l : List ℕ} (whole : ℕ) → l ≡ [] → Parts (whole * 1000) ≡ fraction_of l whole
+pub fraction-over : {l : List ℕ} (whole : ℕ) → l ≡ [] → Some (whole * 1000) ≡ fraction_of l whole
 unfolding fraction_of fraction_form filled digits number_from
-fraction-over whole e = rw e (ap Parts (omega arith))
+fraction-over whole e = rw e (ap Some (omega arith))
 
 pub fraction-point : {l t : List ℕ} {c : ℕ} (whole : ℕ) → l ≡ c ∷ t → c ≡ 0x2E → point_of t whole ≡ fraction_of l whole
 unfolding fraction_of fraction_form point_of
 fraction-point whole e q = rw (e, eq-eqb _ _ q)
 
-pub fraction-other : {l t : List ℕ} {c : ℕ} (whole : ℕ) → l ≡ c ∷ t → (c ≡ 0x2E → ⊥) → NoParts ≡ fraction_of l whole
+pub fraction-other : {l t : List ℕ} {c : ℕ} (whole : ℕ) → l ≡ c ∷ t → (c ≡ 0x2E → ⊥) → None ≡ fraction_of l whole
 unfolding fraction_of fraction_form
 fraction-other whole e q = rw (e, ne_eqb _ _ q)
 
 -- after the sign
 module _ (l : List ℕ) {k : ℕ} (count : k ≡ digits 12 l) where
-  pub unsigned-none : k ≡ 0 → NoParts ≡ unsigned_of l
+  pub unsigned-none : k ≡ 0 → None ≡ unsigned_of l
   unfolding unsigned_of unsigned_form
   unsigned-none z = rw (← count, eq-eqb _ _ z)
 
@@ -141,19 +144,19 @@ signed-amount : (l : List ℕ) → signed_of (minus l) (unsigned_of (unsigned l)
 unfolding signed_of unsigned_of amount_of written_amount
 signed-amount l =
     let u = unsigned l in
-    elim (unsigned_form u) as (λ (b : Bool). signed_of (minus l) (cond b (Parts (thousandths u)) NoParts) ≡ cond b (Thousandths (signed (minus l) (thousandths u))) NotAmount)
+    elim (unsigned_form u) as (λ (b : Bool). signed_of (minus l) (cond b (Some (thousandths u)) None) ≡ cond b (Some (signed (minus l) (thousandths u))) None)
     [ true ↦ refl | false ↦ refl ]
 
 -- m tells the sign of the value v, r is the part after it, and u the amount there
-pub amount-is : (v : List ℕ) {m : Bool} {r t : List ℕ} {u : Unsigned} → m ≡ minus (says v) → says t ≡ unsigned (says v) → r ≡ t → u ≡ unsigned_of (says r) → signed_of m u ≡ amount_of (says v)
+pub amount-is : (v : List ℕ) {m : Bool} {r t : List ℕ} {u : Option ℕ} → m ≡ minus (says v) → says t ≡ unsigned (says v) → r ≡ t → u ≡ unsigned_of (says r) → signed_of m u ≡ amount_of (says v)
 amount-is v e f d g = rw (g, d, f, e) (signed-amount (says v))
 
 -- a number that counts
-pub number-over : {l : List ℕ} (most : ℕ) → l ≡ [] → NotNumber ≡ number_within most l
+pub number-over : {l : List ℕ} (most : ℕ) → l ≡ [] → None ≡ number_within most l
 unfolding number_within number_form only_digits
 number-over most e = rw (e, digits-none most)
 
-pub number-zero : {l t : List ℕ} {c : ℕ} (most : ℕ) → l ≡ c ∷ t → c ≡ 0x30 → NotNumber ≡ number_within most l
+pub number-zero : {l t : List ℕ} {c : ℕ} (most : ℕ) → l ≡ c ∷ t → c ≡ 0x30 → None ≡ number_within most l
 unfolding number_within number_form
 number-zero most e q = rw (e, eq-eqb _ _ q)
 
@@ -162,11 +165,11 @@ module _ {l t : List ℕ} {c : ℕ} (most : ℕ) (e : l ≡ c ∷ t) (q : c ≡ 
   unfolding number_form
   form = rw (e, ne_eqb _ _ q)
 
-  pub number-no : only_digits most l ≡ false → NotNumber ≡ number_within most l
+  pub number-no : only_digits most l ≡ false → None ≡ number_within most l
   unfolding number_within
   number-no o = rw (form, o)
 
-  pub number_is : {k x : ℕ} → only_digits most l ≡ true → k ≡ digits most l → x ≡ number_from 0 (take k l) → Is x ≡ number_within most l
+  pub number_is : {k x : ℕ} → only_digits most l ≡ true → k ≡ digits most l → x ≡ number_from 0 (take k l) → Some x ≡ number_within most l
   unfolding number_within
   number_is o count value = rw (form, o, ← count, value)
 
@@ -181,14 +184,8 @@ negated-mag (suc n) h = omega arith
 pub digits-small : (m : ℕ) {k x : ℕ} → k ≤ m → x < (0 + 1) * 10 ^ k → x < 10 ^ m
 digits-small m {k} h s = let p : 10 ^ k ≤ 10 ^ m = pow-le-pow_right (lit< tt) h in omega arith
 
-pub nine-room : (most : ℕ) → most ≤ 9 → (0 + 1) * 10 ^ most ≤ 10 ^ 15
-nine-room most h = let g : 10 ^ most ≤ 10 ^ 9 = pow-le-pow_right (lit< tt) h in omega arith
-
 -- an amount and its negative fit an i64
 module _ (n : ℕ) (h : n < 10 ^ 17) where
-  pub plain_fits : SFits w64 (pos n)
-  plain_fits = sfits_of (omega arith)
-
   pub plain-is : to_z w64 n ≡ pos n
   plain-is = to_z_pos w64 (omega arith)
 

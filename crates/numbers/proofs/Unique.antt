@@ -5,12 +5,11 @@ use mathlib.Core.List.{List}
 use Rattle.characters.specs.Says.{says}
 use Rattle.numbers.specs.Number.{number_of}
 use Rattle.numbers.specs.Amount.{amount_of}
-use Rattle.numbers.specs.declared.Number.{Number}
-use Rattle.numbers.specs.declared.Amount.{Amount}
+use Rattle.std.specs.Prelude.{Option, ℤ}
 use Rattle.lists.proofs.Unique.{one}
 
-pub number-of-one : (v : List ℕ) (most : ℕ) {r r' : Number} → r ≡ number_of (says v) most → r' ≡ number_of (says v) most → r ≡ r'
+pub number-of-one : (v : List ℕ) (most : ℕ) {r r' : Option ℕ} → r ≡ number_of (says v) most → r' ≡ number_of (says v) most → r ≡ r'
 number-of-one v most = one
 
-pub amount-of-one : (v : List ℕ) {r r' : Amount} → r ≡ amount_of (says v) → r' ≡ amount_of (says v) → r ≡ r'
+pub amount-of-one : (v : List ℕ) {r r' : Option ℤ} → r ≡ amount_of (says v) → r' ≡ amount_of (says v) → r ≡ r'
 amount-of-one v = one

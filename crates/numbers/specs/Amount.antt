@@ -1,10 +1,8 @@
 -- "Amount (Qty), collapsed: an optional minus, 1 to 12 digits, optionally a point with 1 to 3 digits. It is stored in thousandths."
-use Rattle.std.specs.Prelude.{ℕ, List, [], ◌∷◌, ◌++◌, Bool, true, false, cond, eqb, ℤ, pos, neg_ℤ, take, drop, get_or}
+use Rattle.std.specs.Prelude.{ℕ, List, [], ◌∷◌, ◌++◌, Bool, true, false, cond, eqb, ℤ, pos, neg_ℤ, take, drop, get_or, Option, Some, None}
 use Prim.Native.Char.{code}
 use Rattle.slices.specs.Text.{text}
 use Rattle.numbers.specs.Digits.{digits, number_from, only_digits}
-use Rattle.numbers.specs.declared.Amount.{Amount}
-use Rattle.numbers.specs.declared.Amount.TheVariants.{Thousandths, NotAmount}
 
 -- "an optional minus"
 unfoldable pub minus : List ℕ → Bool
@@ -36,5 +34,5 @@ thousandths l = number_from (number_from 0 (take (digits 12 l) l)) (filled (drop
 unfoldable pub signed : Bool → ℕ → ℤ
 signed m n = cond m (neg_ℤ (pos n)) (pos n)
 
-unfoldable pub amount_of : List ℕ → Amount
-amount_of l = cond (written_amount l) (Thousandths (signed (minus l) (thousandths (unsigned l)))) NotAmount
+unfoldable pub amount_of : List ℕ → Option ℤ
+amount_of l = cond (written_amount l) (Some (signed (minus l) (thousandths (unsigned l)))) None

@@ -1,28 +1,20 @@
 -- The parts of an amount, as the functions of the code answer them.
-use Rattle.std.specs.Prelude.{ℕ, List, Bool, cond, drop}
+use Rattle.std.specs.Prelude.{ℕ, List, Bool, cond, drop, Option, Some, None, ℤ}
 use Rattle.numbers.specs.Digits.{number_from, only_digits}
 use Rattle.numbers.specs.Amount.{fraction_form, unsigned_form, filled, thousandths, signed}
-use Rattle.numbers.specs.declared.Amount.{Amount}
-use Rattle.numbers.specs.declared.Amount.TheVariants.{Thousandths, NotAmount}
-use Rattle.numbers.specs.declared.Unsigned.{Unsigned}
-use Rattle.numbers.specs.declared.Unsigned.TheVariants.{Parts, NoParts}
 
 -- after a point
-unfoldable pub point_of : List ℕ → ℕ → Unsigned
-point_of l whole = cond (only_digits 3 l) (Parts (number_from whole (filled l))) NoParts
+unfoldable pub point_of : List ℕ → ℕ → Option ℕ
+point_of l whole = cond (only_digits 3 l) (Some (number_from whole (filled l))) None
 
 -- after the digits before the point
-unfoldable pub fraction_of : List ℕ → ℕ → Unsigned
-fraction_of l whole = cond (fraction_form l) (Parts (number_from whole (filled (drop 1 l)))) NoParts
+unfoldable pub fraction_of : List ℕ → ℕ → Option ℕ
+fraction_of l whole = cond (fraction_form l) (Some (number_from whole (filled (drop 1 l)))) None
 
 -- after the sign
-unfoldable pub unsigned_of : List ℕ → Unsigned
-unsigned_of l = cond (unsigned_form l) (Parts (thousandths l)) NoParts
+unfoldable pub unsigned_of : List ℕ → Option ℕ
+unsigned_of l = cond (unsigned_form l) (Some (thousandths l)) None
 
-unfoldable pub signed_of : Bool → Unsigned → Amount
-signed_of m (Parts n) = Thousandths (signed m n)
-signed_of m NoParts = NotAmount
-
-abbrev pub parts_of : Unsigned → ℕ
-parts_of (Parts n) = n
-parts_of NoParts = 0
+unfoldable pub signed_of : Bool → Option ℕ → Option ℤ
+signed_of m (Some n) = Some (signed m n)
+signed_of m None = None

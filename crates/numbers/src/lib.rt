@@ -1,35 +1,16 @@
 // Numbers and amounts, as 01 writes them in values. Every character is read by `said_at`.
 #![tactic(auto)]
 
-ghost use Rattle.std.specs.Prelude.{◌≡◌, ◌+◌, ◌*◌, ◌<◌, ◌≤◌, ◌^◌, ltb, take, drop};
+ghost use Rattle.std.specs.Prelude.{◌≡◌, ◌+◌, ◌*◌, ◌<◌, ◌≤◌, ◌^◌, ltb, take, drop, unwrap_or};
 ghost use Rattle.characters.specs.Says.{says};
 ghost use Rattle.numbers.specs.Digits.{digits, number_from, nothing_left};
 ghost use Rattle.numbers.specs.Number.{at_most_nine, number_within, number_of};
 ghost use Rattle.numbers.specs.Amount.{minus, unsigned, amount_of};
-ghost use Rattle.numbers.specs.Parts.{point_of, fraction_of, unsigned_of, signed_of, parts_of};
+ghost use Rattle.numbers.specs.Parts.{point_of, fraction_of, unsigned_of, signed_of};
 
-use characters::{Said, said_at};
+use characters::said_at;
 use pictures::is_digit;
 use slices::rest;
-
-#[derive(Clone, Copy)]
-pub enum Number {
-    Is(u32),
-    NotNumber,
-}
-
-#[derive(Clone, Copy)]
-pub enum Amount {
-    Thousandths(i64),
-    NotAmount,
-}
-
-// An amount with no sign, in thousandths.
-#[derive(Clone, Copy)]
-enum Unsigned {
-    Parts(u64),
-    NoParts,
-}
 
 // Digits at the front of a value: how many, the number that they say, and the place of the byte after them.
 #[derive(Clone, Copy)]
@@ -53,17 +34,15 @@ fn digits_of(v: &[u8], most: usize, before: u64) -> Digits
         if most <= count {
             return Digits { count, value, end };
         }
-        match said_at(&v[end..]) {
-            Said::Says(c, k) => {
-                if is_digit(c) {
-                    value = value * 10 + ((c - 0x30) as u64);
-                    end += k;
-                    count += 1;
-                } else {
-                    return Digits { count, value, end };
-                }
-            }
-            Said::Over => return Digits { count, value, end },
+        let Some((c, k)) = said_at(&v[end..]) else {
+            return Digits { count, value, end };
+        };
+        if is_digit(c) {
+            value = value * 10 + ((c - 0x30) as u64);
+            end += k;
+            count += 1;
+        } else {
+            return Digits { count, value, end };
         }
     }
     Digits { count, value, end }
@@ -72,12 +51,10 @@ fn digits_of(v: &[u8], most: usize, before: u64) -> Digits
 fn is_over(v: &[u8]) -> bool
     ensures { result ≡ nothing_left (says v.now) }
 {
-    match said_at(v) {
-        Said::Over => true,
-        Said::Says(_, _) => false,
-    }
+    said_at(v).is_none()
 }
 
+#[tactic(auto, unfolding(crate::specs::Number::at_most_nine))]
 fn at_most_nine(most: usize) -> usize
     ensures most { result ≡ at_most_nine most }
     ensures size { result ≤ 9 }
@@ -85,107 +62,87 @@ fn at_most_nine(most: usize) -> usize
     if most < 9 { most } else { 9 }
 }
 
-fn number_within(v: &[u8], most: usize) -> Number
+fn number_within(v: &[u8], most: usize) -> Option<u32>
     requires { most ≤ 9 }
     ensures { result ≡ number_within most (says v.now) }
 {
     match said_at(v) {
-        Said::Over => Number::NotNumber,
-        Said::Says(c, _) => {
+        None => None,
+        Some((c, _)) => {
             if c == 0x30 {
-                return Number::NotNumber;
+                return None;
             }
             let d = digits_of(v, most, 0);
-            let end = d.end;
-            if d.count == 0 {
-                return Number::NotNumber;
+            if d.count == 0 || !is_over(rest(v, d.end)) {
+                return None;
             }
-            if is_over(rest(v, end)) {
-                Number::Is(d.value as u32)
-            } else {
-                Number::NotNumber
-            }
+            Some(d.value as u32)
         }
     }
 }
 
 // A number of at most `most` digits; nine at most.
 // Ruled out: a number for `0`, `07` or `1x`; none for `999` where most is 3; a number for `1000` there.
-pub fn number_of(v: &[u8], most: usize) -> Number
+#[tactic(auto, unfolding(crate::specs::Number::number_of))]
+pub fn number_of(v: &[u8], most: usize) -> Option<u32>
     ensures { result ≡ number_of (says v.now) most }
 {
     number_within(v, at_most_nine(most))
 }
 
 // What stands after a point: 1 to 3 digits.
-fn point_of(s: &[u8], whole: u64) -> Unsigned
+fn point_of(s: &[u8], whole: u64) -> Option<u64>
     requires { whole < 10 ^ 12 }
     ensures parts { result ≡ point_of (says s.now) whole }
-    ensures size { parts_of result < 10 ^ 17 }
+    ensures size { unwrap_or result 0 < 10 ^ 17 }
 {
     let d = digits_of(s, 3, whole);
-    let count = d.count;
-    let value = d.value;
-    let end = d.end;
-    if count == 0 {
-        return Unsigned::NoParts;
+    if d.count == 0 || !is_over(rest(s, d.end)) {
+        return None;
     }
-    if is_over(rest(s, end)) {
-        if count == 1 {
-            return Unsigned::Parts(value * 100);
-        }
-        if count == 2 {
-            return Unsigned::Parts(value * 10);
-        }
-        return Unsigned::Parts(value);
+    match d.count {
+        1 => Some(d.value * 100),
+        2 => Some(d.value * 10),
+        _ => Some(d.value),
     }
-    Unsigned::NoParts
 }
 
 // What follows the digits before the point: nothing, or a point with digits.
-fn fraction_of(s: &[u8], whole: u64) -> Unsigned
+fn fraction_of(s: &[u8], whole: u64) -> Option<u64>
     requires { whole < 10 ^ 12 }
     ensures parts { result ≡ fraction_of (says s.now) whole }
-    ensures size { parts_of result < 10 ^ 17 }
+    ensures size { unwrap_or result 0 < 10 ^ 17 }
 {
     match said_at(s) {
-        Said::Over => Unsigned::Parts(whole * 1000),
-        Said::Says(c, n) => {
+        None => Some(whole * 1000),
+        Some((c, n)) => {
             if c == 0x2E {
                 point_of(rest(s, n), whole)
             } else {
-                Unsigned::NoParts
+                None
             }
         }
     }
 }
 
-fn unsigned_of(s: &[u8]) -> Unsigned
+// An amount with no sign, in thousandths.
+fn unsigned_of(s: &[u8]) -> Option<u64>
     ensures parts { result ≡ unsigned_of (says s.now) }
-    ensures size { parts_of result < 10 ^ 17 }
+    ensures size { unwrap_or result 0 < 10 ^ 17 }
 {
     let d = digits_of(s, 12, 0);
-    let value = d.value;
-    let end = d.end;
     if d.count == 0 {
-        return Unsigned::NoParts;
+        return None;
     }
-    fraction_of(rest(s, end), value)
+    fraction_of(rest(s, d.end), d.value)
 }
 
-fn signed_of(minus: bool, u: Unsigned) -> Amount
-    requires { parts_of u < 10 ^ 17 }
+fn signed_of(minus: bool, u: Option<u64>) -> Option<i64>
+    requires { unwrap_or u 0 < 10 ^ 17 }
     ensures { result ≡ signed_of minus u }
 {
-    match u {
-        Unsigned::NoParts => Amount::NotAmount,
-        Unsigned::Parts(n) => {
-            if minus {
-                return Amount::Thousandths(0 - (n as i64));
-            }
-            Amount::Thousandths(n as i64)
-        }
-    }
+    let n = u? as i64;
+    Some(if minus { -n } else { n })
 }
 
 // How many bytes a minus at the front takes, 0 where there is none.
@@ -193,15 +150,15 @@ fn minus_len(v: &[u8]) -> usize
     ensures sign { ltb 0 result ≡ minus (says v.now) }
     ensures left { says (drop result v.now) ≡ unsigned (says v.now) }
 {
-    match said_at(v) {
-        Said::Over => 0,
-        Said::Says(c, n) => { if c == 0x2D { n } else { 0 } }
-    }
+    let Some((c, n)) = said_at(v) else {
+        return 0;
+    };
+    if c == 0x2D { n } else { 0 }
 }
 
 // An amount in thousandths; its spaces are dropped already.
 // Ruled out: -5 for `-0.05`; an amount for `5.`, `.5`, `+5`, `1.0000` or thirteen digits; none for `-0` or for twelve nines.
-pub fn amount_of(v: &[u8]) -> Amount
+pub fn amount_of(v: &[u8]) -> Option<i64>
     ensures { result ≡ amount_of (says v.now) }
 {
     let n = minus_len(v);

@@ -3,8 +3,7 @@
 #![tactic(auto)]
 
 use pictures::number_at;
-use times::Interval;
-use times::calendar::{Sum, Terms, sum_of};
+use times::calendar::{Terms, sum_of};
 
 fn print_count(text: &[u8], n: u32) {
     lines::print_text(text);
@@ -22,9 +21,8 @@ fn show_terms(t: Terms) {
 fn show_date(from: u8, v: &[u8], n: u32) {
     let at = from as usize;
     let m = number_at(at + 5, 2, v);
-    match sum_of(number_at(at, 4, v), m, number_at(at + 8, 2, v)) {
-        Sum::Of(t) => show_terms(t),
-        Sum::NotDate => {}
+    if let Some(t) = sum_of(number_at(at, 4, v), m, number_at(at + 8, 2, v)) {
+        show_terms(t);
     }
     print_count(b" = ", n);
     lines::print_text(b"\n");
@@ -48,8 +46,8 @@ fn run_case(line: &[u8]) {
     lines::print_text(line);
     lines::print_text(b"\n");
     match times::interval_of(line) {
-        Interval::Minutes(from, to) => show_period(line, from, to),
-        Interval::NotInterval => lines::print_text(b"  no interval\n"),
+        Some((from, to)) => show_period(line, from, to),
+        None => lines::print_text(b"  no interval\n"),
     }
 }
 

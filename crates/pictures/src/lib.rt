@@ -8,7 +8,7 @@ ghost use Rattle.pictures.specs.Number.{number_at};
 ghost use Rattle.characters.specs.References.{digit};
 ghost use Rattle.pictures.specs.Picture.{capital, capital_or_digit, party_char, first_three, takes, held, fits_of, test};
 
-use characters::{Said, said_at};
+use characters::said_at;
 
 // Whether a character is an ASCII digit.
 // Ruled out: true for a digit of another script, for `/` or `:`; false for `0` or `9`.
@@ -74,19 +74,17 @@ fn is_held(plain: bool, marks: &[u8], v: &[u8]) -> bool
     let mut i = 0;
     let mut k = 0;
     while i < v.len() {
-        match said_at(&v[i..]) {
-            Said::Says(c, n) => {
-                if marks.len() <= k {
-                    return false;
-                }
-                if is_passed(plain, marks[k], c) {
-                    i += n;
-                    k += 1;
-                } else {
-                    return false;
-                }
-            }
-            Said::Over => return marks.len() <= k,
+        let Some((c, n)) = said_at(&v[i..]) else {
+            return marks.len() <= k;
+        };
+        if marks.len() <= k {
+            return false;
+        }
+        if is_passed(plain, marks[k], c) {
+            i += n;
+            k += 1;
+        } else {
+            return false;
         }
     }
     marks.len() <= k
@@ -119,7 +117,7 @@ pub fn number_at(from: usize, n: usize, v: &[u8]) -> u32
     let mut left = n;
     let mut shown = 0;
     while i < v.len() {
-        let Said::Says(c, k) = said_at(&v[i..]) else {
+        let Some((c, k)) = said_at(&v[i..]) else {
             return shown;
         };
         i += k;

@@ -10,6 +10,7 @@ use mathlib.Core.Bool.{true, false}
 use mathlib.Core.Logic.{◌⊎◌, inl, inr, ⊎_elim}
 use lib.ListN.{drop}
 use lib.Dec.{eqb}
+use Rattle.std.specs.Prelude.{Result, Ok, Err}
 use Rattle.lists.proofs.Cases.{bool_cases, by_cond, zero-not-one}
 use Rattle.slices.specs.Bytes.{byte}
 use Rattle.slices.specs.Run.{run}
@@ -21,13 +22,11 @@ use Rattle.attributes.specs.Attribute.{piece}
 use Rattle.attributes.specs.declared.Piece.{Piece}
 use Rattle.attributes.specs.declared.Piece.TheVariants.{Attribute, Close, CloseEmpty, Torn}
 use Rattle.prolog.specs.Prolog.{utf, declared_by, declared, encoded_by, encoded, declaration_by, declaration, mark_len, behind_mark, begin_after, begin, begin_refusal}
-use Rattle.prolog.specs.declared.Begin.{Begin}
-use Rattle.prolog.specs.declared.Begin.TheVariants.{From, Misdeclared}
 
 -- "The place of an item is the index of its first byte"
-unfoldable pub Placed : ℕ → Begin → Type 0
-Placed before (From n) = Unit {0}
-Placed before (Misdeclared p) = p ≡ before
+unfoldable pub Placed : ℕ → Result ℕ ℕ → Type 0
+Placed before (Ok n) = Unit {0}
+Placed before (Err p) = p ≡ before
 
 module _ (before : ℕ) (s : List ℕ) where
   declared-placed : (a : ℕ) → Placed before (declared before s a)
@@ -56,10 +55,10 @@ module _ (before : ℕ) (s : List ℕ) where
   declaration-placed (CloseEmpty n) = refl
   declaration-placed Torn = refl
 
-after-placed : (before m : ℕ) (x : Begin) → Placed before x → Placed before (behind_mark m x)
+after-placed : (before m : ℕ) (x : Result ℕ ℕ) → Placed before x → Placed before (behind_mark m x)
 unfolding behind_mark Placed
-after-placed before m (From n) h = tt
-after-placed before m (Misdeclared p) h = h
+after-placed before m (Ok n) h = tt
+after-placed before m (Err p) h = h
 
 -- the refusal's place is that of the declaration, right after the mark
 pub begin-placed : (doc : List ℕ) → Placed (mark_len doc) (begin doc)
@@ -74,11 +73,11 @@ unfolding mark_len
 mark-three doc = by_cond (λ n. (n ≡ 0) ⊎ (n ≡ 3)) (begins (0xEF ∷ 0xBB ∷ 0xBF ∷ []) doc) (inr refl) (inl refl)
 
 -- where no declaration stands after the mark, the first item does
-pub undeclared : (doc : List ℕ) → begins (text "<?xml") (drop (mark_len doc) doc) ≡ false → begin doc ≡ From (mark_len doc)
+pub undeclared : (doc : List ℕ) → begins (text "<?xml") (drop (mark_len doc) doc) ≡ false → begin doc ≡ Ok (mark_len doc)
 unfolding begin begin_after
 undeclared doc h = rw h refl
 
-module _ (doc : List ℕ) (p : ℕ) (e : begin doc ≡ Misdeclared p) where
+module _ (doc : List ℕ) (p : ℕ) (e : begin doc ≡ Err p) where
   pub refused-at : p ≡ mark_len doc
   unfolding Placed
   refused-at = rw e at (begin-placed doc)
@@ -89,19 +88,19 @@ module _ (doc : List ℕ) (p : ℕ) (e : begin doc ≡ Misdeclared p) where
   pub refused-declaration : begins (text "<?xml") (drop p doc) ≡ true
   refused-declaration =
       rw refused-at (⊎_elim (λ y. y)
-      (λ n. let w : From (mark_len doc) ≡ Misdeclared p = rw (undeclared doc n) at e in absurd (zero-not-one (cc)))
+      (λ n. let w : Ok (mark_len doc) ≡ Err p = rw (undeclared doc n) at e in absurd (zero-not-one (cc)))
       (bool_cases (begins (text "<?xml") (drop (mark_len doc) doc))))
 
 -- "An XML declaration may stand before the first item .. with anything else in it, it is an unreadable item.": nothing is refused, or it is refused with 2, at the
 -- declaration that stands right after the mark
 pub first-or-refused : (doc : List ℕ)
-    → ((n : ℕ) × (begin doc ≡ From n) × (begin_refusal (begin doc) ≡ 0))
-    ⊎ ((begin doc ≡ Misdeclared (mark_len doc)) × (begin_refusal (begin doc) ≡ 2) × (begins (text "<?xml") (drop (mark_len doc) doc) ≡ true))
+    → ((n : ℕ) × (begin doc ≡ Ok n) × (begin_refusal (begin doc) ≡ 0))
+    ⊎ ((begin doc ≡ Err (mark_len doc)) × (begin_refusal (begin doc) ≡ 2) × (begins (text "<?xml") (drop (mark_len doc) doc) ≡ true))
 first-or-refused doc = go (begin doc) refl
   where
-    go : (x : Begin) → begin doc ≡ x
-        → ((n : ℕ) × (x ≡ From n) × (begin_refusal x ≡ 0))
-        ⊎ ((x ≡ Misdeclared (mark_len doc)) × (begin_refusal x ≡ 2) × (begins (text "<?xml") (drop (mark_len doc) doc) ≡ true))
-    go (From n) e = inl (n, refl, refl)
-    go (Misdeclared p) e =
-        let q = refused-at doc p e in inr (ap (λ (n : ℕ). Misdeclared n) q, refl, rw q at (refused-declaration doc p e))
+    go : (x : Result ℕ ℕ) → begin doc ≡ x
+        → ((n : ℕ) × (x ≡ Ok n) × (begin_refusal x ≡ 0))
+        ⊎ ((x ≡ Err (mark_len doc)) × (begin_refusal x ≡ 2) × (begins (text "<?xml") (drop (mark_len doc) doc) ≡ true))
+    go (Ok n) e = inl (n, refl, refl)
+    go (Err p) e =
+        let q = refused-at doc p e in inr (ap (λ (n : ℕ). Err n) q, refl, rw q at (refused-declaration doc p e))

@@ -3,9 +3,9 @@
 use Prim.Native.Nat.{ℕ}
 use mathlib.Core.Path.{◌≡◌}
 use mathlib.Core.List.{List}
+use Rattle.std.specs.Prelude.{Result}
 use Rattle.lists.proofs.Unique.{one}
 use Rattle.prolog.specs.Prolog.{begin}
-use Rattle.prolog.specs.declared.Begin.{Begin}
 
-pub first-item-one : (doc : List ℕ) {r r' : Begin} → r ≡ begin doc → r' ≡ begin doc → r ≡ r'
+pub first-item-one : (doc : List ℕ) {r r' : Result ℕ ℕ} → r ≡ begin doc → r' ≡ begin doc → r ≡ r'
 first-item-one doc = one

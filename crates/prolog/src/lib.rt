@@ -7,14 +7,6 @@ ghost use Rattle.prolog.specs.Prolog.{lower, utf, declared, encoded, declaration
 use attributes::{Piece, piece_at, white_len};
 use slices::{begins_with, byte_at, is_same, part, rest};
 
-#[derive(Clone, Copy)]
-pub enum Begin {
-    // the place of the first item, or the end
-    From(usize),
-    // a declaration that is unreadable: its place
-    Misdeclared(usize),
-}
-
 fn lower_of(b: u8) -> u8
     ensures { result ≡ lower b }
 {
@@ -47,8 +39,8 @@ fn is_utf(v: &[u8]) -> bool
     byte_at(v, 4) == 0x38
 }
 
-// The end of a declaration, which is read up to a.
-fn declared_to(before: usize, s: &[u8], a: usize) -> Begin
+// The end of a declaration, which is read up to a; the error is the place of one that is unreadable, here and below.
+fn declared_to(before: usize, s: &[u8], a: usize) -> Result<usize, usize>
     requires { a ≤ length s.now + 16 }
     ensures begin { result ≡ declared before s.now a }
     ensures size { begin_use result ≤ length s.now + 32 }
@@ -56,14 +48,14 @@ fn declared_to(before: usize, s: &[u8], a: usize) -> Begin
     let e = a + white_len(rest(s, a));
     if byte_at(s, e) == 0x3F {
         if byte_at(s, e + 1) == 0x3E {
-            return Begin::From(e + 2);
+            return Ok(e + 2);
         }
     }
-    Begin::Misdeclared(before)
+    Err(before)
 }
 
 // What follows the version in a declaration, which is read up to a.
-fn encoding_at(before: usize, s: &[u8], a: usize) -> Begin
+fn encoding_at(before: usize, s: &[u8], a: usize) -> Result<usize, usize>
     requires { a ≤ length s.now + 8 }
     ensures begin { result ≡ encoded before s.now a }
     ensures size { begin_use result ≤ length s.now + 32 }
@@ -82,7 +74,7 @@ fn encoding_at(before: usize, s: &[u8], a: usize) -> Begin
                     return declared_to(before, s, a + next);
                 }
             }
-            Begin::Misdeclared(before)
+            Err(before)
         }
         Piece::Close(_) => declared_to(before, s, a),
         Piece::CloseEmpty(_) => declared_to(before, s, a),
@@ -91,7 +83,7 @@ fn encoding_at(before: usize, s: &[u8], a: usize) -> Begin
 }
 
 // The declaration at the front of s, which begins with `<?xml`.
-fn declaration_at(before: usize, s: &[u8]) -> Begin
+fn declaration_at(before: usize, s: &[u8]) -> Result<usize, usize>
     ensures begin { result ≡ declaration before s.now }
     ensures size { begin_use result ≤ length s.now + 32 }
 {
@@ -109,11 +101,11 @@ fn declaration_at(before: usize, s: &[u8]) -> Begin
                     return encoding_at(before, s, 5 + next);
                 }
             }
-            Begin::Misdeclared(before)
+            Err(before)
         }
-        Piece::Close(_) => Begin::Misdeclared(before),
-        Piece::CloseEmpty(_) => Begin::Misdeclared(before),
-        Piece::Torn => Begin::Misdeclared(before),
+        Piece::Close(_) => Err(before),
+        Piece::CloseEmpty(_) => Err(before),
+        Piece::Torn => Err(before),
     }
 }
 
@@ -128,19 +120,17 @@ fn mark_len(doc: &[u8]) -> usize
     }
 }
 
-// Where the first item of the document begins.
+// Where the first item of the document begins, or the document's end; the error is the place of a declaration that is unreadable.
 // Ruled out: a declaration taken after white space; one with `standalone`; a second mark passed over.
-pub fn first_item(doc: &[u8]) -> Begin
+pub fn first_item(doc: &[u8]) -> Result<usize, usize>
     ensures begin { result ≡ begin doc.now }
     ensures size { begin_use result ≤ length doc.now + 64 }
 {
     let m = mark_len(doc);
     let s = rest(doc, m);
     if begins_with(b"<?xml", s) {
-        return match declaration_at(m, s) {
-            Begin::From(n) => Begin::From(m + n),
-            Begin::Misdeclared(p) => Begin::Misdeclared(p),
-        };
+        let n = declaration_at(m, s)?;
+        return Ok(m + n);
     }
-    Begin::From(m)
+    Ok(m)
 }

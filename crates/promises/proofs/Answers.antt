@@ -5,12 +5,12 @@ use mathlib.Core.List.{List}
 use mathlib.Core.Logic.{⊎_elim}
 use native.Mathlib.Omega.{arith}
 use lib.ListN.{length, take}
+use Rattle.std.specs.Prelude.{Some}
 use Rattle.lists.specs.Zeros.{zeros, padded}
 use Rattle.lists.proofs.Cases.{ltb-cases}
 use Rattle.notes.specs.declared.Note.{Note}
 use Rattle.notes.specs.Note.{groups_in, flat, numbers_for, note_of, tells_in, AllBelow}
 use Rattle.notes.specs.Reader.{note_in}
-use Rattle.notes.specs.declared.NoteRead.TheVariants.{Taken}
 use Rattle.notes.specs.declared.Shape.TheVariants.{Old, New}
 use Rattle.notes.proofs.Promises.{fits-reader, left-padded, written_back}
 use Rattle.structure.specs.Depth.{height_in, depth_of}
@@ -192,7 +192,7 @@ module _ (doc : List ℕ) (ns np na : ℕ) (shape : Shape) (nb : ℕ) where
       → (outcome.answer.note ≡ length (note_of shape (note_told outcome.answer (open_before doc outcome.answer.place))))
       × (outcome.answer.note ≤ longest shape)
       × (outcome.note ≡ padded nb (note_of shape (note_told outcome.answer (open_before doc outcome.answer.place))))
-      × (note_in (take outcome.answer.note outcome.note) ≡ Taken (tells_in shape (note_told outcome.answer (open_before doc outcome.answer.place))))
+      × (note_in (take outcome.answer.note outcome.note) ≡ Some (tells_in shape (note_told outcome.answer (open_before doc outcome.answer.place))))
   unfolding noted told answer_of note_for
   note-told h =
       let l = short shape in

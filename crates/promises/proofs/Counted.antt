@@ -9,12 +9,11 @@ use native.Mathlib.Nat.{le_refl, le_of_lt, add-zero, zero-add}
 use lib.Dec.{leb, eqb}
 use lib.ListN.{length, drop, length-drop}
 use borrow.Author.Tests.{lt-ltb, le-ltb, ne_eqb}
+use Rattle.std.specs.Prelude.{Result, Ok, Err}
 use Rattle.lists.proofs.Cases.{by_cond, bool_cases, leb-cases, ltb-cases, eqb-cases}
 use Rattle.items.specs.Parts.{span_of}
 use Rattle.items.specs.Item.{item, item_end}
 use Rattle.prolog.specs.Prolog.{begin}
-use Rattle.prolog.specs.declared.Begin.{Begin}
-use Rattle.prolog.specs.declared.Begin.TheVariants.{From, Misdeclared}
 use Rattle.structure.specs.Rows.{over_of}
 use Rattle.guideline.specs.Kinds.{kind_of, series_element}
 use Rattle.guideline.specs.Rows.{rows_of}
@@ -22,8 +21,7 @@ use Rattle.states.specs.Moves.{one_more, begun, step}
 use Rattle.states.specs.declared.State.{State}
 use Rattle.states.specs.declared.Room.{Room}
 use Rattle.states.specs.declared.Entry.{Entry}
-use Rattle.states.specs.declared.Step.{Step}
-use Rattle.states.specs.declared.Step.TheVariants.{Next, Refused}
+use Rattle.states.specs.Step.{Step, Next, Refused}
 use Rattle.reader.specs.Items.{Placed, placed, items_after, items_from}
 use Rattle.reader.specs.Rows.{used_before}
 use Rattle.reader.specs.Reading.{Tables, Out, blank, room_in, refused_at, accepted_at, ended_at, without_used, step_of, tables_after, read_items, items_read, read_after, read_into, or_blank, read_sheet}
@@ -250,9 +248,9 @@ module _ (doc : List ℕ) (ns np na : ℕ) (t : Tables) (z : ZeroPast 0 0 t) (m 
         depth = rw e (c.depth ∙ ap (λ (n : ℕ). n + start_tags (before o.found.place xs)) (first-none true) ∙ zero-add _);
       }
 
-  after-told : (b : Begin) → begin doc ≡ b → Told doc (read_after doc t b)
+  after-told : (b : Result ℕ ℕ) → begin doc ≡ b → Told doc (read_after doc t b)
   unfolding read_after items_read items_from read_items items_in items_by
-  after-told (From n) e =
+  after-told (Ok n) e =
       ⊎_elim
       (λ (y : (n ≤ length doc) × (leb n (length doc) ≡ true)).
       let l : length (drop n doc) ≡ length doc - n = length-drop n doc in
@@ -264,7 +262,7 @@ module _ (doc : List ℕ) (ns np na : ℕ) (t : Tables) (z : ZeroPast 0 0 t) (m 
       subst (λ (xs : List Placed). Told doc (read_items doc (room_in t) xs begun t)) (sym l)
       (begun-counted 0 [] _ (rw e l) (ended-counted doc small (room_in t) ns np na 0 begun t (omega arith))))
       (leb-cases n (length doc))
-  after-told (Misdeclared p) e = begun-counted p [] _ (rw e refl) (refused-counted doc small (room_in t) ns np na 2 p [] begun t (none_left p))
+  after-told (Err p) e = begun-counted p [] _ (rw e refl) (refused-counted doc small (room_in t) ns np na 2 p [] begun t (none_left p))
 
   into-told : Told doc (read_into doc t)
   unfolding read_into

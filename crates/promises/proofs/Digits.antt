@@ -7,14 +7,13 @@ use mathlib.Core.Logic.{◌⊎◌, inl, inr, ⊎_elim}
 use native.Mathlib.Omega.{arith}
 use lib.Dec.{eqb, leb, ltb}
 use borrow.Author.Tests.{leb-true, ltb-true}
+use Rattle.std.specs.Prelude.{Result, Ok, Err}
 use Rattle.lists.proofs.Cases.{bool_cases, both_true, eqb-cases, never}
 use Rattle.slices.specs.Bytes.{byte}
 use Rattle.items.specs.Item.{is_readable}
 use Rattle.items.specs.Parts.{span_of}
 use Rattle.items.specs.declared.Item.{Item}
 use Rattle.prolog.specs.Prolog.{begin}
-use Rattle.prolog.specs.declared.Begin.{Begin}
-use Rattle.prolog.specs.declared.Begin.TheVariants.{From, Misdeclared}
 use Rattle.characters.specs.References.{digit}
 use Rattle.reader.specs.Items.{Placed, items_from}
 use Rattle.digits.specs.Items.{value_in}
@@ -88,14 +87,14 @@ qty-at (x ∷ xs) p h =
     inr (b.0, qty-at xs p b.1))
     (bool_cases (cond (leb x.at p) (in_qty x.item x.rest (p - x.at)) false))
 
-unfoldable pub qty_after : List ℕ → Begin → ℕ → Bool
-qty_after doc (From n) p = qty_at (items_from doc n) p
-qty_after doc (Misdeclared q) p = false
+unfoldable pub qty_after : List ℕ → Result ℕ ℕ → ℕ → Bool
+qty_after doc (Ok n) p = qty_at (items_from doc n) p
+qty_after doc (Err q) p = false
 
-qty-after : (doc : List ℕ) (b : Begin) (p : ℕ) → qty_after doc b p ≡ true → InTagsAfter InQty doc b p
+qty-after : (doc : List ℕ) (b : Result ℕ ℕ) (p : ℕ) → qty_after doc b p ≡ true → InTagsAfter InQty doc b p
 unfolding qty_after InTagsAfter
-qty-after doc (From n) p h = qty-at (items_from doc n) p h
-qty-after doc (Misdeclared q) p h = never h
+qty-after doc (Ok n) p h = qty-at (items_from doc n) p h
+qty-after doc (Err q) p h = never h
 
 -- of a document
 pub qty-digit : (doc : List ℕ) (p : ℕ) → digit (byte doc p) ≡ true → qty_after doc (begin doc) p ≡ true → QtyDigit doc p

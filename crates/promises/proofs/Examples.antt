@@ -31,11 +31,11 @@ use Rattle.numbers.specs.Number.{number_form, at_most_nine, number_within, numbe
 use Rattle.codes.specs.Lists.{lists, codes_of, listed}
 use Rattle.forms.specs.Forms.{identification, grid_element, market_partner, resource_object, party, quarter_hour}
 use Rattle.times.specs.Calendar.{leap, month_days, real_date, days_before, leap_day, day_number, day_of}
-use Rattle.times.specs.Times.{minute_on, minute_at, is_minute, date_time, between, interval}
+use Rattle.times.specs.Times.{minute_on, minute_at, date_time, between, interval}
 use Rattle.times.specs.Sundays.{changes, march_sunday, october_sunday}
 use Rattle.times.specs.Midnight.{year_of, in_summer, start_of_day}
 use Rattle.times.specs.Periods.{cost_period, quarter_hours, delivery_day, day_period}
-use Rattle.rules.specs.Rules.{version_by, is_version, amount_by, amount, judge_interval_by, judge_interval, position_fits, judge_position_by, judge_position, judge, unless, form_refusal, type_no, direction_no, code_no, period_fits, judge_period_by, judge_period}
+use Rattle.rules.specs.Rules.{is_version, amount, judge_interval_by, judge_interval, position_fits, judge_position_by, judge_position, judge, unless, form_refusal, type_no, direction_no, code_no, period_fits, judge_period_by, judge_period}
 use Rattle.elements.specs.Names.{names, number_in, element_no}
 use Rattle.structure.specs.Rows.{name_of, parent_of, required, repeated, next_in, ends_in, start_of, end_at, end_of, ends_at_once, closes_document, over_of}
 use Rattle.structure.specs.Depth.{height_in, depth_of}
@@ -111,8 +111,8 @@ unfolding byte run same begins walk seq_len control single char_at met char_of s
     capital_or_digit first_three digit takes fits_of shown_number number_at space drop_lead keep_end drop_trail dropped lead_after lead_of kept_from kept_after kept_bytes cut_trail trimmed_of digits number_from nothing_after
     only_digits minus unsigned fraction_form unsigned_form written_amount filled thousandths signed amount_of number_form at_most_nine number_within count_of
     lists codes_of listed held identification grid_element market_partner resource_object quarter_hour leap month_days real_date days_before leap_day
-    day_number day_of minute_on minute_at is_minute date_time between interval cost_period quarter_hours changes march_sunday
-    october_sunday year_of in_summer start_of_day delivery_day day_period version_by is_version amount_by
+    day_number day_of minute_on minute_at date_time between interval cost_period quarter_hours changes march_sunday
+    october_sunday year_of in_summer start_of_day delivery_day day_period is_version
     amount judge_interval_by judge_interval position_fits judge_position_by judge_position judge unless form_refusal type_no direction_no code_no period_fits judge_period_by
     judge_period names number_in element_no name_of parent_of required repeated next_in ends_in start_of end_at end_of ends_at_once closes_document over_of
     collapsed form_of scheme_of role_of no_demands message_alone version_and_release no_kind kind_one kind_two kind_three kind_at fixed_one fixed_two fixed_three fixed_for within_most takes_another kind_of has_enough beschaffungsanforderung kostenblatt network_constraint_document rows_of said_in scheme_refusal least

@@ -9,12 +9,12 @@ use native.Mathlib.Omega.{arith}
 use lib.Dec.{leb, ltb, eqb}
 use lib.ListN.{length, get_or}
 use borrow.Author.Tests.{lt-leb, ne_eqb, eqb-true, leb-true, ltb-true, not-true}
+use Rattle.std.specs.Prelude.{Some, None}
 use Rattle.lists.proofs.Cases.{bool_cases, leb-cases, eqb-cases, both_true, zero-not-one}
 use Rattle.slices.specs.Same.{same}
 use Rattle.elements.specs.Names.{names, number_in, element_no}
 use Rattle.structure.specs.Rows.{name_of, parent_of, start_of, end_of}
 use Rattle.structure.specs.Means.{NextIn}
-use Rattle.structure.specs.declared.Due.TheVariants.{Row, NotDue}
 use Rattle.structure.proofs.Means.{start-means, end-means}
 use Rattle.columns.specs.Columns.{role_of, series_role, interval_role, object_role, business_role, series_id_role, pos_role, qty_role, direction_role, area_role}
 use Rattle.guideline.specs.Kinds.{is_kind, series_element}
@@ -38,7 +38,7 @@ pub record Mark (t : List ℕ) (m role : ℕ) (brings : ℕ → Bool) : Type 0 w
 
 module _ (t : List ℕ) (root : Rooted t) (r x q : ℕ) where
   -- what an end tag closes is not after the last row that was started
-  pub end_back : (o : Bool) → end_of t r o x ≡ Row q → q ≤ r
+  pub end_back : (o : Bool) → end_of t r o x ≡ Some q → q ≤ r
   end_back true e = let d = end-means t r x q true e in omega (arith, d.innermost)
   end_back false e =
       let d = end-means t r x q false e in
@@ -51,14 +51,14 @@ module _ (t : List ℕ) (root : Rooted t) (r x q : ℕ) where
       (eqb-cases r 0)
 
   -- it bears the tag's name
-  pub due-named : (o : Bool) → start_of t r o x ≡ Row q → name_of (get_or t q 0) ≡ x
+  pub due-named : (o : Bool) → start_of t r o x ≡ Some q → name_of (get_or t q 0) ≡ x
   due-named true e = (start-means t r x q true e).1.named
   due-named false e =
       let d = start-means t r x q false e in
       ⊎_elim (λ g. ap (λ (k : ℕ). name_of (get_or t k 0)) g.itself ∙ g.named) (λ g. g.1.named) d.1
 
   -- a row that is due is one of the table
-  pub due-within : (o : Bool) → start_of t r o x ≡ Row q → q < length t
+  pub due-within : (o : Bool) → start_of t r o x ≡ Some q → q < length t
   due-within true e = (start-means t r x q true e).1.within
   due-within false e =
       let d = start-means t r x q false e in
@@ -73,7 +73,7 @@ module _ (t : List ℕ) (root : Rooted t) (r x q : ℕ) where
         (leb-cases q m)
 
     -- from a row before the mark the next is not past it
-    pub climb : (o : Bool) → start_of t r o x ≡ Row q → q ≤ m
+    pub climb : (o : Bool) → start_of t r o x ≡ Some q → q ≤ m
     climb true e = let d = start-means t r x q true e in next-climb r (λ l. omega arith) d.1
     climb false e =
         let d = start-means t r x q false e in
@@ -94,7 +94,7 @@ module _ (t : List ℕ) (root : Rooted t) (r x q : ℕ) where
         d.1
 
 -- of a count that rises at the mark: past the mark it is not 0
-pub counted : (t : List ℕ) → Rooted t → (m role : ℕ) (brings : ℕ → Bool) → Mark t m role brings → (r x q : ℕ) (o : Bool) → start_of t r o x ≡ Row q
+pub counted : (t : List ℕ) → Rooted t → (m role : ℕ) (brings : ℕ → Bool) → Mark t m role brings → (r x q : ℕ) (o : Bool) → start_of t r o x ≡ Some q
     → (n n' : ℕ) → (m ≤ r → 1 ≤ n) → n ≤ n' → (role_of (get_or t q 0) ≡ role → 1 ≤ n') → m ≤ q → 1 ≤ n'
 counted t root m role brings mark r x q o e n n' f u g l =
     ⊎_elim
@@ -217,16 +217,16 @@ table kind known =
     }
 
 -- a tag is due by the rows of a kind alone
-pub due-known : (kind r : ℕ) (o : Bool) (x q : ℕ) → start_of (rows_of kind) r o x ≡ Row q → is_kind kind ≡ true
+pub due-known : (kind r : ℕ) (o : Bool) (x q : ℕ) → start_of (rows_of kind) r o x ≡ Some q → is_kind kind ≡ true
 due-known kind r o x q e =
     ⊎_elim
     (λ y. y)
-    (λ y. let z : NotDue ≡ Row q = sym (no_start kind y r o x) ∙ e in absurd (zero-not-one (cc)))
+    (λ y. let z : None ≡ Some q = sym (no_start kind y r o x) ∙ e in absurd (zero-not-one (cc)))
     (bool_cases (is_kind kind))
 
-pub end_known : (kind r : ℕ) (o : Bool) (x q : ℕ) → end_of (rows_of kind) r o x ≡ Row q → is_kind kind ≡ true
+pub end_known : (kind r : ℕ) (o : Bool) (x q : ℕ) → end_of (rows_of kind) r o x ≡ Some q → is_kind kind ≡ true
 end_known kind r o x q e =
     ⊎_elim
     (λ y. y)
-    (λ y. let z : NotDue ≡ Row q = sym (no_end kind y r o x) ∙ e in absurd (zero-not-one (cc)))
+    (λ y. let z : None ≡ Some q = sym (no_end kind y r o x) ∙ e in absurd (zero-not-one (cc)))
     (bool_cases (is_kind kind))

@@ -8,14 +8,13 @@ use native.Mathlib.Omega.{arith}
 use lib.Dec.{eqb}
 use lib.ListN.{length, get_or}
 use borrow.Author.Tests.{leb-true}
+use Rattle.std.specs.Prelude.{Option, Some, None}
 use Rattle.lists.proofs.Cases.{by_cond, bool_cases, eqb-cases, never}
 use Rattle.slices.specs.Same.{same}
 use Rattle.slices.specs.Part.{part_of}
 use Rattle.elements.specs.Names.{names, number_in, element_no}
 use Rattle.structure.specs.Rows.{parent_of, start_of, end_of, over_of}
 use Rattle.structure.specs.Depth.{height_in, depth_of}
-use Rattle.structure.specs.declared.Due.{Due}
-use Rattle.structure.specs.declared.Due.TheVariants.{Row, NotDue}
 use Rattle.structure.proofs.Depths.{start-shut, start-open, end-one, over_none, none_open}
 use Rattle.guideline.specs.Rows.{rows_of}
 use Rattle.guideline.specs.Kinds.{is_kind}
@@ -24,13 +23,12 @@ use Rattle.guideline.proofs.Roots.{not-over}
 use Rattle.items.specs.declared.Tag.{Tag}
 use Rattle.items.specs.declared.Item.{Item}
 use Rattle.items.specs.declared.Item.TheVariants.{Start, Empty, End, Text, Comment, Unreadable}
-use Rattle.rules.specs.declared.Judged.{Judged}
+use Rattle.rules.specs.Judged.{Judged}
 use Rattle.states.specs.Constraints.{noticed}
 use Rattle.states.specs.Moves.{at_row, entered, start_judged, started_by, started_at, started, closed_at, end_refusal, after_end_at, after_end, moved, root_kind, kind_told, step}
 use Rattle.states.specs.declared.State.{State}
 use Rattle.states.specs.declared.Room.{Room}
-use Rattle.states.specs.declared.Step.{Step}
-use Rattle.states.specs.declared.Step.TheVariants.{Next, Refused}
+use Rattle.states.specs.Step.{Step, Next, Refused}
 use Rattle.promises.specs.Items.{opens_in, shuts_in}
 use Rattle.promises.proofs.Marks.{due-known, end_known}
 use Rattle.promises.proofs.Steps.{Sound, kept-keeps}
@@ -81,12 +79,12 @@ module _ (x : State) (kind : ℕ) where
   here = depth_of rows x.row x.inside
 
   -- the kind is that of the state, or the item tells it
-  here-is : (kind ≡ x.kind) ⊎ (x.kind ≡ 0) → (x.kind ≡ 0 → x.row ≡ 0) → (name r : ℕ) → start_of rows x.row x.inside name ≡ Row r → here ≡ depth_at x
+  here-is : (kind ≡ x.kind) ⊎ (x.kind ≡ 0) → (x.kind ≡ 0 → x.row ≡ 0) → (name r : ℕ) → start_of rows x.row x.inside name ≡ Some r → here ≡ depth_at x
   here-is w f name r e =
       ⊎_elim
       (λ k. ap (λ (n : ℕ). depth_of (rows_of n) x.row x.inside) k)
       (λ z.
-      let q : start_of rows 0 x.inside name ≡ Row r = rw (f z) at e in
+      let q : start_of rows 0 x.inside name ≡ Some r = rw (f z) at e in
       ap (λ (n : ℕ). depth_of rows n x.inside) (f z)
       ∙ none_open rows (deep kind (due-known kind 0 x.inside name r q)) name r x.inside q
       ∙ sym (rw (f z, z) (first-none x.inside)))
@@ -100,30 +98,30 @@ module _ (x : State) (kind : ℕ) where
       rw (k.kind, k.row, k.inside) refl
 
   module _ (w : (kind ≡ x.kind) ⊎ (x.kind ≡ 0)) (f : x.kind ≡ 0 → x.row ≡ 0) (t : Tag) (s : List ℕ) (room : Room) where
-    open_at : (name : ℕ) (d : Due) → start_of rows x.row x.inside name ≡ d → Deepens (Start t) x (started_at x kind rows t s false room d)
+    open_at : (name : ℕ) (d : Option ℕ) → start_of rows x.row x.inside name ≡ d → Deepens (Start t) x (started_at x kind rows t s false room d)
     unfolding started_at started_by opens_in shuts_in
-    open_at name NotDue e = tt
-    open_at name (Row r) e =
+    open_at name None e = tt
+    open_at name (Some r) e =
         let j = start_judged x kind rows r t s false room in
         let p = entered-depth r j true in
         let q = start-open rows (deep kind (due-known kind x.row x.inside name r e)) x.row name r x.inside e in
         let h = here-is w f name r e in
         by_cond (Deepens (Start t) x) (eqb j.number 0) (omega arith) tt
 
-    shut_at : (name : ℕ) (d : Due) → start_of rows x.row x.inside name ≡ d → Deepens (Empty t) x (started_at x kind rows t s true room d)
+    shut_at : (name : ℕ) (d : Option ℕ) → start_of rows x.row x.inside name ≡ d → Deepens (Empty t) x (started_at x kind rows t s true room d)
     unfolding started_at started_by opens_in shuts_in
-    shut_at name NotDue e = tt
-    shut_at name (Row r) e =
+    shut_at name None e = tt
+    shut_at name (Some r) e =
         let j = start_judged x kind rows r t s true room in
         let p = entered-depth r j false in
         let q = start-shut rows (deep kind (due-known kind x.row x.inside name r e)) x.row name r x.inside e in
         let h = here-is w f name r e in
         by_cond (Deepens (Empty t) x) (eqb j.number 0) (omega arith) tt
 
-  end-at : (k : kind ≡ x.kind) (n e : ℕ) (name : ℕ) → (name ≡ 255 → ⊥) → (d : Due) → end_of rows x.row x.inside name ≡ d → Deepens (End n e) x (after_end_at x rows d)
+  end-at : (k : kind ≡ x.kind) (n e : ℕ) (name : ℕ) → (name ≡ 255 → ⊥) → (d : Option ℕ) → end_of rows x.row x.inside name ≡ d → Deepens (End n e) x (after_end_at x rows d)
   unfolding after_end_at closed_at opens_in shuts_in
-  end-at k n e name f NotDue q = tt
-  end-at k n e name f (Row r) q =
+  end-at k n e name f None q = tt
+  end-at k n e name f (Some r) q =
       let z = end-one rows (deep kind (end_known kind x.row x.inside name r q)) x.row name r x.inside q f in
       let a : here ≡ depth_at x = ap (λ (m : ℕ). depth_of (rows_of m) x.row x.inside) k in
       let b : depth_of rows r false ≡ depth_at (closed_at x r) = ap (λ (m : ℕ). depth_of (rows_of m) r false) k in

@@ -7,19 +7,17 @@ use mathlib.Core.Logic.{◌⊎◌, inl, inr, ⊎_elim}
 use lib.Dec.{eqb}
 use lib.ListN.{length, drop}
 use borrow.Author.Tests.{eq-eqb, le-ltb}
+use Rattle.std.specs.Prelude.{Result, Ok, Err}
 use Rattle.lists.proofs.Cases.{by_cond}
 use Rattle.items.specs.Item.{item, item_end}
 use Rattle.prolog.specs.Prolog.{begin}
-use Rattle.prolog.specs.declared.Begin.{Begin}
-use Rattle.prolog.specs.declared.Begin.TheVariants.{From, Misdeclared}
 use Rattle.structure.specs.Rows.{over_of}
 use Rattle.guideline.specs.Rows.{rows_of}
 use Rattle.states.specs.Moves.{begun}
 use Rattle.states.specs.declared.State.{State}
 use Rattle.states.specs.declared.Room.{Room}
 use Rattle.states.specs.declared.Entry.{Entry}
-use Rattle.states.specs.declared.Step.{Step}
-use Rattle.states.specs.declared.Step.TheVariants.{Next, Refused}
+use Rattle.states.specs.Step.{Step, Next, Refused}
 use Rattle.reader.specs.Items.{Placed, placed, items_after, items_from}
 use Rattle.reader.specs.Reading.{Tables, Out, blank, room_in, refused_at, accepted_at, ended_at, step_of, tables_after, read_items, items_read, read_after, read_into, or_blank, read_sheet}
 use Rattle.reader.proofs.Ran.{read_next, read-stop}
@@ -69,11 +67,11 @@ module _ (doc : List ℕ) (room : Room) where
       let n = pred (item_end (item at (c ∷ l))) in
       turn-here p (items_after n (suc at) l) st t (λ y e. items-here n (suc at) l y (tables_after p y e t)) (step_of doc t.series room p st) refl
 
-after-here : (doc : List ℕ) (t : Tables) (b : Begin) → begin doc ≡ b → PlaceOf doc (read_after doc t b).found.place
+after-here : (doc : List ℕ) (t : Tables) (b : Result ℕ ℕ) → begin doc ≡ b → PlaceOf doc (read_after doc t b).found.place
 unfolding read_after items_read items_from items_in items_by refused_at
-after-here doc t (From n) e =
+after-here doc t (Ok n) e =
     rw e (⊎_elim (λ h. inl h) (λ h. inr (inl h)) (items-here doc (room_in t) 0 n (drop n doc) begun t))
-after-here doc t (Misdeclared p) e = inr (inr e)
+after-here doc t (Err p) e = inr (inr e)
 
 pub sheet-here : (doc : List ℕ) (ns np na : ℕ) → length doc ≤ 1048576 → PlaceOf doc (read_sheet doc ns np na).found.place
 unfolding read_sheet or_blank read_into

@@ -8,20 +8,20 @@ use mathlib.Core.Logic.{◌⊎◌}
 use mathlib.Core.Bool.{Bool, true, false}
 use lib.IntN.{ℤ, pos}
 use lib.ListN.{length, take, drop, get_or}
+use Rattle.std.specs.Prelude.{Some}
 use Rattle.slices.specs.Text.{text}
 use Rattle.lists.specs.Zeros.{zeros, padded}
 use Rattle.attributes.specs.Attribute.{quote}
 use Rattle.notes.specs.Note.{note_of, tells_in}
 use Rattle.notes.specs.Reader.{note_in}
 use Rattle.notes.specs.declared.Shape.TheVariants.{Old}
-use Rattle.notes.specs.declared.NoteRead.TheVariants.{Taken}
 use Rattle.notes.specs.declared.Shape.{Shape}
 use Rattle.items.specs.Item.{item_refusal}
 use Rattle.items.specs.declared.Item.{Item}
 use Rattle.states.specs.Moves.{step}
 use Rattle.states.specs.declared.State.{State}
 use Rattle.states.specs.declared.Room.{Room}
-use Rattle.states.specs.declared.Step.TheVariants.{Refused}
+use Rattle.states.specs.Step.{Refused}
 use Rattle.reader.specs.Reading.{blank, room_of}
 use Rattle.reader.specs.Answer.{Outcome, read_of, Permitted}
 use Rattle.reader.specs.declared.Answer.{Answer}
@@ -144,7 +144,7 @@ module _ (doc : List ℕ) (ns np na : ℕ) (shape : Shape) (nb : ℕ) where
       → (outcome.answer.note ≡ length (note_of shape (note_told outcome.answer (open_before doc outcome.answer.place))))
       × (outcome.answer.note ≤ longest shape)
       × (outcome.note ≡ padded nb (note_of shape (note_told outcome.answer (open_before doc outcome.answer.place))))
-      × (note_in (take outcome.answer.note outcome.note) ≡ Taken (tells_in shape (note_told outcome.answer (open_before doc outcome.answer.place))))
+      × (note_in (take outcome.answer.note outcome.note) ≡ Some (tells_in shape (note_told outcome.answer (open_before doc outcome.answer.place))))
   note-of-answer = note-told doc ns np na shape nb
 
   -- no more end tags than start tags stand before the place, so that the one less the other is a count; "on acceptance 0"

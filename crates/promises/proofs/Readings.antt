@@ -9,14 +9,13 @@ use native.Mathlib.Nat.{le_refl, le_of_lt}
 use lib.Dec.{leb, eqb}
 use lib.ListN.{length, take, drop, length-drop, length-take}
 use borrow.Author.Tests.{lt-ltb, ne_eqb}
+use Rattle.std.specs.Prelude.{Result, Ok, Err}
 use Rattle.lists.proofs.Cases.{by_cond, leb-cases, ltb-cases}
 use Rattle.slices.specs.Same.{same, begins}
 use Rattle.slices.proofs.Sames.{sames-long}
 use Rattle.items.specs.Parts.{span_of}
 use Rattle.items.specs.Item.{item, item_end}
 use Rattle.prolog.specs.Prolog.{mark_len, begin}
-use Rattle.prolog.specs.declared.Begin.{Begin}
-use Rattle.prolog.specs.declared.Begin.TheVariants.{From, Misdeclared}
 use Rattle.prolog.proofs.Promises.{refused-at}
 use Rattle.structure.specs.Rows.{over_of}
 use Rattle.structure.proofs.Depths.{depth_le}
@@ -25,8 +24,7 @@ use Rattle.states.specs.Moves.{begun, step}
 use Rattle.states.specs.declared.State.{State}
 use Rattle.states.specs.declared.Room.{Room}
 use Rattle.states.specs.declared.Entry.{Entry}
-use Rattle.states.specs.declared.Step.{Step}
-use Rattle.states.specs.declared.Step.TheVariants.{Next, Refused}
+use Rattle.states.specs.Step.{Step, Next, Refused}
 use Rattle.reader.specs.Items.{Placed, placed, items_after, items_from}
 use Rattle.reader.specs.Rows.{used_before}
 use Rattle.reader.specs.Reading.{Tables, Out, blank, room_of, room_in, refused_at, accepted_at, ended_at, without_used, step_of, tables_after, read_items, items_read, read_after, read_into, or_blank, read_sheet}
@@ -197,9 +195,9 @@ module _ (doc : List ℕ) (ns np na : ℕ) (t : Tables) (z : ZeroPast 0 0 t) (m 
         sized = m;
       }
 
-  after-fine : (b : Begin) → begin doc ≡ b → Fine doc (room_in t) ns np na (read_after doc t b)
+  after-fine : (b : Result ℕ ℕ) → begin doc ≡ b → Fine doc (room_in t) ns np na (read_after doc t b)
   unfolding read_after items_read items_from read_items
-  after-fine (From n) e =
+  after-fine (Ok n) e =
       ⊎_elim
       (λ (y : (n ≤ length doc) × (leb n (length doc) ≡ true)).
       let l : length (drop n doc) ≡ length doc - n = length-drop n doc in
@@ -209,7 +207,7 @@ module _ (doc : List ℕ) (ns np na : ℕ) (t : Tables) (z : ZeroPast 0 0 t) (m 
       subst (λ (xs : List Placed). Fine doc (room_in t) ns np na (read_items doc (room_in t) xs begun t)) (sym l)
       (ended-fine doc (room_in t) ns np na 0 begun t (begun-held 0 (omega arith))))
       (leb-cases n (length doc))
-  after-fine (Misdeclared p) e =
+  after-fine (Err p) e =
       let h : p ≤ length doc = rw (refused-at doc p e) (mark-within doc) in
       refused-fine doc (room_in t) ns np na 0 begun t (begun-held 0 (omega arith)) 2 p h (λ q. omega arith) refl
 

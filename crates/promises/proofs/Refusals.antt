@@ -13,16 +13,13 @@ use Rattle.trims.specs.Trim.{dropped}
 use Rattle.codes.specs.Lists.{listed, codes_of}
 use Rattle.forms.specs.Forms.{quarter_hour}
 use Rattle.times.specs.Times.{interval}
-use Rattle.times.specs.declared.Interval.{Interval}
-use Rattle.times.specs.declared.Interval.TheVariants.{Minutes, NotInterval}
+use Rattle.std.specs.Prelude.{Option, Some, None}
 use Rattle.numbers.specs.Number.{number_of}
-use Rattle.numbers.specs.declared.Number.{Number}
-use Rattle.numbers.specs.declared.Number.TheVariants.{Is, NotNumber}
 use Rattle.columns.specs.Columns.{form_of, scheme_of, role_of}
 use Rattle.guideline.specs.Kinds.{kind_at, has_enough}
 use Rattle.rules.specs.Rules.{unless, form_refusal, period_fits, judge_period_by, judge_period, judge_interval_by, judge_interval, position_fits, judge_position_by, judge_position, judge}
 use Rattle.rules.specs.declared.Held.{Held}
-use Rattle.rules.specs.declared.Judged.{Judged}
+use Rattle.rules.specs.Judged.{Judged}
 use Rattle.items.specs.Item.{item_refusal}
 use Rattle.items.specs.declared.Item.{Item}
 use Rattle.items.specs.declared.Item.TheVariants.{Start, Empty, End, Text, Comment, Unreadable}
@@ -33,7 +30,7 @@ use Rattle.states.specs.Moves.{held_of, cut_short, too_many, no_room, half_origi
 use Rattle.states.specs.Constraints.{lacking}
 use Rattle.states.specs.declared.State.{State}
 use Rattle.states.specs.declared.Room.{Room}
-use Rattle.states.specs.declared.Step.TheVariants.{Refused}
+use Rattle.states.specs.Step.{Refused}
 
 -- 0, which is none, or 2 to 9
 abbrev pub given : ℕ → Bool
@@ -70,20 +67,20 @@ form-given form cs =
     (by_cond Given (eqb form 13) (unless-given 6 _ refl)
     (by_cond Given (leb 32 form) (unless-given 7 _ refl) refl)))))))))
 
-period-given : (kind : ℕ) (i : Interval) → GivenBy (judge_period_by kind i)
+period-given : (kind : ℕ) (i : Option (ℕ × ℕ)) → GivenBy (judge_period_by kind i)
 unfolding judge_period_by
-period-given kind (Minutes from to) = by_cond GivenBy (period_fits kind from to) refl refl
-period-given kind NotInterval = refl
+period-given kind (Some (from, to)) = by_cond GivenBy (period_fits kind from to) refl refl
+period-given kind None = refl
 
-interval-given : (from to : ℕ) (i : Interval) → GivenBy (judge_interval_by from to i)
+interval-given : (from to : ℕ) (i : Option (ℕ × ℕ)) → GivenBy (judge_interval_by from to i)
 unfolding judge_interval_by
-interval-given from to (Minutes a b) = by_cond GivenBy (eqb a from) (by_cond GivenBy (eqb b to) refl refl) refl
-interval-given from to NotInterval = refl
+interval-given from to (Some (a, b)) = by_cond GivenBy (eqb a from) (by_cond GivenBy (eqb b to) refl refl) refl
+interval-given from to None = refl
 
-position-given : (kind quarters last : ℕ) (n : Number) → GivenBy (judge_position_by kind quarters last n)
+position-given : (kind quarters last : ℕ) (n : Option ℕ) → GivenBy (judge_position_by kind quarters last n)
 unfolding judge_position_by
-position-given kind quarters last (Is p) = by_cond GivenBy (position_fits kind quarters last p) refl refl
-position-given kind quarters last NotNumber = refl
+position-given kind quarters last (Some p) = by_cond GivenBy (position_fits kind quarters last p) refl refl
+position-given kind quarters last None = refl
 
 judge-given : (form : ℕ) (h : Held) (cs : List ℕ) → GivenBy (judge form h cs)
 unfolding judge judge_period judge_interval judge_position

@@ -6,13 +6,12 @@ use mathlib.Core.Bool.{Bool, true, false, cond, not}
 use mathlib.Core.Logic.{⊎_elim}
 use lib.Dec.{eqb}
 use lib.ListN.{get_or, length}
+use Rattle.std.specs.Prelude.{Option, Some, None}
 use Rattle.lists.proofs.Cases.{by_cond, bool_cases, eqb-cases}
 use Rattle.slices.specs.Same.{same}
 use Rattle.slices.specs.Part.{part_of}
 use Rattle.elements.specs.Names.{names, number_in, element_no}
 use Rattle.structure.specs.Rows.{name_of, start_of, end_of}
-use Rattle.structure.specs.declared.Due.{Due}
-use Rattle.structure.specs.declared.Due.TheVariants.{Row, NotDue}
 use Rattle.columns.specs.Columns.{form_of, role_of}
 use Rattle.guideline.specs.Kinds.{kind_one, kind_two, kind_three, kind_of, series_element}
 use Rattle.guideline.specs.Rows.{rows_of}
@@ -20,13 +19,12 @@ use Rattle.guideline.proofs.Each.{kind-some}
 use Rattle.items.specs.declared.Tag.{Tag}
 use Rattle.items.specs.declared.Item.{Item}
 use Rattle.items.specs.declared.Item.TheVariants.{Start, Empty, End, Text, Comment, Unreadable}
-use Rattle.rules.specs.declared.Judged.{Judged}
+use Rattle.rules.specs.Judged.{Judged}
 use Rattle.states.specs.Moves.{one_more, at_row, one_series, one_interval, one_original, last_pos, covering, kept, entered, start_judged, started_by, started_at, started, closed_at, end_refusal, after_end_at, after_end, moved, root_kind, kind_told, step}
 use Rattle.states.specs.Constraints.{noticed}
 use Rattle.states.specs.declared.State.{State}
 use Rattle.states.specs.declared.Room.{Room}
-use Rattle.states.specs.declared.Step.{Step}
-use Rattle.states.specs.declared.Step.TheVariants.{Next, Refused}
+use Rattle.states.specs.Step.{Step, Next, Refused}
 use Rattle.promises.specs.Items.{started_in, interval_element}
 use Rattle.promises.proofs.Marks.{due-within, due-named, table, due-known}
 use Rattle.promises.proofs.Steps.{by_eqb, kept-keeps}
@@ -104,7 +102,7 @@ module _ (x : State) (kind : ℕ) where
   abbrev rows : List ℕ
   rows = rows_of kind
 
-  entered-raises : (r name : ℕ) → start_of rows x.row x.inside name ≡ Row r → kind ≡ kind_after name x.kind
+  entered-raises : (r name : ℕ) → start_of rows x.row x.inside name ≡ Some r → kind ≡ kind_after name x.kind
       → (j : Judged) (within : Bool) → Raised name x (entered x kind r (get_or rows r 0) j within)
   unfolding entered at_row
   entered-raises r name e told j within =
@@ -125,10 +123,10 @@ module _ (x : State) (kind : ℕ) where
       }
 
   module _ (name : ℕ) (t : Tag) (s : List ℕ) (empty : Bool) (room : Room) (told : kind ≡ kind_after name x.kind) where
-    started-at : (d : Due) → start_of rows x.row x.inside name ≡ d → Raises name x (started_at x kind rows t s empty room d)
+    started-at : (d : Option ℕ) → start_of rows x.row x.inside name ≡ d → Raises name x (started_at x kind rows t s empty room d)
     unfolding started_at started_by
-    started-at NotDue e = tt
-    started-at (Row r) e =
+    started-at None e = tt
+    started-at (Some r) e =
         let j = start_judged x kind rows r t s empty room in
         by_cond (Raises name x) (eqb j.number 0) (entered-raises r name e told j (not empty)) tt
 
@@ -136,10 +134,10 @@ module _ (x : State) (kind : ℕ) where
     unfolding started
     started-raises = started-at (start_of rows x.row x.inside name) refl
 
-  ended-at : (d : Due) → Raises 0 x (after_end_at x rows d)
+  ended-at : (d : Option ℕ) → Raises 0 x (after_end_at x rows d)
   unfolding after_end_at closed_at
-  ended-at NotDue = tt
-  ended-at (Row r) = by_cond (Raises 0 x) (eqb (end_refusal x rows r) 0) (unraised x (closed_at x r) refl refl refl) tt
+  ended-at None = tt
+  ended-at (Some r) = by_cond (Raises 0 x) (eqb (end_refusal x rows r) 0) (unraised x (closed_at x r) refl refl refl) tt
 
   moved-raises : (item : Item) (s : List ℕ) (room : Room) → kind ≡ kind_after (started_in item s) x.kind
       → Raises (started_in item s) x (moved x kind rows item s room)

@@ -8,12 +8,11 @@ use native.Mathlib.Omega.{arith}
 use native.Mathlib.Nat.{le_refl}
 use lib.Dec.{ltb, eqb}
 use lib.ListN.{get_or, length}
+use Rattle.std.specs.Prelude.{Option, Some, None}
 use Rattle.lists.proofs.Cases.{by_cond, leb-cases, eqb-cases, ltb-cases, never}
 use Rattle.slices.specs.Part.{part_of}
 use Rattle.elements.specs.Names.{element_no}
 use Rattle.structure.specs.Rows.{start_of, end_of}
-use Rattle.structure.specs.declared.Due.{Due}
-use Rattle.structure.specs.declared.Due.TheVariants.{Row, NotDue}
 use Rattle.columns.specs.Columns.{form_of, role_of, series_role, interval_role, object_role, business_role, series_id_role, pos_role, qty_role, direction_role, area_role}
 use Rattle.guideline.specs.Kinds.{kind_one, kind_two, kind_three, is_kind, kind_of}
 use Rattle.guideline.specs.Rows.{rows_of}
@@ -21,15 +20,14 @@ use Rattle.guideline.proofs.Each.{kind-some, row_with}
 use Rattle.items.specs.declared.Tag.{Tag}
 use Rattle.items.specs.declared.Item.{Item}
 use Rattle.items.specs.declared.Item.TheVariants.{Start, Empty, End, Text, Comment, Unreadable}
-use Rattle.rules.specs.declared.Judged.{Judged}
+use Rattle.rules.specs.Judged.{Judged}
 use Rattle.states.specs.Moves.{one_more, begun, at_row, one_series, one_interval, one_original, last_pos, covering, kept, entered, entry_of, start_judged, started_by, started_at, started, closed_at, end_refusal, after_end_at, after_end, moved, root_kind, kind_told, step}
 use Rattle.states.specs.Constraints.{noticed}
 use Rattle.states.specs.declared.State.{State}
 use Rattle.states.specs.declared.Room.{Room}
 use Rattle.states.specs.declared.Entry.{Entry}
 use Rattle.states.specs.declared.Entry.TheVariants.{Nothing, Series, Identification, Object, BusinessType, Direction, Area, Interval, Position, Amount}
-use Rattle.states.specs.declared.Step.{Step}
-use Rattle.states.specs.declared.Step.TheVariants.{Next, Refused}
+use Rattle.states.specs.Step.{Step, Next, Refused}
 use Rattle.states.proofs.Judgements.{judged-passed, series-room, interval-room}
 use Rattle.promises.proofs.Refusals.{Given, start-given, end-given}
 use Rattle.promises.proofs.Marks.{due-within, end_back, counted, for_series, for_interval, series_row, interval_row, table, due-known, end_known}
@@ -183,7 +181,7 @@ module _ (x : State) (kind : ℕ) (b : Before x kind) where
   abbrev rows : List ℕ
   rows = rows_of kind
 
-  entered-steps : (r name : ℕ) → start_of rows x.row x.inside name ≡ Row r → (j : Judged) (within : Bool) (room : Room)
+  entered-steps : (r name : ℕ) → start_of rows x.row x.inside name ≡ Some r → (j : Judged) (within : Bool) (room : Room)
       → (role_of (get_or rows r 0) ≡ series_role → x.series < room.series) → (role_of (get_or rows r 0) ≡ interval_role → x.intervals < room.intervals)
       → Stepped room x (entered x kind r (get_or rows r 0) j within) (entry_of (role_of (get_or rows r 0)) j.first)
   unfolding entered at_row
@@ -225,10 +223,10 @@ module _ (x : State) (kind : ℕ) (b : Before x kind) where
       }
 
   module _ (name : ℕ) (t : Tag) (s : List ℕ) (empty : Bool) (room : Room) where
-    started-at : (d : Due) → start_of rows x.row x.inside name ≡ d → Rises room x (started_at x kind rows t s empty room d)
+    started-at : (d : Option ℕ) → start_of rows x.row x.inside name ≡ d → Rises room x (started_at x kind rows t s empty room d)
     unfolding started_at started_by
-    started-at NotDue e = (λ z. omega arith, refl)
-    started-at (Row r) e =
+    started-at None e = (λ z. omega arith, refl)
+    started-at (Some r) e =
         let j = start_judged x kind rows r t s empty room in
         ⊎_elim
         (λ y.
@@ -258,10 +256,10 @@ module _ (x : State) (kind : ℕ) (b : Before x kind) where
         housed = λ h. record { series = h.series; intervals = h.intervals };
       }
 
-  ended-at : (room : Room) (name : ℕ) (d : Due) → end_of rows x.row x.inside name ≡ d → Rises room x (after_end_at x rows d)
+  ended-at : (room : Room) (name : ℕ) (d : Option ℕ) → end_of rows x.row x.inside name ≡ d → Rises room x (after_end_at x rows d)
   unfolding after_end_at
-  ended-at room name NotDue e = (λ z. omega arith, refl)
-  ended-at room name (Row r) e =
+  ended-at room name None e = (λ z. omega arith, refl)
+  ended-at room name (Some r) e =
       let tab = table kind (end_known kind x.row x.inside name r e) in
       ⊎_elim
       (λ y. rw y.1 (closed-steps room r (end_back rows tab.rooted x.row name r x.inside e)))

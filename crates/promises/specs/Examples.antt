@@ -1,15 +1,13 @@
 -- "P1 to P12 form a single table with a single proved statement": the table, with the cases that K1 and K9 of the requests tell. `examples-pass` of proofs/Examples.antt is the statement.
-use Rattle.std.specs.Prelude.{ℕ, List, [], ◌∷◌, Bool, true, false, cond, ◌&&◌, ℤ, pos, negsuc, length, eqb}
+use Rattle.std.specs.Prelude.{ℕ, List, [], ◌∷◌, Bool, true, false, cond, ◌&&◌, ℤ, pos, negsuc, length, eqb, Option, Some, None, is_none}
 use Rattle.lists.specs.Zeros.{padded}
 use Rattle.slices.specs.Same.{same}
 use Rattle.slices.specs.Text.{text}
 use Rattle.numbers.specs.Amount.{amount_of}
-use Rattle.numbers.specs.declared.Amount.{Amount}
-use Rattle.numbers.specs.declared.Amount.TheVariants.{Thousandths, NotAmount}
 use Rattle.times.specs.Periods.{quarter_hours}
 use Rattle.columns.specs.Columns.{date_time_form}
 use Rattle.rules.specs.Rules.{form_refusal, judge_period}
-use Rattle.rules.specs.declared.Judged.{Judged}
+use Rattle.rules.specs.Judged.{Judged}
 use Rattle.states.specs.Moves.{count_refusal}
 use Rattle.series.specs.Row.{cells_of}
 use Rattle.notes.specs.declared.Shape.TheVariants.{Old, New}
@@ -79,13 +77,9 @@ same_number (pos m) (negsuc n) = false
 same_number (negsuc m) (pos n) = false
 same_number (negsuc m) (negsuc n) = eqb m n
 
-abbrev pub is_amount : Amount → ℤ → Bool
-is_amount (Thousandths a) z = same_number a z
-is_amount NotAmount z = false
-
-abbrev pub is_none : Amount → Bool
-is_none (Thousandths a) = false
-is_none NotAmount = true
+abbrev pub is_amount : Option ℤ → ℤ → Bool
+is_amount (Some a) z = same_number a z
+is_amount None z = false
 
 abbrev pub has_note : Outcome → List ℕ → Bool
 has_note o note = eqb o.answer.note (length note) && same o.note (padded 16 note)

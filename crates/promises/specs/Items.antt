@@ -1,20 +1,18 @@
 -- What the items of a document say of an answer's place and counts.
-use Rattle.std.specs.Prelude.{ℕ, suc, ◌+◌, ◌-◌, ◌≡◌, List, [], ◌∷◌, ◌⊎◌, Bool, true, false, cond, eqb, ltb, length}
+use Rattle.std.specs.Prelude.{ℕ, suc, ◌+◌, ◌-◌, ◌≡◌, List, [], ◌∷◌, ◌⊎◌, Bool, true, false, cond, eqb, ltb, length, Result, Ok, Err}
 use Rattle.slices.specs.Text.{text}
 use Rattle.slices.specs.Part.{part_of}
 use Rattle.elements.specs.Names.{element_no}
 use Rattle.guideline.specs.Kinds.{kind_of}
 use Rattle.prolog.specs.Prolog.{begin}
-use Rattle.prolog.specs.declared.Begin.{Begin}
-use Rattle.prolog.specs.declared.Begin.TheVariants.{From, Misdeclared}
 use Rattle.items.specs.declared.Item.{Item}
 use Rattle.items.specs.declared.Item.TheVariants.{Start, Empty, End, Text, Comment, Unreadable}
 use Rattle.reader.specs.Items.{Placed, items_from}
 
 -- the items of a document; none where its XML declaration is unreadable
-unfoldable pub items_by : List ℕ → Begin → List Placed
-items_by doc (From n) = items_from doc n
-items_by doc (Misdeclared p) = []
+unfoldable pub items_by : List ℕ → Result ℕ ℕ → List Placed
+items_by doc (Ok n) = items_from doc n
+items_by doc (Err p) = []
 
 unfoldable pub items_in : List ℕ → List Placed
 items_in doc = items_by doc (begin doc)
@@ -26,7 +24,7 @@ stands_at place (x ∷ xs) = let rest = stands_at place xs in cond (eqb x.at pla
 
 -- "item or length": at the length, at an item, or at the XML declaration, which is read before the items
 abbrev pub PlaceOf : List ℕ → ℕ → Type 0
-PlaceOf doc place = (place ≡ length doc) ⊎ ((stands_at place (items_in doc) ≡ true) ⊎ (begin doc ≡ Misdeclared place))
+PlaceOf doc place = (place ≡ length doc) ⊎ ((stands_at place (items_in doc) ≡ true) ⊎ (begin doc ≡ Err place))
 
 -- the number of the element that an item starts, 0 for none: "An empty tag is a start and an end in one item."
 unfoldable pub started_in : Item → List ℕ → ℕ

@@ -41,9 +41,9 @@ module _ {out₀ : List ℕ} {at : ℕ} {t out : List ℕ} {i : ℕ} (r : Ran ou
   pub ran-past : {l : List ℕ} → i < length t → length out ≤ at + i → l ≡ out → Ran out₀ at t l (i + 1)
   ran-past h g e = ran-more h (e ∙ sym (set_out out (at + i) (get_or t i 0) g))
 
-  pub ran-end : {n : ℕ} → length t ≤ i → n ≡ min (at + i) (length out + 1) → (n ≡ landed out₀ at t) × (out ≡ sets out₀ at t)
+  pub ran-end : {n : ℕ} → length t ≤ i → n ≡ min (at + length t) (length out + 1) → (n ≡ landed out₀ at t) × (out ≡ sets out₀ at t)
   unfolding landed
-  ran-end h e = (omega (arith, e, ran-same, r.most), r.all ∙ ap (sets out₀ at) (take_all i t h))
+  ran-end h e = (omega (arith, e, ran-same), r.all ∙ ap (sets out₀ at) (take_all i t h))
 
 -- a place past the last byte
 pub none-past : (x out : List ℕ) (at : ℕ) → length out < at → at ≤ length out + 1 → (at ≡ landed out at x) × (out ≡ sets out at x)

@@ -122,9 +122,8 @@ fn put_singles(
     ensures buffer { out.new ≡ sets out.old at (singles_text text.now pairs.now k (drop row rows.now)) }
 {
     let mut end = at;
-    let mut q = row;
     let mut next = k;
-    while q < rows.len() {
+    for q in row..rows.len() {
         let w = rows[q];
         if asks_v(w) {
             end = put_single(out, end, text, pairs, w, next);
@@ -134,7 +133,6 @@ fn put_singles(
         } else {
             return end;
         }
-        q += 1;
     }
     end
 }
@@ -164,11 +162,9 @@ fn put_intervals(
     ensures buffer { out.new ≡ sets out.old at (intervals_text positions.now amounts.now first count) }
 {
     let mut end = at;
-    let mut j = first as usize;
     let last = first as usize + count as usize;
-    while j < last {
+    for j in first as usize..last {
         end = put_interval(out, end, number_at(positions, j), amount_at(amounts, j));
-        j += 1;
     }
     end
 }
@@ -221,8 +217,7 @@ fn put_every_series(
 {
     let row = role_row(rows, SERIES_ROLE);
     let mut end = at;
-    let mut i: u32 = 0;
-    while i < count {
+    for i in 0..count {
         let first = field_of(series, i, Field::FirstRow);
         let n = field_of(series, i, Field::Count);
         end = put_series(
@@ -238,7 +233,6 @@ fn put_every_series(
             first,
             n,
         );
-        i += 1;
     }
     end
 }

@@ -28,14 +28,12 @@ pub(crate) fn put_bytes(out: &mut [u8], at: usize, t: &[u8]) -> usize
     ensures answer { result ≡ landed out.old at t.now }
     ensures buffer { out.new ≡ sets out.old at t.now }
 {
-    let mut i: usize = 0;
-    while i < t.len() {
+    for i in 0..t.len() {
         if at + i < out.len() {
             out[at + i] = t[i];
         }
-        i += 1;
     }
-    after(at, i, out.len())
+    after(at, t.len(), out.len())
 }
 
 pub(crate) fn put_escaped_at(out: &mut [u8], at: usize, v: &[u8]) -> usize

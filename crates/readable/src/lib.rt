@@ -5,7 +5,7 @@ ghost use Rattle.std.specs.Prelude.{◌≡◌, ◌+◌, ◌≤◌, length};
 ghost use Rattle.readable.specs.Readable.{passed_bytes, readable};
 
 use items::{Item, item_at};
-use prolog::{Begin, first_item};
+use prolog::first_item;
 use slices::rest;
 
 // How many bytes of items that can be read stand at the front of s.
@@ -43,7 +43,7 @@ pub fn lumintayag_readable_len(doc: &[u8]) -> usize
     ensures { result ≡ readable doc.now }
 {
     match first_item(doc) {
-        Begin::From(n) => n + passed_len(rest(doc, n)),
-        Begin::Misdeclared(p) => p,
+        Ok(n) => n + passed_len(rest(doc, n)),
+        Err(p) => p,
     }
 }

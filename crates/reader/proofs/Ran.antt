@@ -22,8 +22,7 @@ use Rattle.states.specs.declared.State.{State}
 use Rattle.states.specs.declared.Room.{Room}
 use Rattle.states.specs.declared.Entry.{Entry}
 use Rattle.states.specs.declared.Entry.TheVariants.{Nothing}
-use Rattle.states.specs.declared.Step.{Step}
-use Rattle.states.specs.declared.Step.TheVariants.{Next, Refused}
+use Rattle.states.specs.Step.{Step, Next, Refused}
 use Rattle.reader.specs.Items.{Placed, placed, items_after, items_from}
 use Rattle.reader.specs.Rows.{brought_by, series_with, positions_with, amounts_with, series_after, positions_after, amounts_after, used_with, used_before}
 use Rattle.reader.specs.declared.Found.{Found}

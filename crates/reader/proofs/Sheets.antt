@@ -6,11 +6,11 @@ use lib.IntN.{ℤ}
 use lib.ListN.{length}
 use borrow.Author.Rules.{rules}
 use borrow.Author.Tests.{lt-ltb, le-ltb, eq-eqb, ne_eqb}
+use Rattle.std.specs.Prelude.{Ok, Err}
 use Rattle.lists.specs.Zeros.{zeros}
 use Rattle.notes.specs.Note.{note_of, left}
 use Rattle.notes.specs.declared.Shape.{Shape}
 use Rattle.prolog.specs.Prolog.{begin}
-use Rattle.prolog.specs.declared.Begin.TheVariants.{From, Misdeclared}
 use Rattle.tables.specs.Cells.{no_amounts}
 use Rattle.states.specs.Moves.{begun}
 use Rattle.states.specs.declared.Room.{Room}
@@ -21,21 +21,21 @@ use Rattle.reader.specs.Judging.{judged_after, judged_into, judged}
 use Rattle.reader.specs.Answer.{Outcome, note_for, answer_of, told, noted, unnoted, read_of, Permitted}
 
 module _ (doc : List ℕ) (t : Tables) where
-  pub into-items : (n : ℕ) {room : Room} → room ≡ room_in t → begin doc ≡ From n → items_read doc room n t ≡ read_into doc t
+  pub into-items : (n : ℕ) {room : Room} → room ≡ room_in t → begin doc ≡ Ok n → items_read doc room n t ≡ read_into doc t
   unfolding read_into read_after
   into-items n r e = rw (r, e) refl
 
-  pub into-unread : (p : ℕ) → begin doc ≡ Misdeclared p → record { found = refused_at 2 p begun; tables = t } ≡ read_into doc t
+  pub into-unread : (p : ℕ) → begin doc ≡ Err p → record { found = refused_at 2 p begun; tables = t } ≡ read_into doc t
   unfolding read_into read_after
   into-unread p e = rw e refl
 
 -- with room that is told
 module _ (room : Room) (doc : List ℕ) where
-  pub judged-items : (t : List ℕ) (n : ℕ) → begin doc ≡ From n → (items_read doc room n (tab t (zeros 1) (no_amounts 1))).found ≡ judged_into room doc t
+  pub judged-items : (t : List ℕ) (n : ℕ) → begin doc ≡ Ok n → (items_read doc room n (tab t (zeros 1) (no_amounts 1))).found ≡ judged_into room doc t
   unfolding judged_into judged_after
   judged-items t n e = rw e refl
 
-  pub judged-unread : (t : List ℕ) (p : ℕ) → begin doc ≡ Misdeclared p → refused_at 2 p begun ≡ judged_into room doc t
+  pub judged-unread : (t : List ℕ) (p : ℕ) → begin doc ≡ Err p → refused_at 2 p begun ≡ judged_into room doc t
   unfolding judged_into judged_after
   judged-unread t p e = rw e refl
 

@@ -1,12 +1,10 @@
 -- The items from front to back: "The first item with a fault decides; where it has several, the smallest number."
-use Rattle.std.specs.Prelude.{ℕ, List, [], ◌∷◌, cond, ℤ, length, eqb, leb, ltb}
+use Rattle.std.specs.Prelude.{ℕ, List, [], ◌∷◌, cond, ℤ, length, eqb, leb, ltb, Result, Ok, Err}
 use Rattle.refusals.specs.Refusals.{no_refusal, too_long, unreadable_item, not_due, used_again}
 use Rattle.lists.specs.Zeros.{zeros}
 use Rattle.items.specs.Parts.{span_of}
 use Rattle.items.specs.declared.Item.{Item}
 use Rattle.prolog.specs.Prolog.{begin}
-use Rattle.prolog.specs.declared.Begin.{Begin}
-use Rattle.prolog.specs.declared.Begin.TheVariants.{From, Misdeclared}
 use Rattle.tables.specs.Cells.{no_amounts}
 use Rattle.series.specs.Row.{room_for}
 use Rattle.structure.specs.Rows.{over_of}
@@ -16,8 +14,7 @@ use Rattle.states.specs.Moves.{begun, step}
 use Rattle.states.specs.declared.State.{State}
 use Rattle.states.specs.declared.Room.{Room}
 use Rattle.states.specs.declared.Entry.{Entry}
-use Rattle.states.specs.declared.Step.{Step}
-use Rattle.states.specs.declared.Step.TheVariants.{Next, Refused}
+use Rattle.states.specs.Step.{Step, Next, Refused}
 use Rattle.reader.specs.Items.{Placed, items_from}
 use Rattle.reader.specs.Rows.{series_after, positions_after, amounts_after, used_before}
 use Rattle.reader.specs.declared.Found.{Found}
@@ -120,9 +117,9 @@ unfoldable pub items_read : List ℕ → Room → ℕ → Tables → Out
 items_read doc room from t = read_items doc room (items_from doc from) begun t
 
 -- from the first item on, or not at all where the XML declaration is unreadable
-unfoldable pub read_after : List ℕ → Tables → Begin → Out
-read_after doc t (From n) = items_read doc (room_in t) n t
-read_after doc t (Misdeclared p) = record { found = refused_at unreadable_item p begun; tables = t }
+unfoldable pub read_after : List ℕ → Tables → Result ℕ ℕ → Out
+read_after doc t (Ok n) = items_read doc (room_in t) n t
+read_after doc t (Err p) = record { found = refused_at unreadable_item p begun; tables = t }
 
 unfoldable pub read_into : List ℕ → Tables → Out
 read_into doc t = read_after doc t (begin doc)

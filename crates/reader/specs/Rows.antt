@@ -1,14 +1,12 @@
 -- What an item brings into the lent tables: a field of the series row, or the position or the amount of the interval row. "Intervals take one position
 -- and one amount at the same index. .. Rows come in document order."
-use Rattle.std.specs.Prelude.{ℕ, zero, suc, ◌+◌, ◌-◌, List, Bool, true, false, cond, ℤ, pos, length, set}
+use Rattle.std.specs.Prelude.{ℕ, zero, suc, ◌+◌, ◌-◌, List, Bool, true, false, cond, ℤ, pos, length, set, Option, unwrap_or}
 use Rattle.slices.specs.Same.{same}
 use Rattle.characters.specs.Says.{says}
 use Rattle.slices.specs.Part.{part_of}
 use Rattle.slices.specs.declared.Span.{Span}
 use Rattle.trims.specs.Trim.{dropped, lead_of, trimmed_of}
 use Rattle.numbers.specs.Amount.{amount_of}
-use Rattle.numbers.specs.declared.Amount.TheVariants.{Thousandths, NotAmount}
-use Rattle.numbers.specs.declared.Amount.{Amount as Read}
 use Rattle.series.specs.Row.{is_view, drops_spaces, with_field, with_view, view}
 use Rattle.series.specs.declared.Field.{Field}
 use Rattle.series.specs.declared.Field.TheVariants.{Identification, Object, BusinessType, Direction, Area, FirstRow, Count}
@@ -55,9 +53,8 @@ brought_by Interval = InRow Count
 brought_by (Position p) = AtPosition p
 brought_by Amount = AtAmount
 
-unfoldable pub thousandths_of : Read → ℤ
-thousandths_of (Thousandths a) = a
-thousandths_of NotAmount = pos 0
+unfoldable pub thousandths_of : Option ℤ → ℤ
+thousandths_of a = unwrap_or a (pos 0)
 
 -- the three tables after it
 unfoldable pub series_with : ℕ → Span → List ℕ → State → Brought → List ℕ → List ℕ

@@ -4,10 +4,12 @@
 mod rows;
 
 ghost use Rattle.std.specs.Prelude.{◌≡◌, ◌≤◌, length};
+ghost use Rattle.refusals.specs.Refusals.{number};
 ghost use Rattle.items.specs.Item.{item_end};
 ghost use Rattle.notes.specs.Note.{note_of, left};
 ghost use Rattle.guideline.specs.Rows.{rows_of};
 ghost use Rattle.states.specs.Moves.{begun, step_by};
+ghost use Rattle.states.specs.Step.{step_told};
 ghost use Rattle.items.specs.Parts.{passed};
 ghost use Rattle.reader.specs.Reading.{tab, blank_as, room_of, refused_at, accepted_at, ended_at, without_used, out, items_read, read_into, sheet_into};
 ghost use Rattle.lists.specs.Zeros.{zeros};
@@ -18,12 +20,13 @@ use guideline::{every_row, rows_of};
 use items::{Item, is_passed, item_at, item_len, span_of};
 use lists::clear_bytes;
 use notes::{Note, Shape, write_note};
-use prolog::{Begin, first_item};
-use refusals::{BUFFER_SHORT, NO_REFUSAL, NOT_DUE, TOO_LONG, UNREADABLE_ITEM, USED_AGAIN};
+use prolog::first_item;
+use refusals::{NO_REFUSAL, Refusal};
+pub use rows::quoted_of;
 use rows::{enter, is_used_before};
 use series::rows_in;
 use slices::{Span, rest};
-use states::{Room, State, Step};
+use states::{Entry, Room, State};
 use structure::{depth_after, is_over};
 use tables::{clear_amounts, clear_numbers};
 
@@ -54,6 +57,7 @@ pub struct Answer {
     pub note: usize,
 }
 
+#[tactic(auto, unfolding(crate::specs::Reading::room_of))]
 fn room_of(ns: usize, np: usize, na: usize) -> Room
     ensures { result ≡ room_of ns np na }
 {
@@ -71,13 +75,13 @@ fn room_of(ns: usize, np: usize, na: usize) -> Room
 }
 
 // `rows` are the rows of the kind. The depth is asked for here alone, so that no item costs more for it.
-fn refused_at(n: u32, place: u32, st: State, rows: &[usize]) -> Found
+fn refused_at(r: Refusal, place: u32, st: State, rows: &[usize]) -> Found
     requires { rows.now ≡ rows_of st.kind }
-    ensures { result ≡ refused_at n place st }
+    ensures { result ≡ refused_at (number r) place st }
 {
     let depth = depth_after(rows, st.row, st.inside);
     Found {
-        refusal: n,
+        refusal: r.number(),
         place,
         kind: st.kind,
         series: st.series,
@@ -90,11 +94,11 @@ fn refused_at(n: u32, place: u32, st: State, rows: &[usize]) -> Found
 }
 
 // Before the first item nothing is counted and nothing is open.
-fn refused_first(refusal: u32, place: u32) -> Found
-    ensures { result ≡ refused_at refusal place begun }
+fn refused_first(refusal: Refusal, place: u32) -> Found
+    ensures { result ≡ refused_at (number refusal) place begun }
 {
     Found {
-        refusal,
+        refusal: refusal.number(),
         place,
         kind: 0,
         series: 0,
@@ -130,7 +134,7 @@ fn ended_at(place: u32, st: State, rows: &[usize]) -> Found
     if is_over(rows, st.row, st.inside) {
         return accepted_at(place, st);
     }
-    refused_at(NOT_DUE, place, st, rows)
+    refused_at(Refusal::NotDue, place, st, rows)
 }
 
 fn clear_tables(series: &mut [u32], positions: &mut [u32], amounts: &mut [i64])
@@ -151,18 +155,14 @@ fn step_in(
     s: &[u8],
     st: State,
     rows: &[usize],
-) -> Step
-    ensures { result ≡ without_used doc.now t.now item s.now (step_by st rows.now item s.now room) }
+) -> Result<(State, Entry), Refusal>
+    ensures { step_told result ≡ without_used doc.now t.now item s.now (step_by st rows.now item s.now room) }
 {
-    match st.step(rows, item, s, room) {
-        Step::Next(next, entry) => {
-            if is_used_before(doc, t, span_of(item), s, next.series, entry) {
-                return Step::Refused(USED_AGAIN);
-            }
-            Step::Next(next, entry)
-        }
-        Step::Refused(n) => Step::Refused(n),
+    let (next, entry) = st.step(rows, item, s, room)?;
+    if is_used_before(doc, t, span_of(item), s, next.series, entry) {
+        return Err(Refusal::UsedAgain);
     }
+    Ok((next, entry))
 }
 
 // The items from the place `from` on, into tables that are blank.
@@ -185,18 +185,23 @@ fn read_items(
         let s = rest(doc, at);
         let item = item_at(at, s);
         if let Item::Unreadable(p) = item {
-            return refused_at(UNREADABLE_ITEM, p as u32, st, rows_of(&rows, st.kind));
+            return refused_at(
+                Refusal::UnreadableItem,
+                p as u32,
+                st,
+                rows_of(&rows, st.kind),
+            );
         }
         if is_passed(item) {
             at += item_len(item);
             continue;
         }
         match step_in(doc, series, room, item, s, st, &rows) {
-            Step::Next(next, entry) => {
+            Ok((next, entry)) => {
                 enter(series, positions, amounts, at, item, s, next, entry);
                 st = next;
             }
-            Step::Refused(n) => return refused_at(n, at as u32, st, rows_of(&rows, st.kind)),
+            Err(r) => return refused_at(r, at as u32, st, rows_of(&rows, st.kind)),
         }
         at += item_len(item);
     }
@@ -211,8 +216,8 @@ fn read_all(doc: &[u8], series: &mut [u32], positions: &mut [u32], amounts: &mut
 {
     let room = room_of(series.len(), positions.len(), amounts.len());
     match first_item(doc) {
-        Begin::From(n) => read_items(doc, n, room, series, positions, amounts),
-        Begin::Misdeclared(p) => refused_first(UNREADABLE_ITEM, p as u32),
+        Ok(n) => read_items(doc, n, room, series, positions, amounts),
+        Err(p) => refused_first(Refusal::UnreadableItem, p as u32),
     }
 }
 
@@ -223,7 +228,7 @@ fn read_sheet(doc: &[u8], series: &mut [u32], positions: &mut [u32], amounts: &m
 {
     clear_tables(series, positions, amounts);
     if 1048576 < doc.len() {
-        return refused_first(TOO_LONG, 0);
+        return refused_first(Refusal::TooLong, 0);
     }
     let found = read_all(doc, series, positions, amounts);
     if found.refusal == NO_REFUSAL {
@@ -241,8 +246,8 @@ fn judge_all(doc: &[u8], room: Room, series: &mut [u32]) -> Found
     let mut positions = [0u32; 1];
     let mut amounts = [0i64; 1];
     match first_item(doc) {
-        Begin::From(n) => read_items(doc, n, room, series, &mut positions, &mut amounts),
-        Begin::Misdeclared(p) => refused_first(UNREADABLE_ITEM, p as u32),
+        Ok(n) => read_items(doc, n, room, series, &mut positions, &mut amounts),
+        Err(p) => refused_first(Refusal::UnreadableItem, p as u32),
     }
 }
 
@@ -255,7 +260,7 @@ pub fn judge(doc: &[u8], room: Room, series: &mut [u32]) -> Found
 {
     clear_numbers(series);
     if 1048576 < doc.len() {
-        return refused_first(TOO_LONG, 0);
+        return refused_first(Refusal::TooLong, 0);
     }
     let found = judge_all(doc, room, series);
     clear_numbers(series);
@@ -307,7 +312,7 @@ pub fn read(
         clear_tables(series, positions, amounts);
         clear_bytes(note);
         return Answer {
-            refusal: BUFFER_SHORT,
+            refusal: Refusal::BufferShort.number(),
             place: 0,
             kind: 0,
             series: 0,

@@ -13,8 +13,8 @@ ghost use Rattle.reader.specs.Reading.{tab, tables_after};
 
 use characters::{ends_otherwise, own_end, says_same};
 use items::{Item, span_of};
-use numbers::{Amount, amount_of};
-use series::{Field, drops_spaces, is_view, set_field, set_view, view_of};
+use numbers::amount_of;
+use series::{Field, set_field, set_view, view_of};
 use slices::{Span, part};
 use states::{Entry, State, count_of};
 use tables::{set_amount, set_number};
@@ -29,6 +29,7 @@ enum Brought {
     AtAmount,
 }
 
+#[tactic(auto, unfolding(crate::specs::Rows::brought_by))]
 fn brought_by(entry: Entry) -> Brought
     ensures { result ≡ brought_by entry }
 {
@@ -46,7 +47,9 @@ fn brought_by(entry: Entry) -> Brought
     }
 }
 
-fn quoted_of(v: Span, s: &[u8]) -> &[u8]
+// The part of a tag that a value is. Ruled out: a quote taken in; the bytes of the document's start.
+#[tactic(auto, unfolding(crate::specs::Rows::quoted))]
+pub fn quoted_of(v: Span, s: &[u8]) -> &[u8]
     ensures { result.now ≡ quoted v s.now }
 {
     let start = v.start;
@@ -78,13 +81,9 @@ fn count_for(st: State, f: Field) -> u32
     ensures { result ≡ count_for st f }
 {
     match f {
-        Field::Identification => 0,
-        Field::Object => 0,
-        Field::BusinessType => 0,
-        Field::Direction => 0,
-        Field::Area => 0,
         Field::FirstRow => st.first,
         Field::Count => count_of(st.intervals, st.first),
+        _ => 0,
     }
 }
 
@@ -96,8 +95,8 @@ fn enter_field(t: &mut [u32], at: usize, v: Span, s: &[u8], st: State, f: Field)
 {
     let row = last_of(st.series);
     let from = at + v.start;
-    if is_view(f) {
-        if drops_spaces(f) {
+    if f.is_view() {
+        if f.drops_spaces() {
             set_trimmed(t, row, f, from, quoted_of(v, s));
         } else {
             set_view(t, row, f, from as u32, v.len as u32);
@@ -107,13 +106,11 @@ fn enter_field(t: &mut [u32], at: usize, v: Span, s: &[u8], st: State, f: Field)
     }
 }
 
+#[tactic(auto, unfolding(crate::specs::Rows::thousandths_of))]
 fn thousandths_of(v: &[u8]) -> i64
     ensures { result ≡ thousandths_of (amount_of (says v.now)) }
 {
-    match amount_of(v) {
-        Amount::Thousandths(a) => a,
-        Amount::NotAmount => 0,
-    }
+    amount_of(v).unwrap_or(0)
 }
 
 // What the item at the place `at` brings into the tables; st is the state after it.
@@ -165,9 +162,7 @@ fn is_used(doc: &[u8], t: &[u32], n: u32, id: &[u8]) -> bool
     ensures { result ≡ used doc.now t.now n (says id.now) }
 {
     let last = own_end(id);
-    let mut i = n;
-    while 0 < i {
-        i -= 1;
+    for i in 0..n {
         if is_shown(doc, t, i, id, last) {
             return true;
         }
@@ -176,21 +171,18 @@ fn is_used(doc: &[u8], t: &[u32], n: u32, id: &[u8]) -> bool
 }
 
 // Whether a field of the row of this many series, with v in the item, brings an identification that a series before has.
+#[tactic(auto, unfolding(crate::specs::Rows::used_in))]
 fn is_used_in(doc: &[u8], t: &[u32], v: Span, s: &[u8], series: u32, f: Field) -> bool
     ensures { result ≡ used_in doc.now t.now v s.now series f }
 {
     match f {
         Field::Identification => is_used(doc, t, last_of(series), quoted_of(v, s)),
-        Field::Object => false,
-        Field::BusinessType => false,
-        Field::Direction => false,
-        Field::Area => false,
-        Field::FirstRow => false,
-        Field::Count => false,
+        _ => false,
     }
 }
 
 // Whether the item, with v in it, brings an identification that a series before this one has.
+#[tactic(auto, unfolding(crate::specs::Rows::used_before, crate::specs::Rows::used_with))]
 pub(crate) fn is_used_before(
     doc: &[u8],
     t: &[u32],
@@ -202,9 +194,7 @@ pub(crate) fn is_used_before(
     ensures { result ≡ used_before doc.now t.now v s.now series entry }
 {
     match brought_by(entry) {
-        Brought::NoCell => false,
         Brought::InRow(f) => is_used_in(doc, t, v, s, series, f),
-        Brought::AtPosition(_) => false,
-        Brought::AtAmount => false,
+        _ => false,
     }
 }

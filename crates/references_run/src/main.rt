@@ -3,13 +3,12 @@
 #![tactic(auto)]
 
 use attributes::Piece;
-use characters::Said;
 
 fn show_said(v: &[u8]) {
     lines::print_text(b"says");
     let mut i: usize = 0;
     while i < v.len() {
-        let Said::Says(c, n) = characters::said_at(&v[i..]) else {
+        let Some((c, n)) = characters::said_at(&v[i..]) else {
             return;
         };
         lines::print_text(b" ");

@@ -1,5 +1,7 @@
 -- "Refusal numbers": 01's table, a name for each number. Definitions give refusals by these names; what is promised of them tells 01's numbers themselves.
-use Rattle.std.specs.Prelude.{ℕ}
+use Rattle.std.specs.Prelude.{ℕ, Result, Ok, Err}
+use Rattle.refusals.specs.declared.Refusal.{Refusal}
+use Rattle.refusals.specs.declared.Refusal.TheVariants.{TooLong, UnreadableItem, NotDue, TableFull, WrongAttribute, AgainstForm, OutsideList, AgainstValue, UsedAgain, BufferShort, NotOneNote, ContentUnfit, NoRoomToWrite}
 
 -- "Acceptance is number 0": nothing is refused, as yet or by this rule alone
 abbrev pub no_refusal : ℕ
@@ -56,3 +58,24 @@ content_unfit = 12
 -- "then 13 length"
 abbrev pub no_room_to_write : ℕ
 no_room_to_write = 13
+
+-- the refusals that the code tells
+abbrev pub number : Refusal → ℕ
+number TooLong = too_long
+number UnreadableItem = unreadable_item
+number NotDue = not_due
+number TableFull = table_full
+number WrongAttribute = wrong_attribute
+number AgainstForm = against_form
+number OutsideList = outside_list
+number AgainstValue = against_value
+number UsedAgain = used_again
+number BufferShort = buffer_short
+number NotOneNote = not_one_note
+number ContentUnfit = content_unfit
+number NoRoomToWrite = no_room_to_write
+
+-- what comes to no value, or to a refusal
+abbrev pub refusal_told : Result Unit Refusal → ℕ
+refusal_told (Ok _) = no_refusal
+refusal_told (Err r) = number r

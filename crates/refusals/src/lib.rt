@@ -1,30 +1,35 @@
-// "Refusal numbers": 01's table, a name for each number. specs/Refusals.antt has the same names, each beside its sentence.
+// "Refusal numbers": 01's table.
 #![tactic(auto)]
 
+ghost use Rattle.std.specs.Prelude.{◌≡◌};
+ghost use Rattle.refusals.specs.Refusals.{number};
+
+// Each with its number; specs/Refusals.antt has its sentence. The order is that of the numbers: of several the smallest decides.
+#[derive(Clone, Copy, PartialEq, Eq, PartialOrd, Ord)]
+pub enum Refusal {
+    TooLong = 1,
+    UnreadableItem = 2,
+    NotDue = 3,
+    TableFull = 4,
+    WrongAttribute = 5,
+    AgainstForm = 6,
+    OutsideList = 7,
+    AgainstValue = 8,
+    UsedAgain = 9,
+    BufferShort = 10,
+    NotOneNote = 11,
+    ContentUnfit = 12,
+    NoRoomToWrite = 13,
+}
+
+// "Acceptance is number 0": where a note or the C interface tells a number, and nothing is refused.
 pub const NO_REFUSAL: u32 = 0;
 
-pub const TOO_LONG: u32 = 1;
-
-pub const UNREADABLE_ITEM: u32 = 2;
-
-pub const NOT_DUE: u32 = 3;
-
-pub const TABLE_FULL: u32 = 4;
-
-pub const WRONG_ATTRIBUTE: u32 = 5;
-
-pub const AGAINST_FORM: u32 = 6;
-
-pub const OUTSIDE_LIST: u32 = 7;
-
-pub const AGAINST_VALUE: u32 = 8;
-
-pub const USED_AGAIN: u32 = 9;
-
-pub const BUFFER_SHORT: u32 = 10;
-
-pub const NOT_ONE_NOTE: u32 = 11;
-
-pub const CONTENT_UNFIT: u32 = 12;
-
-pub const NO_ROOM_TO_WRITE: u32 = 13;
+impl Refusal {
+    // As a note and the C interface tell it. Ruled out: the number of another refusal; 0.
+    pub fn number(self) -> u32
+        ensures { result ≡ number self }
+    {
+        self as u32
+    }
+}

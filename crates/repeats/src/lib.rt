@@ -110,8 +110,7 @@ fn name_at(s: &[u8], p: usize) -> &[u8]
 fn is_less(x: &[u8], y: &[u8]) -> bool
     ensures { result ≡ less x.now y.now }
 {
-    let mut i = 0;
-    while i < y.len() {
+    for i in 0..y.len() {
         if x.len() <= i {
             return true;
         }
@@ -121,7 +120,6 @@ fn is_less(x: &[u8], y: &[u8]) -> bool
         if y[i] < x[i] {
             return false;
         }
-        i += 1;
     }
     false
 }

@@ -1,6 +1,6 @@
 -- What a value has to be, by its form in the guideline, and the refusal where it is not. Every rule takes what the value
 -- says and the values before it, and no document.
-use Rattle.std.specs.Prelude.{ℕ, ◌+◌, ◌-◌, List, Bool, true, false, cond, leb, ltb, eqb}
+use Rattle.std.specs.Prelude.{ℕ, ◌+◌, ◌-◌, List, Bool, true, false, cond, leb, ltb, eqb, is_some, Option, Some, None}
 use Rattle.refusals.specs.Refusals.{no_refusal, against_form, outside_list, against_value}
 use Rattle.slices.specs.Same.{same}
 use Rattle.slices.specs.Text.{text}
@@ -27,34 +27,20 @@ use Rattle.codes.specs.Lists.{listed, codes_of}
 use Rattle.forms.specs.Forms.{identification, grid_element, market_partner, resource_object, party, quarter_hour}
 use Rattle.numbers.specs.Number.{number_of}
 use Rattle.numbers.specs.Amount.{amount_of}
-use Rattle.numbers.specs.declared.Number.{Number}
-use Rattle.numbers.specs.declared.Number.TheVariants.{Is, NotNumber}
-use Rattle.numbers.specs.declared.Amount.{Amount}
-use Rattle.numbers.specs.declared.Amount.TheVariants.{Thousandths, NotAmount}
 use Rattle.times.specs.Times.{date_time, interval}
 use Rattle.times.specs.Periods.{day_period, cost_period}
-use Rattle.times.specs.declared.Interval.{Interval}
-use Rattle.times.specs.declared.Interval.TheVariants.{Minutes, NotInterval}
 use Rattle.rules.specs.declared.Held.{Held}
-use Rattle.rules.specs.declared.Judged.{Judged}
+use Rattle.rules.specs.Judged.{Judged}
 
 unfoldable pub unless : ℕ → Bool → ℕ
 unless number fits = cond fits no_refusal number
 
 -- "Version: 1 to 999, no leading zero."
-unfoldable pub version_by : Number → Bool
-version_by (Is n) = true
-version_by NotNumber = false
-
 unfoldable pub is_version : List ℕ → Bool
-is_version cs = version_by (number_of cs 3)
-
-unfoldable pub amount_by : Amount → Bool
-amount_by (Thousandths z) = true
-amount_by NotAmount = false
+is_version cs = is_some (number_of cs 3)
 
 unfoldable pub amount : List ℕ → Bool
-amount cs = amount_by (amount_of cs)
+amount cs = is_some (amount_of cs)
 
 -- "6: value against its form or fixed value; 7: value outside its code list": "A value with a code list is judged by that list alone"
 unfoldable pub form_refusal : ℕ → List ℕ → ℕ
@@ -105,20 +91,20 @@ refused number = record { number = number; first = 0; second = 0 }
 unfoldable pub period_fits : ℕ → ℕ → ℕ → Bool
 period_fits kind from to = cond (kind_at kind).daily (day_period from to) (cost_period from to)
 
-unfoldable pub judge_period_by : ℕ → Interval → Judged
-judge_period_by kind (Minutes from to) =
+unfoldable pub judge_period_by : ℕ → Option (ℕ × ℕ) → Judged
+judge_period_by kind (Some (from, to)) =
     cond (period_fits kind from to) (record { number = no_refusal; first = from; second = to }) (refused against_value)
-judge_period_by kind NotInterval = refused against_form
+judge_period_by kind None = refused against_form
 
 unfoldable pub judge_period : ℕ → List ℕ → Judged
 judge_period kind cs = judge_period_by kind (interval cs)
 
 -- "TimeInterval equals TimePeriodCovered."
-unfoldable pub judge_interval_by : ℕ → ℕ → Interval → Judged
-judge_interval_by from to (Minutes a b) =
+unfoldable pub judge_interval_by : ℕ → ℕ → Option (ℕ × ℕ) → Judged
+judge_interval_by from to (Some (a, b)) =
     cond (eqb a from) (cond (eqb b to) (refused no_refusal) (refused against_value))
     (refused against_value)
-judge_interval_by from to NotInterval = refused against_form
+judge_interval_by from to None = refused against_form
 
 unfoldable pub judge_interval : ℕ → ℕ → List ℕ → Judged
 judge_interval from to cs = judge_interval_by from to (interval cs)
@@ -130,10 +116,10 @@ position_fits kind quarters last p =
     (cond (kind_at kind).counted (eqb p (last + 1))
     (cond (eqb last 0) (eqb p 1) (ltb last p)))
 
-unfoldable pub judge_position_by : ℕ → ℕ → ℕ → Number → Judged
-judge_position_by kind quarters last (Is p) =
+unfoldable pub judge_position_by : ℕ → ℕ → ℕ → Option ℕ → Judged
+judge_position_by kind quarters last (Some p) =
     cond (position_fits kind quarters last p) (record { number = no_refusal; first = p; second = 0 }) (refused against_value)
-judge_position_by kind quarters last NotNumber = refused against_form
+judge_position_by kind quarters last None = refused against_form
 
 unfoldable pub judge_position : ℕ → ℕ → ℕ → List ℕ → Judged
 judge_position kind quarters last cs = judge_position_by kind quarters last (number_of cs 5)

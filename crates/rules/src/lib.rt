@@ -3,6 +3,8 @@
 
 ghost use Rattle.std.specs.Prelude.{◌≡◌, ◌+◌, eqb};
 ghost use Rattle.characters.specs.Says.{says};
+ghost use Rattle.refusals.specs.Refusals.{number, refusal_told};
+ghost use Rattle.rules.specs.Judged.{Tells};
 ghost use Rattle.rules.specs.Rules.{unless, is_version, amount, form_refusal, type_no, direction_no, code_no, period_fits, position_fits, judge_period, judge_interval, judge_position, judge};
 
 use codes::is_listed;
@@ -16,10 +18,10 @@ use forms::{
     is_resource_object,
 };
 use guideline::kind_at;
-use numbers::{Amount, Number, amount_of, number_of};
+use numbers::{amount_of, number_of};
 use pictures::is_said;
-use refusals::{AGAINST_FORM, AGAINST_VALUE, NO_REFUSAL, OUTSIDE_LIST};
-use times::{Interval, interval_of, is_cost_period, is_date_time, is_day_period};
+use refusals::Refusal;
+use times::{interval_of, is_cost_period, is_date_time, is_day_period};
 
 // What a value is held against: the kind; TimePeriodCovered, in minutes, and its quarter hours; the last Pos, 0 before the first.
 #[derive(Clone, Copy)]
@@ -31,10 +33,9 @@ pub struct Held {
     pub last: u32,
 }
 
-// The refusal's number, 0 for none, and what the value says: the two minutes of an interval, a Pos, or which code it is where later values are held against it.
+// What a value says that is taken: the two minutes of an interval, a Pos, or which code it is where later values are held against it.
 #[derive(Clone, Copy)]
-pub struct Judged {
-    pub number: u32,
+pub struct Says {
     pub first: u32,
     pub second: u32,
 }
@@ -48,65 +49,69 @@ pub const UPWARD: u32 = 1;
 
 pub const DOWNWARD: u32 = 2;
 
-fn refused_unless(number: u32, fits: bool) -> u32
-    ensures { result ≡ unless number fits }
-{
-    if fits { NO_REFUSAL } else { number }
+impl Says {
+    // A value that no other is held against.
+    pub const NOTHING: Says = Says {
+        first: 0,
+        second: 0,
+    };
 }
 
+fn refused_unless(refusal: Refusal, fits: bool) -> Result<(), Refusal>
+    ensures { refusal_told result ≡ unless (number refusal) fits }
+{
+    if fits { Ok(()) } else { Err(refusal) }
+}
+
+#[tactic(auto, unfolding(crate::specs::Rules::is_version))]
 fn is_version(v: &[u8]) -> bool
     ensures { result ≡ is_version (says v.now) }
 {
-    match number_of(v, 3) {
-        Number::Is(_) => true,
-        Number::NotNumber => false,
-    }
+    number_of(v, 3).is_some()
 }
 
+#[tactic(auto, unfolding(crate::specs::Rules::amount))]
 fn is_amount(v: &[u8]) -> bool
     ensures { result ≡ amount (says v.now) }
 {
-    match amount_of(v) {
-        Amount::Thousandths(_) => true,
-        Amount::NotAmount => false,
-    }
+    amount_of(v).is_some()
 }
 
 // The refusal of a value by its form or code list alone.
-fn form_refusal(form: usize, v: &[u8]) -> u32
-    ensures { result ≡ form_refusal form (says v.now) }
+fn form_refusal(form: usize, v: &[u8]) -> Result<(), Refusal>
+    ensures { refusal_told result ≡ form_refusal form (says v.now) }
 {
     if form == IDENTIFICATION_FORM {
-        return refused_unless(AGAINST_FORM, is_identification(v));
+        return refused_unless(Refusal::AgainstForm, is_identification(v));
     }
     if form == SERIES_ID_FORM {
-        return refused_unless(AGAINST_FORM, is_identification(v));
+        return refused_unless(Refusal::AgainstForm, is_identification(v));
     }
     if form == PARTNER_FORM {
-        return refused_unless(AGAINST_FORM, is_market_partner(v));
+        return refused_unless(Refusal::AgainstForm, is_market_partner(v));
     }
     if form == VERSION_FORM {
-        return refused_unless(AGAINST_FORM, is_version(v));
+        return refused_unless(Refusal::AgainstForm, is_version(v));
     }
     if form == DATE_TIME_FORM {
-        return refused_unless(AGAINST_FORM, is_date_time(v));
+        return refused_unless(Refusal::AgainstForm, is_date_time(v));
     }
     if form == AMOUNT_FORM {
-        return refused_unless(AGAINST_FORM, is_amount(v));
+        return refused_unless(Refusal::AgainstForm, is_amount(v));
     }
     if form == OBJECT_FORM {
-        return refused_unless(AGAINST_FORM, is_resource_object(v));
+        return refused_unless(Refusal::AgainstForm, is_resource_object(v));
     }
     if form == PARTY_FORM {
-        return refused_unless(AGAINST_FORM, is_party(v));
+        return refused_unless(Refusal::AgainstForm, is_party(v));
     }
     if form == GRID_ELEMENT_FORM {
-        return refused_unless(AGAINST_FORM, is_grid_element(v));
+        return refused_unless(Refusal::AgainstForm, is_grid_element(v));
     }
     if IN_LIST <= form {
-        return refused_unless(OUTSIDE_LIST, is_listed(form - IN_LIST, v));
+        return refused_unless(Refusal::OutsideList, is_listed(form - IN_LIST, v));
     }
-    NO_REFUSAL
+    Ok(())
 }
 
 fn type_no(v: &[u8]) -> u32
@@ -155,57 +160,36 @@ fn is_period(kind: u32, from: u32, to: u32) -> bool
     is_cost_period(from, to)
 }
 
-fn judge_period(v: &[u8], kind: u32) -> Judged
-    ensures { result ≡ judge_period kind (says v.now) }
+fn judge_period(v: &[u8], kind: u32) -> Result<Says, Refusal>
+    ensures { Tells result (judge_period kind (says v.now)) }
 {
     match interval_of(v) {
-        Interval::Minutes(from, to) => {
+        Some((from, to)) => {
             if is_period(kind, from, to) {
-                return Judged {
-                    number: NO_REFUSAL,
+                return Ok(Says {
                     first: from,
                     second: to,
-                };
+                });
             }
-            Judged {
-                number: AGAINST_VALUE,
-                first: 0,
-                second: 0,
-            }
+            Err(Refusal::AgainstValue)
         }
-        Interval::NotInterval => Judged {
-            number: AGAINST_FORM,
-            first: 0,
-            second: 0,
-        },
+        None => Err(Refusal::AgainstForm),
     }
 }
 
-fn judge_interval(v: &[u8], from: u32, to: u32) -> Judged
-    ensures { result ≡ judge_interval from to (says v.now) }
+fn judge_interval(v: &[u8], from: u32, to: u32) -> Result<Says, Refusal>
+    ensures { Tells result (judge_interval from to (says v.now)) }
 {
     match interval_of(v) {
-        Interval::Minutes(a, b) => {
+        Some((a, b)) => {
             if a == from {
                 if b == to {
-                    return Judged {
-                        number: NO_REFUSAL,
-                        first: 0,
-                        second: 0,
-                    };
+                    return Ok(Says::NOTHING);
                 }
             }
-            Judged {
-                number: AGAINST_VALUE,
-                first: 0,
-                second: 0,
-            }
+            Err(Refusal::AgainstValue)
         }
-        Interval::NotInterval => Judged {
-            number: AGAINST_FORM,
-            first: 0,
-            second: 0,
-        },
+        None => Err(Refusal::AgainstForm),
     }
 }
 
@@ -231,36 +215,27 @@ pub fn is_position(kind: u32, quarters: u32, last: u32, p: u32) -> bool
     last < p
 }
 
-fn judge_position(v: &[u8], h: Held) -> Judged
-    ensures { result ≡ judge_position h.kind h.quarters h.last (says v.now) }
+fn judge_position(v: &[u8], h: Held) -> Result<Says, Refusal>
+    ensures { Tells result (judge_position h.kind h.quarters h.last (says v.now)) }
 {
     match number_of(v, 5) {
-        Number::Is(p) => {
+        Some(p) => {
             if is_position(h.kind, h.quarters, h.last, p) {
-                return Judged {
-                    number: NO_REFUSAL,
+                return Ok(Says {
                     first: p,
                     second: 0,
-                };
+                });
             }
-            Judged {
-                number: AGAINST_VALUE,
-                first: 0,
-                second: 0,
-            }
+            Err(Refusal::AgainstValue)
         }
-        Number::NotNumber => Judged {
-            number: AGAINST_FORM,
-            first: 0,
-            second: 0,
-        },
+        None => Err(Refusal::AgainstForm),
     }
 }
 
 // The refusal of a value, and what it says.
 // Ruled out: 6 for a value outside its code list; 8 for a Pos that is no number; a Pos above N taken.
-pub fn judge_value(form: usize, v: &[u8], h: Held) -> Judged
-    ensures { result ≡ judge form h (says v.now) }
+pub fn judge_value(form: usize, v: &[u8], h: Held) -> Result<Says, Refusal>
+    ensures { Tells result (judge form h (says v.now)) }
 {
     if form == PERIOD_FORM {
         return judge_period(v, h.kind);
@@ -269,18 +244,15 @@ pub fn judge_value(form: usize, v: &[u8], h: Held) -> Judged
         return judge_interval(v, h.from, h.to);
     }
     if form == RESOLUTION_FORM {
-        return Judged {
-            number: refused_unless(AGAINST_VALUE, is_quarter_hour(v)),
-            first: 0,
-            second: 0,
-        };
+        refused_unless(Refusal::AgainstValue, is_quarter_hour(v))?;
+        return Ok(Says::NOTHING);
     }
     if form == POS_FORM {
         return judge_position(v, h);
     }
-    Judged {
-        number: form_refusal(form, v),
+    form_refusal(form, v)?;
+    Ok(Says {
         first: code_no(form, v),
         second: 0,
-    }
+    })
 }

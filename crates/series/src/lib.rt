@@ -29,48 +29,34 @@ pub fn rows_in(n: usize) -> usize
     n / WIDTH
 }
 
-// Whether a field is a view. Ruled out: a count taken for the start of one.
-pub fn is_view(f: Field) -> bool
-    ensures { result ≡ is_view f }
-{
-    match f {
-        Field::Identification => true,
-        Field::Object => true,
-        Field::BusinessType => true,
-        Field::Direction => true,
-        Field::Area => true,
-        Field::FirstRow => false,
-        Field::Count => false,
+impl Field {
+    // Whether a field is a view. Ruled out: a count taken for the start of one.
+    pub fn is_view(self) -> bool
+        ensures { result ≡ is_view self }
+    {
+        !matches!(self, Field::FirstRow | Field::Count)
     }
-}
 
-// Whether a view has its "spaces dropped". Ruled out: an area without its spaces.
-pub fn drops_spaces(f: Field) -> bool
-    ensures { result ≡ drops_spaces f }
-{
-    match f {
-        Field::Identification => false,
-        Field::Object => false,
-        Field::BusinessType => true,
-        Field::Direction => true,
-        Field::Area => false,
-        Field::FirstRow => false,
-        Field::Count => false,
+    // Whether a view has its "spaces dropped". Ruled out: an area without its spaces.
+    pub fn drops_spaces(self) -> bool
+        ensures { result ≡ drops_spaces self }
+    {
+        matches!(self, Field::BusinessType | Field::Direction)
     }
-}
 
-fn cell_of(f: Field) -> usize
-    ensures cell { result ≡ cell_of f }
-    ensures size { result < row_width }
-{
-    match f {
-        Field::Identification => 0,
-        Field::Object => 2,
-        Field::BusinessType => 4,
-        Field::Direction => 6,
-        Field::Area => 8,
-        Field::FirstRow => 10,
-        Field::Count => 11,
+    fn cell(self) -> usize
+        ensures cell { result ≡ cell_of self }
+        ensures size { result < row_width }
+    {
+        match self {
+            Field::Identification => 0,
+            Field::Object => 2,
+            Field::BusinessType => 4,
+            Field::Direction => 6,
+            Field::Area => 8,
+            Field::FirstRow => 10,
+            Field::Count => 11,
+        }
     }
 }
 
@@ -78,7 +64,7 @@ fn cell_at(row: u32, f: Field) -> usize
     ensures cell { result ≡ cell_at row f }
     ensures size { result ≤ 1099511627776 }
 {
-    WIDTH * (row as usize) + cell_of(f)
+    WIDTH * (row as usize) + f.cell()
 }
 
 // The number in a field of a row, and 0 past the end of the table. Ruled out: another row's number, and that of another field.
@@ -96,6 +82,7 @@ pub fn set_field(t: &mut [u32], row: u32, f: Field, n: u32)
 }
 
 // Sets a view of a row. Ruled out: a start without its length, and the length in the start's cell.
+#[tactic(auto, unfolding(crate::specs::Row::with_view))]
 pub fn set_view(t: &mut [u32], row: u32, f: Field, start: u32, len: u32)
     ensures { t.new ≡ with_view t.old row f start len }
 {
@@ -105,6 +92,7 @@ pub fn set_view(t: &mut [u32], row: u32, f: Field, start: u32, len: u32)
 }
 
 // The part of the document that a view of a row shows. Ruled out: the bytes from the start on, however long the view is.
+#[tactic(auto, unfolding(crate::specs::Row::view))]
 pub fn view_of<'a>(doc: &'a [u8], t: &[u32], row: u32, f: Field) -> &'a [u8]
     ensures { result.now ≡ view doc.now t.now row f }
 {

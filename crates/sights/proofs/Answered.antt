@@ -11,6 +11,7 @@ use lib.Dec.{eqb}
 use lib.ListN.{length, get_or, set, length-set}
 use lib.Seq.{get_or-set_same, get_or-set_other}
 use borrow.Author.Tests.{lt-leb}
+use Rattle.std.specs.Prelude.{Option, Some, None}
 use Rattle.lists.proofs.Cases.{eqb-cases, zero-not-one}
 use Rattle.trims.specs.Trim.{lead_of, trimmed_of}
 use Rattle.characters.specs.Says.{says}
@@ -20,8 +21,6 @@ use Rattle.items.specs.Item.{item, item_end}
 use Rattle.items.specs.declared.Tag.{Tag}
 use Rattle.items.specs.declared.Item.{Item}
 use Rattle.items.specs.declared.Item.TheVariants.{Start, Empty, End, Text, Comment, Unreadable}
-use Rattle.structure.specs.declared.Due.{Due}
-use Rattle.structure.specs.declared.Due.TheVariants.{Row, NotDue}
 use Rattle.series.specs.Row.{is_view, drops_spaces, cells_of, cell_at, with_field, with_view, view}
 use Rattle.series.specs.declared.Field.{Field}
 use Rattle.series.specs.declared.Field.TheVariants.{Identification, Object, BusinessType, Direction, Area, FirstRow, Count}
@@ -31,8 +30,7 @@ use Rattle.states.specs.declared.Room.{Room}
 use Rattle.states.specs.declared.Entry.{Entry}
 use Rattle.states.specs.declared.Entry.TheVariants.{Nothing, Series, Interval, Position, Amount}
 use Rattle.states.specs.declared.Entry.TheVariants.{Identification as BringsIdentification, Object as BringsObject, BusinessType as BringsBusinessType, Direction as BringsDirection, Area as BringsArea}
-use Rattle.states.specs.declared.Step.{Step}
-use Rattle.states.specs.declared.Step.TheVariants.{Next, Refused}
+use Rattle.states.specs.Step.{Step, Next, Refused}
 use Rattle.reader.specs.Items.{Placed, placed, items_after}
 use Rattle.reader.specs.Rows.{brought_by, quoted, count_for, view_after, field_after, series_with, series_after, used, used_in, used_with, used_before}
 use Rattle.reader.specs.Reading.{Tables, Out, without_used, step_of, tables_after, read_items}
@@ -55,11 +53,11 @@ module _ (room other : Room) (rooms : room.series ≡ other.series) where
     unfolding start_judged judged_at
     judged-same kind rows r t s empty = rw (room-same) refl
 
-    at_same : (kind : ℕ) (rows : List ℕ) (t : Tag) (s : List ℕ) (empty : Bool) (d : Due)
+    at_same : (kind : ℕ) (rows : List ℕ) (t : Tag) (s : List ℕ) (empty : Bool) (d : Option ℕ)
         → started_at st kind rows t s empty room d ≡ started_at st kind rows t s empty other d
     unfolding started_at
-    at_same kind rows t s empty (Row r) = rw (judged-same kind rows r t s empty) refl
-    at_same kind rows t s empty NotDue = refl
+    at_same kind rows t s empty (Some r) = rw (judged-same kind rows r t s empty) refl
+    at_same kind rows t s empty None = refl
 
     moved_same : (kind : ℕ) (rows : List ℕ) (i : Item) (s : List ℕ) → moved st kind rows i s room ≡ moved st kind rows i s other
     unfolding moved started

@@ -16,11 +16,10 @@ use native.Mathlib.Nat.{div-add-mod', le_refl}
 use lib.Dec.{eqb, ltb}
 use lib.ListN.{length, drop, get_or, length-drop, length-replicate}
 use borrow.Author.Tests.{eqb-true, eq-eqb, ltb-true, ltb-false, le-ltb, lt-ltb}
+use Rattle.std.specs.Prelude.{Result, Ok, Err}
 use Rattle.lists.specs.Zeros.{zeros}
 use Rattle.lists.proofs.Cases.{bool_cases, leb-cases}
 use Rattle.prolog.specs.Prolog.{begin}
-use Rattle.prolog.specs.declared.Begin.{Begin}
-use Rattle.prolog.specs.declared.Begin.TheVariants.{From, Misdeclared}
 use Rattle.notes.specs.declared.Shape.{Shape}
 use Rattle.notes.specs.declared.Shape.TheVariants.{Old}
 use Rattle.series.specs.Row.{cells_of, room_for}
@@ -111,11 +110,11 @@ module _ (doc : List ℕ) (n ns np na : ℕ) (same : room_for ns ≡ (view_room 
       (rows-fit room.series ns (let e = same in omega (arith, e))) 0 k (drop k doc) begun (blank n 1 1) (blank ns np na) (held k) (blank-sized ns np na)
       (λ j l. zero-all 0 n j ∙ sym (zero-all 0 ns j))
 
-  after-found : length doc ≤ 1048576 → (b : Begin) → judged_after room doc (zeros n) b ≡ (read_after doc (blank ns np na) b).found
+  after-found : length doc ≤ 1048576 → (b : Result ℕ ℕ) → judged_after room doc (zeros n) b ≡ (read_after doc (blank ns np na) b).found
   unfolding judged_after read_after items_read blank
-  after-found short (From k) =
+  after-found short (Ok k) =
       items-found short k ∙ ap (λ (r : Room). (read_items doc r (items_from doc k) begun (blank ns np na)).found) (sym (blank-room ns np na))
-  after-found short (Misdeclared p) = refl
+  after-found short (Err p) = refl
 
   judged-found : judged room doc n ≡ (read_sheet doc ns np na).found
   unfolding judged judged_into read_sheet or_blank read_into

@@ -7,10 +7,10 @@ use native.Mathlib.Omega.{arith}
 use native.Mathlib.Nat.{zero-add, le_refl}
 use lib.ListN.{length, get_or, length-replicate}
 use borrow.Author.Tests.{eq-eqb, le-ltb}
+use Rattle.std.specs.Prelude.{Ok}
 use Rattle.lists.specs.Zeros.{zeros}
 use Rattle.columns.specs.Columns.{series_role}
 use Rattle.prolog.specs.Prolog.{begin}
-use Rattle.prolog.specs.declared.Begin.TheVariants.{From}
 use Rattle.notes.specs.declared.Shape.{Shape}
 use Rattle.series.specs.Row.{is_view, cells_of, cell_at}
 use Rattle.series.specs.declared.Field.{Field}
@@ -77,7 +77,7 @@ unfolding nothing
 series-of doc kind known most kids = sym (series-along kind known doc most kids nothing) ∙ series-walked (rows_of kind) (saying kids) nothing ∙ zero-add _
 
 -- what was judged for views is what such a run found
-pub judged-run : (doc : List ℕ) (n from : ℕ) → length doc ≤ 1048576 → begin doc ≡ From from
+pub judged-run : (doc : List ℕ) (n from : ℕ) → length doc ≤ 1048576 → begin doc ≡ Ok from
     → judged (view_room n) doc n ≡ (read_items doc (view_room n) (items_from doc from) begun (blank n 1 1)).found
 unfolding judged judged_into judged_after items_read blank
 judged-run doc n from small e = rw (le-ltb 1048576 (length doc) small, e) refl

@@ -11,7 +11,7 @@ use Rattle.slices.specs.Bytes.{byte}
 use Rattle.slices.specs.Part.{part_of}
 use Rattle.slices.specs.Run.{run}
 use Rattle.slices.specs.Walk.{walk}
-use Rattle.slices.specs.Same.{same, begins, seek, here, first_at}
+use Rattle.slices.specs.Same.{begins, seek, here, first_at}
 use Rattle.slices.proofs.Bytes.{byte-drop}
 use Rattle.slices.proofs.Sames.{same_self, same-equal}
 

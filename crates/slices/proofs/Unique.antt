@@ -8,6 +8,7 @@ use lib.ListN.{take, drop}
 use Rattle.lists.proofs.Unique.{one}
 use Rattle.slices.specs.Bytes.{byte}
 use Rattle.slices.specs.Part.{part_of}
+use Rattle.slices.specs.Run.{run}
 use Rattle.slices.specs.Same.{same, begins, first_at}
 
 pub byte-at-one : (s : List ℕ) (i : ℕ) {r r' : ℕ} → r ≡ byte s i → r' ≡ byte s i → r ≡ r'
@@ -30,3 +31,7 @@ begins-with-one t s = one
 
 pub first-at-one : (t s : List ℕ) {r r' : ℕ} → r ≡ first_at t s → r' ≡ first_at t s → r ≡ r'
 first-at-one t s = one
+
+-- for the test p that its function answers
+pub run-len-one : (p : ℕ → Bool) (s : List ℕ) {r r' : ℕ} → r ≡ run p s → r' ≡ run p s → r ≡ r'
+run-len-one p s = one

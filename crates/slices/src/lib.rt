@@ -2,10 +2,11 @@
 // So no caller tests a length before it looks, and no definition does.
 #![tactic(auto)]
 
-ghost use Rattle.std.specs.Prelude.{◌≡◌, ◌-◌, ◌≤◌, length, take, drop};
+ghost use Rattle.std.specs.Prelude.{◌≡◌, ℕ, Bool, ◌-◌, ◌≤◌, length, take, drop};
 ghost use Rattle.slices.specs.Bytes.{byte};
 ghost use Rattle.slices.specs.Part.{part_of};
 ghost use Rattle.slices.specs.Same.{same, begins, first_at};
+ghost use Rattle.slices.specs.Run.{run, IsAnswered};
 
 // Where a part of a slice stands. Of an attribute's value it is counted from the first byte of its tag, and a start of 0 says that it is not there.
 #[derive(Clone, Copy)]
@@ -50,28 +51,20 @@ pub fn part(s: &[u8], at: usize, n: usize) -> &[u8]
 
 // Whether two slices hold the same bytes.
 // Ruled out: true where one only begins with the other; false for two empty ones.
+#[tactic(auto, using(crate::proofs::Sames::same_pointwise))]
 pub fn is_same(a: &[u8], b: &[u8]) -> bool
     ensures { result ≡ same a.now b.now }
 {
-    if a.len() != b.len() {
-        return false;
-    }
-    let mut i = 0;
-    while i < a.len() {
-        if a[i] != b[i] {
-            return false;
-        }
-        i += 1;
-    }
-    true
+    a == b
 }
 
 // Whether s begins with t.
 // Ruled out: true where s is only the first part of t; false where s is t.
+#[tactic(auto, using(crate::proofs::Sames::same_pointwise), unfolding(crate::specs::Same::begins))]
 pub fn begins_with(t: &[u8], s: &[u8]) -> bool
     ensures { result ≡ begins t.now s.now }
 {
-    is_same(t, front(s, t.len()))
+    s.starts_with(t)
 }
 
 // Where t first stands in s, and the length of s where it does not.
@@ -80,12 +73,25 @@ pub fn first_at(t: &[u8], s: &[u8]) -> usize
     ensures place { result ≡ first_at t.now s.now }
     ensures size { result ≤ length s.now }
 {
-    let mut i = 0;
-    while i < s.len() {
+    for i in 0..s.len() {
         if begins_with(t, &s[i..]) {
             return i;
         }
-        i += 1;
     }
-    i
+    s.len()
+}
+
+// How many bytes at the front of s pass a test.
+// Ruled out: a length that takes in the first byte that does not pass; one that stops before it.
+pub fn run_len<F: Fn(u8) -> bool>(s: &[u8], passes: F) -> usize
+    requires { F.IsAlwaysCallable passes }
+    ensures run { (p : ℕ → Bool) → IsAnswered (F.post passes) p → result ≡ run p s.now }
+    ensures size { result ≤ length s.now }
+{
+    for i in 0..s.len() {
+        if !passes(s[i]) {
+            return i;
+        }
+    }
+    s.len()
 }

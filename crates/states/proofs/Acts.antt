@@ -4,6 +4,7 @@ use mathlib.Core.Path.{◌≡◌, refl}
 use mathlib.Core.List.{List}
 use mathlib.Core.Bool.{true, false}
 use Rattle.elements.specs.Names.{element_no}
+use Rattle.refusals.specs.Refusals.{number}
 use Rattle.guideline.specs.Rows.{every_row}
 use Rattle.guideline.proofs.Each.{rows-in}
 use Rattle.items.specs.Parts.{name_in}
@@ -14,8 +15,7 @@ use Rattle.states.specs.Moves.{started, after_end, moved, kind_told, step_by, st
 use Rattle.states.specs.declared.State.{State}
 use Rattle.states.specs.declared.Room.{Room}
 use Rattle.states.specs.declared.Entry.TheVariants.{Nothing}
-use Rattle.states.specs.declared.Step.{Step}
-use Rattle.states.specs.declared.Step.TheVariants.{Next, Refused}
+use Rattle.states.specs.Step.{Step, Next, Refused}
 use Rattle.states.specs.declared.Act.{Act}
 use Rattle.states.specs.declared.Act.TheVariants.{Opens, Closes, Passes, Refuses}
 
@@ -23,7 +23,7 @@ unfoldable pub acted : State → ℕ → List ℕ → ℕ → List ℕ → Room 
 acted x kind rows name s room (Opens t empty) = started x kind rows name t s empty room
 acted x kind rows name s room Closes = after_end x rows name
 acted x kind rows name s room Passes = Next x Nothing
-acted x kind rows name s room (Refuses n) = Refused n
+acted x kind rows name s room (Refuses r) = Refused (number r)
 
 pub moved-acted : (item : Item) (x : State) (kind : ℕ) (rows s : List ℕ) (room : Room)
     → moved x kind rows item s room ≡ acted x kind rows (element_no (name_in item s)) s room (act_of item)

@@ -1,6 +1,6 @@
 -- What a start tag that is not refused has passed. Assumes nothing.
 use Prim.Native.Nat.{ℕ, ◌+◌, ◌<◌}
-use mathlib.Core.Path.{◌≡◌, refl}
+use mathlib.Core.Path.{◌≡◌, refl, sym, ap}
 use mathlib.Core.List.{List}
 use mathlib.Core.Bool.{Bool, true, false, cond}
 use native.Mathlib.Omega.{arith}
@@ -11,9 +11,12 @@ use borrow.Author.Tests.{leb-false, lt-ltb}
 use Rattle.lists.proofs.Cases.{by_cond, eqb-cases}
 use Rattle.items.specs.declared.Tag.{Tag}
 use Rattle.columns.specs.Columns.{role_of}
+use Rattle.refusals.specs.Refusals.{number}
+use Rattle.refusals.specs.declared.Refusal.{Refusal}
+use Rattle.refusals.proofs.Numbers.{refuses}
 use Rattle.rules.specs.Rules.{refused}
-use Rattle.rules.specs.declared.Judged.{Judged}
-use Rattle.states.specs.Attributes.{attributes_fit, judge_tag}
+use Rattle.rules.specs.Judged.{Judged}
+use Rattle.states.specs.Attributes.{attributes_fit, least, also_scheme, judge_tag}
 use Rattle.states.specs.Moves.{one_more, cut_short, too_many, no_room, half_originals, against_others, beside_others, held_of, values_judged, judged_at, start_judged}
 use Rattle.states.specs.declared.State.{State}
 use Rattle.states.specs.declared.Room.{Room}
@@ -54,6 +57,15 @@ module _ (x : State) (kind : ℕ) (rows : List ℕ) (q : ℕ) (t : Tag) (s : Lis
       fitting true j e = (refl, e)
       fitting false j e = absurd (omega (arith, e))
 
+-- no refusal of the codingScheme leaves what is said
+least-none : (a : ℕ) → least a 0 ≡ a
+unfolding least
+least-none a = ⊎_elim (λ (y : (a ≡ 0) × (eqb a 0 ≡ true)). rw y.1 (sym y.0)) (λ (y : (a ≡ 0 → ⊥) × (eqb a 0 ≡ false)). rw y.1) (eqb-cases a 0)
+
+pub also-none : (j : Judged) → also_scheme 0 j ≡ j
+unfolding also_scheme
+also-none j = ap (λ (n : ℕ). record { number = n; first = j.first; second = j.second }) (least-none j.number)
+
 -- a value that is taken is not against the series before it
 module _ (x : State) (kind role : ℕ) (j : Judged) where
   pub beside_same : against_others x kind role j.first ≡ false → beside_others x kind role j ≡ j
@@ -69,6 +81,11 @@ module _ (x : State) (kind role : ℕ) (j : Judged) where
       (y.0, (untold (against_others x kind role j.first) 8 j (λ z. omega (arith, z)) u).0))
       (λ (y : (j.number ≡ 0 → ⊥) × (eqb j.number 0 ≡ false)). let u : j.number ≡ 0 = rw y.1 at h in absurd (y.0 u))
       (eqb-cases j.number 0)
+
+-- nor is one that is refused: the refusal stays
+pub beside-refused : (x : State) (kind role : ℕ) (j : Judged) (r : Refusal) → j.number ≡ number r → (beside_others x kind role j).number ≡ number r
+unfolding beside_others
+beside-refused x kind role j r e = rw (e, refuses r)
 
 module _ (x : State) (role : ℕ) (room : Room) (h : no_room x role room ≡ false) where
   pub series-room : role ≡ 2 → x.series < room.series

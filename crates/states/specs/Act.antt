@@ -1,6 +1,6 @@
 -- What an item does to the state.
 use Rattle.std.specs.Prelude.{true, false, cond}
-use Rattle.refusals.specs.Refusals.{unreadable_item, not_due}
+use Rattle.refusals.specs.declared.Refusal.TheVariants.{UnreadableItem, NotDue}
 use Rattle.items.specs.declared.Item.{Item}
 use Rattle.items.specs.declared.Item.TheVariants.{Start, Empty, End, Text, Comment, Unreadable}
 use Rattle.states.specs.declared.Act.{Act}
@@ -10,6 +10,6 @@ unfoldable pub act_of : Item → Act
 act_of (Start t) = Opens t false
 act_of (Empty t) = Opens t true
 act_of (End n e) = Closes
-act_of (Text white e) = cond white Passes (Refuses not_due)
+act_of (Text white e) = cond white Passes (Refuses NotDue)
 act_of (Comment e) = Passes
-act_of (Unreadable p) = Refuses unreadable_item
+act_of (Unreadable p) = Refuses UnreadableItem

@@ -9,11 +9,13 @@ use Rattle.tags.specs.declared.Dtd.{Dtd}
 use Rattle.items.specs.declared.Tag.{Tag}
 use Rattle.trims.specs.Trim.{dropped}
 use Rattle.codes.specs.Lists.{listed, codes_of}
-use Rattle.guideline.specs.Kinds.{dtd_version, dtd_release, dtd_message, asked, optional, no_demands, kind_at, fixed_for}
+use Rattle.guideline.specs.Kinds.{dtd_version, dtd_release, dtd_message, no_demands, kind_at, fixed_for}
+use Rattle.guideline.specs.declared.Demand.{Demand}
+use Rattle.guideline.specs.declared.Demand.TheVariants.{NotKnown, Asked, Optional}
 use Rattle.guideline.specs.declared.Demands.{Demands}
 use Rattle.rules.specs.Rules.{judge, refused}
 use Rattle.rules.specs.declared.Held.{Held}
-use Rattle.rules.specs.declared.Judged.{Judged}
+use Rattle.rules.specs.Judged.{Judged}
 use Rattle.columns.specs.Columns.{form_of, collapsed, scheme_of, role_of, no_form, no_scheme, by_list, root_role}
 
 -- an attribute is there, which is known by where its value starts
@@ -34,8 +36,10 @@ unfoldable pub demands_at : ℕ → ℕ → Demands
 demands_at kind w = cond (eqb (role_of w) root_role) (kind_at kind).dtd no_demands
 
 -- an attribute that is optional may be there or not, one that is asked for is, and any other is not
-unfoldable pub meets : ℕ → Bool → Bool
-meets demand given = cond (eqb demand optional) true (agree (eqb demand asked) given)
+unfoldable pub meets : Demand → Bool → Bool
+meets Optional given = true
+meets Asked given = agree true given
+meets NotKnown given = agree false given
 
 unfoldable pub dtd_fits : Demands → Dtd → Bool
 dtd_fits demands d =

@@ -2,3 +2,4 @@ pub mod Act
 pub mod Attributes
 pub mod Constraints
 pub mod Moves
+pub mod Step

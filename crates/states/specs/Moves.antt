@@ -1,5 +1,5 @@
 -- "Reading moves through a small state, one item at a time, and each item moves that state as the structure tables say."
-use Rattle.std.specs.Prelude.{ℕ, ◌+◌, ◌-◌, List, Bool, true, false, cond, not, get_or, leb, ltb, eqb}
+use Rattle.std.specs.Prelude.{ℕ, ◌+◌, ◌-◌, List, Bool, true, false, cond, not, get_or, leb, ltb, eqb, Option, Some, None}
 use Rattle.refusals.specs.Refusals.{no_refusal, unreadable_item, not_due, table_full, wrong_attribute, against_value}
 use Rattle.slices.specs.Part.{part_of}
 use Rattle.elements.specs.Names.{element_no}
@@ -11,10 +11,8 @@ use Rattle.items.specs.declared.Item.{Item}
 use Rattle.items.specs.declared.Item.TheVariants.{Start, Empty, End, Text, Comment, Unreadable}
 use Rattle.rules.specs.Rules.{refused}
 use Rattle.rules.specs.declared.Held.{Held}
-use Rattle.rules.specs.declared.Judged.{Judged}
+use Rattle.rules.specs.Judged.{Judged}
 use Rattle.structure.specs.Rows.{start_of, end_of, ends_at_once}
-use Rattle.structure.specs.declared.Due.{Due}
-use Rattle.structure.specs.declared.Due.TheVariants.{Row, NotDue}
 use Rattle.times.specs.Periods.{quarter_hours}
 use Rattle.states.specs.Attributes.{attributes_fit, judge_tag}
 use Rattle.states.specs.Constraints.{none_seen, noticed, against, lacking}
@@ -23,8 +21,7 @@ use Rattle.states.specs.declared.Seen.{Seen}
 use Rattle.states.specs.declared.Room.{Room}
 use Rattle.states.specs.declared.Entry.{Entry}
 use Rattle.states.specs.declared.Entry.TheVariants.{Nothing, Series, Identification, Object, BusinessType, Direction, Area, Interval, Position, Amount}
-use Rattle.states.specs.declared.Step.{Step}
-use Rattle.states.specs.declared.Step.TheVariants.{Next, Refused}
+use Rattle.states.specs.Step.{Step, Next, Refused}
 
 -- one more, as far as a u32 counts
 unfoldable pub one_more : ℕ → ℕ
@@ -211,9 +208,9 @@ unfoldable pub started_by : State → ℕ → ℕ → ℕ → Bool → Judged �
 started_by x kind r w empty j =
     cond (eqb j.number no_refusal) (Next (entered x kind r w j (not empty)) (entry_of (role_of w) j.first)) (Refused j.number)
 
-unfoldable pub started_at : State → ℕ → List ℕ → Tag → List ℕ → Bool → Room → Due → Step
-started_at x kind rows t s empty room (Row r) = started_by x kind r (get_or rows r 0) empty (start_judged x kind rows r t s empty room)
-started_at x kind rows t s empty room NotDue = Refused not_due
+unfoldable pub started_at : State → ℕ → List ℕ → Tag → List ℕ → Bool → Room → Option ℕ → Step
+started_at x kind rows t s empty room (Some r) = started_by x kind r (get_or rows r 0) empty (start_judged x kind rows r t s empty room)
+started_at x kind rows t s empty room None = Refused not_due
 
 unfoldable pub started : State → ℕ → List ℕ → ℕ → Tag → List ℕ → Bool → Room → Step
 started x kind rows name t s empty room = started_at x kind rows t s empty room (start_of rows x.row x.inside name)
@@ -250,9 +247,9 @@ end_refusal x rows r =
     cond (eqb (role_of (get_or rows r 0)) period_role) (count_refusal x.kind x.quarters (x.intervals - x.first))
     (cond (eqb (role_of (get_or rows r 0)) root_role) (lack_refusal x) no_refusal)
 
-unfoldable pub after_end_at : State → List ℕ → Due → Step
-after_end_at x rows (Row r) = cond (eqb (end_refusal x rows r) no_refusal) (Next (closed_at x r) Nothing) (Refused (end_refusal x rows r))
-after_end_at x rows NotDue = Refused not_due
+unfoldable pub after_end_at : State → List ℕ → Option ℕ → Step
+after_end_at x rows (Some r) = cond (eqb (end_refusal x rows r) no_refusal) (Next (closed_at x r) Nothing) (Refused (end_refusal x rows r))
+after_end_at x rows None = Refused not_due
 
 unfoldable pub after_end : State → List ℕ → ℕ → Step
 after_end x rows name = after_end_at x rows (end_of rows x.row x.inside name)

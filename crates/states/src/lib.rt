@@ -5,6 +5,9 @@ ghost use Rattle.std.specs.Prelude.{◌≡◌, ◌-◌, eqb, false, cond, get_or
 ghost use Rattle.items.specs.Parts.{name_in};
 ghost use Rattle.columns.specs.Columns.{role_of, root_role};
 ghost use Rattle.characters.specs.Says.{says};
+ghost use Rattle.refusals.specs.Refusals.{number, refusal_told};
+ghost use Rattle.rules.specs.Judged.{said, Tells};
+ghost use Rattle.states.specs.Step.{step_told};
 ghost use Rattle.states.specs.Attributes.{there, agree, asks_v, asks_scheme, demands_at, meets, dtd_fits, no_others, attributes_fit, said_in, scheme_refusal, least, value_fixed, dtd_fixed, judge_tag};
 ghost use Rattle.states.specs.Act.{act_of};
 ghost use Rattle.states.specs.Constraints.{none_seen, withdrawing, changing, unchanging, directed_to, typed, directed, noticed, against, lacking};
@@ -18,17 +21,14 @@ use columns::{
 };
 use elements::element_no;
 use guideline::{
-    ASKED, DTD_MESSAGE, DTD_RELEASE, DTD_VERSION, Demands, OPTIONAL, has_enough, is_fixed, kind_at,
+    DTD_MESSAGE, DTD_RELEASE, DTD_VERSION, Demand, Demands, has_enough, is_fixed, kind_at,
     kind_of_root, rows_of, takes_another,
 };
 use items::{Item, Tag, name_in};
-use refusals::{
-    AGAINST_FORM, AGAINST_VALUE, NO_REFUSAL, NOT_DUE, OUTSIDE_LIST, TABLE_FULL, UNREADABLE_ITEM,
-    WRONG_ATTRIBUTE,
-};
-use rules::{BEARING_TYPE, CHANGE_TYPE, Held, Judged, judge_value};
+use refusals::Refusal;
+use rules::{BEARING_TYPE, CHANGE_TYPE, Held, Says, judge_value};
 use slices::{Span, part};
-use structure::{Due, end_after, ends_at_once, start_after};
+use structure::{end_after, ends_at_once, start_after};
 use tags::Dtd;
 use times::quarter_hours;
 use trims::trimmed;
@@ -89,12 +89,6 @@ pub enum Entry {
     Interval,
     Position(u32),
     Amount,
-}
-
-#[derive(Clone, Copy)]
-pub enum Step {
-    Next(State, Entry),
-    Refused(u32),
 }
 
 // Whether an attribute is there. Ruled out: false for a value of no bytes; true for one that no tag has.
@@ -163,13 +157,15 @@ fn demands_at(kind: u32, w: usize) -> Demands
     Demands::none()
 }
 
-fn meets_demand(demand: usize, given: bool) -> bool
+#[tactic(auto, unfolding(crate::specs::Attributes::meets))]
+fn meets_demand(demand: Demand, given: bool) -> bool
     ensures { result ≡ meets demand given }
 {
-    if demand == OPTIONAL {
-        return true;
+    match demand {
+        Demand::NotKnown => agrees(false, given),
+        Demand::Asked => agrees(true, given),
+        Demand::Optional => true,
     }
-    agrees(demand == ASKED, given)
 }
 
 fn fits_dtd(demands: Demands, d: Dtd) -> bool
@@ -215,32 +211,26 @@ fn value_of(w: usize, x: Span, s: &[u8]) -> &[u8]
     v
 }
 
-fn scheme_refusal(w: usize, x: Span, s: &[u8]) -> u32
-    ensures { result ≡ scheme_refusal w x s.now }
+fn scheme_refusal(w: usize, x: Span, s: &[u8]) -> Result<(), Refusal>
+    ensures { refusal_told result ≡ scheme_refusal w x s.now }
 {
     let k = scheme_of(w);
     if k == NO_SCHEME {
-        return NO_REFUSAL;
+        return Ok(());
     }
     let start = x.start;
     let len = x.len;
     if is_listed(k - BY_LIST, trimmed(part(s, start, len))) {
-        return NO_REFUSAL;
+        return Ok(());
     }
-    OUTSIDE_LIST
+    Err(Refusal::OutsideList)
 }
 
-// The smaller of two refusals, where there are two.
-fn least_of(a: u32, b: u32) -> u32
-    ensures { result ≡ least a b }
+// The smaller of two refusals.
+fn least_of(a: Refusal, b: Refusal) -> Refusal
+    ensures { number result ≡ least (number a) (number b) }
 {
-    if a == NO_REFUSAL {
-        return b;
-    }
-    if b == NO_REFUSAL {
-        return a;
-    }
-    if a <= b { a } else { b }
+    a.min(b)
 }
 
 // Whether an attribute of the root that is there has its fixed value.
@@ -269,41 +259,29 @@ fn is_dtd_fixed(kind: u32, d: Dtd, s: &[u8]) -> bool
     false
 }
 
-fn judge_tag(w: usize, t: Tag, s: &[u8], h: Held) -> Judged
-    ensures { result ≡ judge_tag w t h s.now }
+fn judge_tag(w: usize, t: Tag, s: &[u8], h: Held) -> Result<Says, Refusal>
+    ensures { Tells result (judge_tag w t h s.now) }
 {
     if is_root(w) {
         let dtd = t.dtd;
         if is_dtd_fixed(h.kind, dtd, s) {
-            return Judged {
-                number: NO_REFUSAL,
-                first: 0,
-                second: 0,
-            };
+            return Ok(Says::NOTHING);
         }
-        return Judged {
-            number: AGAINST_FORM,
-            first: 0,
-            second: 0,
-        };
+        return Err(Refusal::AgainstForm);
     }
     let form = form_of(w);
     if form == NO_FORM {
-        return Judged {
-            number: NO_REFUSAL,
-            first: 0,
-            second: 0,
-        };
+        return Ok(Says::NOTHING);
     }
     let v = t.v;
     let coding = t.coding;
-    let j = judge_value(form, value_of(w, v, s), h);
-    let first = j.first;
-    let second = j.second;
-    Judged {
-        number: least_of(j.number, scheme_refusal(w, coding, s)),
-        first,
-        second,
+    let said = judge_value(form, value_of(w, v, s), h);
+    match scheme_refusal(w, coding, s) {
+        Ok(()) => said,
+        Err(b) => match said {
+            Ok(_) => Err(b),
+            Err(a) => Err(least_of(a, b)),
+        },
     }
 }
 
@@ -344,19 +322,19 @@ pub fn count_of(intervals: u32, first: u32) -> u32
 }
 
 // The refusal of a Period's end by the number of its Intervals.
-fn count_refusal(kind: u32, quarters: u32, n: u32) -> u32
-    ensures { result ≡ count_refusal kind quarters n }
+fn count_refusal(kind: u32, quarters: u32, n: u32) -> Result<(), Refusal>
+    ensures { refusal_told result ≡ count_refusal kind quarters n }
 {
     if has_enough(kind, n as usize) {
         if kind_at(kind).full {
             if n == quarters {
-                return NO_REFUSAL;
+                return Ok(());
             }
-            return AGAINST_VALUE;
+            return Err(Refusal::AgainstValue);
         }
-        return NO_REFUSAL;
+        return Ok(());
     }
-    NOT_DUE
+    Err(Refusal::NotDue)
 }
 
 fn one_more(n: u32) -> u32
@@ -385,7 +363,7 @@ enum Act {
     Opens(Tag, bool),
     Closes,
     Passes,
-    Refuses(u32),
+    Refuses(Refusal),
 }
 
 fn act_of(item: Item) -> Act
@@ -399,10 +377,10 @@ fn act_of(item: Item) -> Act
             if white {
                 return Act::Passes;
             }
-            Act::Refuses(NOT_DUE)
+            Act::Refuses(Refusal::NotDue)
         }
         Item::Comment(_) => Act::Passes,
-        Item::Unreadable(_) => Act::Refuses(UNREADABLE_ITEM),
+        Item::Unreadable(_) => Act::Refuses(Refusal::UnreadableItem),
     }
 }
 
@@ -607,33 +585,24 @@ impl State {
         false
     }
 
-    fn beside_others(self, kind: u32, role: usize, j: Judged) -> Judged
-        ensures { result ≡ beside_others self kind role j }
+    fn beside_others(self, kind: u32, role: usize, j: Says) -> Result<Says, Refusal>
+        ensures { Tells result (beside_others self kind role (said j)) }
     {
-        if j.number == NO_REFUSAL {
-            if self.is_against_others(kind, role, j.first) {
-                return Judged {
-                    number: AGAINST_VALUE,
-                    first: 0,
-                    second: 0,
-                };
-            }
+        if self.is_against_others(kind, role, j.first) {
+            return Err(Refusal::AgainstValue);
         }
-        j
+        Ok(j)
     }
 
-    fn judge_values(self, kind: u32, w: usize, t: Tag, s: &[u8]) -> Judged
-        ensures { result ≡ values_judged self kind w t s.now }
+    fn judge_values(self, kind: u32, w: usize, t: Tag, s: &[u8]) -> Result<Says, Refusal>
+        ensures { Tells result (values_judged self kind w t s.now) }
     {
         let role = role_of(w);
         if self.has_half(role) {
-            return Judged {
-                number: AGAINST_VALUE,
-                first: 0,
-                second: 0,
-            };
+            return Err(Refusal::AgainstValue);
         }
-        self.beside_others(kind, role, judge_tag(w, t, s, self.held(kind)))
+        let j = judge_tag(w, t, s, self.held(kind))?;
+        self.beside_others(kind, role, j)
     }
 
     // The refusal of a start or empty tag whose row is due, and what its value says.
@@ -646,45 +615,29 @@ impl State {
         s: &[u8],
         empty: bool,
         room: Room,
-    ) -> Judged
-        ensures { result ≡ start_judged self kind rows.now row t s.now empty room }
+    ) -> Result<Says, Refusal>
+        ensures { Tells result (start_judged self kind rows.now row t s.now empty room) }
     {
         let w = row_at(rows, row);
         let role = role_of(w);
         if is_cut_short(empty, rows, row) {
-            return Judged {
-                number: NOT_DUE,
-                first: 0,
-                second: 0,
-            };
+            return Err(Refusal::NotDue);
         }
         if self.has_too_many(role, kind) {
-            return Judged {
-                number: NOT_DUE,
-                first: 0,
-                second: 0,
-            };
+            return Err(Refusal::NotDue);
         }
         if self.lacks_room(role, room) {
-            return Judged {
-                number: TABLE_FULL,
-                first: 0,
-                second: 0,
-            };
+            return Err(Refusal::TableFull);
         }
         if has_attributes(kind, w, t) {
             return self.judge_values(kind, w, t, s);
         }
-        Judged {
-            number: WRONG_ATTRIBUTE,
-            first: 0,
-            second: 0,
-        }
+        Err(Refusal::WrongAttribute)
     }
 
     // The state after the start of a row, which w describes.
-    fn entered(mut self, kind: u32, row: usize, w: usize, j: Judged, within: bool) -> State
-        ensures { result ≡ entered self kind row w j within }
+    fn entered(mut self, kind: u32, row: usize, w: usize, j: Says, within: bool) -> State
+        ensures { result ≡ entered self kind row w (said j) within }
     {
         self.kind = kind;
         self.row = row;
@@ -733,22 +686,19 @@ impl State {
         s: &[u8],
         empty: bool,
         room: Room,
-    ) -> Step
-        ensures { result ≡ started self kind rows.now name t s.now empty room }
+    ) -> Result<(State, Entry), Refusal>
+        ensures { step_told result ≡ started self kind rows.now name t s.now empty room }
     {
         match start_after(rows, self.row, self.inside, name) {
-            Due::Row(r) => {
-                let j = self.judge_start(kind, rows, r, t, s, empty, room);
-                if j.number == NO_REFUSAL {
-                    let w = row_at(rows, r);
-                    return Step::Next(
-                        self.entered(kind, r, w, j, !empty),
-                        entry_of(role_of(w), j.first),
-                    );
-                }
-                Step::Refused(j.number)
+            Some(r) => {
+                let j = self.judge_start(kind, rows, r, t, s, empty, room)?;
+                let w = row_at(rows, r);
+                Ok((
+                    self.entered(kind, r, w, j, !empty),
+                    entry_of(role_of(w), j.first),
+                ))
             }
-            Due::NotDue => Step::Refused(NOT_DUE),
+            None => Err(Refusal::NotDue),
         }
     }
 
@@ -762,21 +712,21 @@ impl State {
     }
 
     // The refusal of the root's end by the series that a constraint has to have.
-    fn lack_refusal(self) -> u32
-        ensures { result ≡ lack_refusal self }
+    fn lack_refusal(self) -> Result<(), Refusal>
+        ensures { refusal_told result ≡ lack_refusal self }
     {
         if kind_at(self.kind).constrained {
             let seen = self.seen;
             if seen.is_lacking(self.series) {
-                return AGAINST_VALUE;
+                return Err(Refusal::AgainstValue);
             }
         }
-        NO_REFUSAL
+        Ok(())
     }
 
     // The refusal of an end tag that closes a row.
-    fn end_refusal(self, rows: &[usize], row: usize) -> u32
-        ensures { result ≡ end_refusal self rows.now row }
+    fn end_refusal(self, rows: &[usize], row: usize) -> Result<(), Refusal>
+        ensures { refusal_told result ≡ end_refusal self rows.now row }
     {
         let role = role_of(row_at(rows, row));
         if role == PERIOD_ROLE {
@@ -786,35 +736,39 @@ impl State {
         if role == ROOT_ROLE {
             return self.lack_refusal();
         }
-        NO_REFUSAL
+        Ok(())
     }
 
     // An end tag whose name has the number `name`.
-    fn ended(self, rows: &[usize], name: usize) -> Step
-        ensures { result ≡ after_end self rows.now name }
+    fn ended(self, rows: &[usize], name: usize) -> Result<(State, Entry), Refusal>
+        ensures { step_told result ≡ after_end self rows.now name }
     {
         match end_after(rows, self.row, self.inside, name) {
-            Due::Row(r) => {
-                let n = self.end_refusal(rows, r);
-                if n == NO_REFUSAL {
-                    return Step::Next(self.left(r), Entry::Nothing);
-                }
-                Step::Refused(n)
+            Some(r) => {
+                self.end_refusal(rows, r)?;
+                Ok((self.left(r), Entry::Nothing))
             }
-            Due::NotDue => Step::Refused(NOT_DUE),
+            None => Err(Refusal::NotDue),
         }
     }
 
     // An item of a document of this kind; s is the part of the document that begins with it.
-    fn moved(self, kind: u32, rows: &[usize], item: Item, s: &[u8], room: Room) -> Step
-        ensures { result ≡ moved self kind rows.now item s.now room }
+    fn moved(
+        self,
+        kind: u32,
+        rows: &[usize],
+        item: Item,
+        s: &[u8],
+        room: Room,
+    ) -> Result<(State, Entry), Refusal>
+        ensures { step_told result ≡ moved self kind rows.now item s.now room }
     {
         let name = element_no(name_in(item, s));
         match act_of(item) {
             Act::Opens(t, empty) => self.started(kind, rows, name, t, s, empty, room),
             Act::Closes => self.ended(rows, name),
-            Act::Passes => Step::Next(self, Entry::Nothing),
-            Act::Refuses(n) => Step::Refused(n),
+            Act::Passes => Ok((self, Entry::Nothing)),
+            Act::Refuses(r) => Err(r),
         }
     }
 
@@ -837,8 +791,14 @@ impl State {
 
     // One item moves the state, or is refused. `rows` are the rows of all kinds.
     // Ruled out: an element that is not due taken; a refusal of a larger number where the item has a smaller; a count that a refused item moved.
-    pub fn step(self, rows: &[usize], item: Item, s: &[u8], room: Room) -> Step
-        ensures { result ≡ step_by self rows.now item s.now room }
+    pub fn step(
+        self,
+        rows: &[usize],
+        item: Item,
+        s: &[u8],
+        room: Room,
+    ) -> Result<(State, Entry), Refusal>
+        ensures { step_told result ≡ step_by self rows.now item s.now room }
     {
         let kind = self.kind_told(item, s);
         self.moved(kind, rows_of(rows, kind), item, s, room)

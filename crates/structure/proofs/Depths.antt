@@ -7,14 +7,12 @@ use mathlib.Core.Bool.{Bool, true, false}
 use mathlib.Core.Logic.{⊎_elim}
 use native.Mathlib.Nat.{zero-add}
 use native.Mathlib.Omega.{arith}
-use lib.Dec.{eqb}
 use lib.ListN.{length, get_or}
 use borrow.Author.Tests.{ne_eqb, eqb-true}
-use Rattle.lists.proofs.Cases.{bool_cases, eqb-cases, never}
+use Rattle.std.specs.Prelude.{Option, Some, None}
+use Rattle.lists.proofs.Cases.{eqb-cases, never}
 use Rattle.structure.specs.Rows.{name_of, parent_of, repeated, start_of, end_of, closes_document, over_of}
 use Rattle.structure.specs.Depth.{height_in, depth_of}
-use Rattle.structure.specs.declared.Due.{Due}
-use Rattle.structure.specs.declared.Due.TheVariants.{Row, NotDue}
 use Rattle.structure.proofs.Means.{start-means, end-means}
 
 height-more : (k : ℕ) (t : List ℕ) (r : ℕ) → (r ≡ 0 → ⊥) → height_in (suc k) t r ≡ suc (height_in k t (parent_of (get_or t r 0)))
@@ -75,7 +73,7 @@ record Taken (t : List ℕ) (r : ℕ) (o : Bool) (q : ℕ) : Type 0 where
   within : q < length t
 
 module _ (t : List ℕ) (d : Deep t) (r x q : ℕ) where
-  start-taken : (o : Bool) → start_of t r o x ≡ Row q → Taken t r o q
+  start-taken : (o : Bool) → start_of t r o x ≡ Some q → Taken t r o q
   unfolding depth_of
   start-taken true e =
       let n = (start-means t r x q true e).1 in
@@ -95,33 +93,33 @@ module _ (t : List ℕ) (d : Deep t) (r x q : ℕ) where
       s.1
 
   -- "An empty tag is a start and an end in one item": as many are open after it as before
-  pub start-shut : (o : Bool) → start_of t r o x ≡ Row q → depth_of t q false ≡ depth_of t r o
+  pub start-shut : (o : Bool) → start_of t r o x ≡ Some q → depth_of t q false ≡ depth_of t r o
   unfolding depth_of
   start-shut o e = (start-taken o e).stands
 
-  pub start-open : (o : Bool) → start_of t r o x ≡ Row q → depth_of t q true ≡ suc (depth_of t r o)
+  pub start-open : (o : Bool) → start_of t r o x ≡ Some q → depth_of t q true ≡ suc (depth_of t r o)
   unfolding depth_of
   start-open o e = let k = start-taken o e in d.climbs q k.other k.within ∙ ap suc k.stands
 
-  innermost-open : (o : Bool) → end_of t r o x ≡ Row q → depth_of t r o ≡ height_in 16 t q
+  innermost-open : (o : Bool) → end_of t r o x ≡ Some q → depth_of t r o ≡ height_in 16 t q
   unfolding depth_of
   innermost-open true e = ap (height_in 16 t) (sym (end-means t r x q true e).innermost)
   innermost-open false e = ap (height_in 16 t) (sym (end-means t r x q false e).innermost)
 
-  end-shut : (o : Bool) → end_of t r o x ≡ Row q → (q ≡ 0 → ⊥) → depth_of t r o ≡ suc (depth_of t q false)
+  end-shut : (o : Bool) → end_of t r o x ≡ Some q → (q ≡ 0 → ⊥) → depth_of t r o ≡ suc (depth_of t q false)
   unfolding depth_of
   end-shut o e f = innermost-open o e ∙ d.climbs q f (end-means t r x q o e).within
 
   -- an end tag of an element closes no document
-  pub end-one : (o : Bool) → end_of t r o x ≡ Row q → (x ≡ 255 → ⊥) → depth_of t r o ≡ suc (depth_of t q false)
+  pub end-one : (o : Bool) → end_of t r o x ≡ Some q → (x ≡ 255 → ⊥) → depth_of t r o ≡ suc (depth_of t q false)
   end-one o e f =
       end-shut o e (λ z. f (sym (end-means t r x q o e).named ∙ ap (λ (i : ℕ). name_of (get_or t i 0)) z ∙ d.named))
 
-closes-first : (w : Due) (p : ℕ) → w ≡ Row p → closes_document w ≡ true → p ≡ 0
+closes-first : (w : Option ℕ) (p : ℕ) → w ≡ Some p → closes_document w ≡ true → p ≡ 0
 unfolding closes_document
 closes-first w p e z = eqb-true p 0 (rw e at z)
 
-closes-some : closes_document NotDue ≡ false
+closes-some : closes_document None ≡ false
 unfolding closes_document
 closes-some = refl
 
@@ -130,12 +128,12 @@ pub over_none : (t : List ℕ) (d : Deep t) (r : ℕ) (o : Bool) → over_of t r
 unfolding over_of
 over_none t d r o e = go (end_of t r o 255) refl e
   where
-    go : (w : Due) → end_of t r o 255 ≡ w → closes_document w ≡ true → depth_of t r o ≡ 0
-    go NotDue q z = never (sym closes-some ∙ z)
-    go (Row p) q z = innermost-open t d r 255 p o q ∙ ap (height_in 16 t) (closes-first (Row p) p refl z) ∙ height-none 16 t
+    go : (w : Option ℕ) → end_of t r o 255 ≡ w → closes_document w ≡ true → depth_of t r o ≡ 0
+    go None q z = never (sym closes-some ∙ z)
+    go (Some p) q z = innermost-open t d r 255 p o q ∙ ap (height_in 16 t) (closes-first (Some p) p refl z) ∙ height-none 16 t
 
 -- before the root nothing is open, by any table
-pub none_open : (t : List ℕ) (d : Deep t) (x q : ℕ) (o : Bool) → start_of t 0 o x ≡ Row q → depth_of t 0 o ≡ 0
+pub none_open : (t : List ℕ) (d : Deep t) (x q : ℕ) (o : Bool) → start_of t 0 o x ≡ Some q → depth_of t 0 o ≡ 0
 unfolding depth_of
 none_open t d x q true e = height-none 16 t
 none_open t d x q false e =

@@ -8,12 +8,11 @@ use native.Mathlib.Numerals.{add-one}
 use lib.ListN.{length, drop, get_or, drop_of_length-le}
 use lib.Seq.{drop-cons}
 use borrow.Author.Tests.{eq-eqb, ne_eqb}
+use Rattle.std.specs.Prelude.{Option, Some, None}
 use Rattle.structure.specs.Rows.{next_in, ends_in, parent_of, name_of, required}
-use Rattle.structure.specs.declared.Due.{Due}
-use Rattle.structure.specs.declared.Due.TheVariants.{Row, NotDue}
 
-module _ (t : List ℕ) (i p x : ℕ) {d : Due} (inv : next_in (drop i t) i p x ≡ d) where
-  pub next-end : length t ≤ i → NotDue ≡ d
+module _ (t : List ℕ) (i p x : ℕ) {d : Option ℕ} (inv : next_in (drop i t) i p x ≡ d) where
+  pub next-end : length t ≤ i → None ≡ d
   unfolding next_in
   next-end h = rw (drop_of_length-le t h) at inv
 
@@ -23,12 +22,12 @@ module _ (t : List ℕ) (i p x : ℕ) {d : Due} (inv : next_in (drop i t) i p x 
     next_past n = rw (add-one i) (rw (drop-cons t i 0 h, ← ea, ne_eqb _ _ n, add-one) at inv)
 
     module _ (here : a ≡ p) {b : ℕ} (eb : b ≡ name_of (get_or t i 0)) where
-      pub next_row : b ≡ x → Row i ≡ d
+      pub next_row : b ≡ x → Some i ≡ d
       unfolding next_in
       next_row y = rw (drop-cons t i 0 h, ← ea, ← eb, eq-eqb _ _ here, eq-eqb _ _ y) at inv
 
       module _ (other : b ≡ x → ⊥) {f : Bool} (ef : f ≡ required (get_or t i 0)) where
-        pub next-stop : f ≡ true → NotDue ≡ d
+        pub next-stop : f ≡ true → None ≡ d
         unfolding next_in
         next-stop y = rw (drop-cons t i 0 h, ← ea, ← eb, ← ef, eq-eqb _ _ here, ne_eqb _ _ other, y) at inv
 

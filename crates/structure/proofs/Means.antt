@@ -8,11 +8,11 @@ use Prim.Native.Nat.{ℕ, zero, suc, ◌+◌, ◌-◌, ◌≤◌, ◌<◌}
 use native.Mathlib.Omega.{arith}
 use lib.ListN.{length, get_or, drop}
 use borrow.Author.Tests.{eq-eqb, ne_eqb, lt-ltb}
+use Rattle.std.specs.Prelude.{Some, None}
 use Rattle.lists.proofs.Cases.{eqb-cases, ltb-cases, bool_cases, zero-not-one}
 use Rattle.structure.specs.Rows.{next_in, ends_in, start_of, end_at, end_of, parent_of, name_of, required, repeated}
 use Rattle.structure.specs.Means.{NextIn, StartDue, EndDue}
 use Rattle.structure.proofs.Laws.{next-end, next_past, next_row, next-stop, next-on, ends-end, ends-past, ends-stop, ends_on}
-use Rattle.structure.specs.declared.Due.TheVariants.{Row, NotDue}
 
 -- k rows are left at most: the inductions go by it
 module _ (t : List ℕ) (r p x : ℕ) where
@@ -30,8 +30,8 @@ module _ (t : List ℕ) (r p x : ℕ) where
       (λ y. let e : j ≡ i = omega arith in rw e b)
       (ltb-cases j i)
 
-  next-means : (k i q : ℕ) → length t ≤ i + k → r < i → Passed i → next_in (drop i t) i p x ≡ Row q → NextIn t r p x q
-  next-means zero i q b l a e = let z : NotDue ≡ Row q = next-end t i p x e (omega arith) in absurd (zero-not-one (cc))
+  next-means : (k i q : ℕ) → length t ≤ i + k → r < i → Passed i → next_in (drop i t) i p x ≡ Some q → NextIn t r p x q
+  next-means zero i q b l a e = let z : None ≡ Some q = next-end t i p x e (omega arith) in absurd (zero-not-one (cc))
   next-means (suc k) i q b l a e =
       ⊎_elim
       (λ h.
@@ -39,21 +39,21 @@ module _ (t : List ℕ) (r p x : ℕ) where
       (λ s.
       ⊎_elim
       (λ n.
-      let z : Row i ≡ Row q = next_row t i p x e h.0 refl s.0 refl n.0 in
+      let z : Some i ≡ Some q = next_row t i p x e h.0 refl s.0 refl n.0 in
       let w : q ≡ i = cc in
       rw w (record { after = l; within = h.0; stands = s.0; named = n.0; between = a }))
       (λ n.
       ⊎_elim
-      (λ f. let z : NotDue ≡ Row q = next-stop t i p x e h.0 refl s.0 refl n.0 refl f in absurd (zero-not-one (cc)))
+      (λ f. let z : None ≡ Some q = next-stop t i p x e h.0 refl s.0 refl n.0 refl f in absurd (zero-not-one (cc)))
       (λ f. next-means k (i + 1) q (omega arith) (omega arith) (passed_on i a (λ _. (n.0, f))) (next-on t i p x e h.0 refl s.0 refl n.0 refl f))
       (bool_cases (required (get_or t i 0))))
       (eqb-cases (name_of (get_or t i 0)) x))
       (λ s. next-means k (i + 1) q (omega arith) (omega arith) (passed_on i a (λ o. absurd (s.0 o))) (next_past t i p x e h.0 refl s.0))
       (eqb-cases (parent_of (get_or t i 0)) p))
-      (λ h. let z : NotDue ≡ Row q = next-end t i p x e h.0 in absurd (zero-not-one (cc)))
+      (λ h. let z : None ≡ Some q = next-end t i p x e h.0 in absurd (zero-not-one (cc)))
       (ltb-cases i (length t))
 
-  next-made : (k i q : ℕ) → q ≡ i + k → r < i → NextIn t r p x q → next_in (drop i t) i p x ≡ Row q
+  next-made : (k i q : ℕ) → q ≡ i + k → r < i → NextIn t r p x q → next_in (drop i t) i p x ≡ Some q
   next-made zero i q b l d =
       let e : i ≡ q = omega arith in
       rw e (sym (next_row t q p x refl d.within refl d.stands refl d.named))
@@ -108,12 +108,12 @@ module _ (t : List ℕ) (p : ℕ) where
 
 module _ (t : List ℕ) (r x q : ℕ) where
   -- what is found is due
-  pub start-means : (o : Bool) → start_of t r o x ≡ Row q → StartDue t r o x q
+  pub start-means : (o : Bool) → start_of t r o x ≡ Some q → StartDue t r o x q
   unfolding start_of
   start-means true e =
       ⊎_elim
       (λ h. (h.0, next-means t r r x (length t) (r + 1) q (omega arith) (omega arith) (λ j a b. absurd (omega arith)) (rw h.1 at e)))
-      (λ h. let z : NotDue ≡ Row q = rw h.1 at e in absurd (zero-not-one (cc)))
+      (λ h. let z : None ≡ Some q = rw h.1 at e in absurd (zero-not-one (cc)))
       (ltb-cases r (length t))
   start-means false e =
       let later = next-means t r (parent_of (get_or t r 0)) x (length t) (r + 1) q (omega arith) (omega arith) (λ j a b. absurd (omega arith)) in
@@ -124,7 +124,7 @@ module _ (t : List ℕ) (r x q : ℕ) where
             (λ a.
             ⊎_elim
             (λ n.
-            let z : Row r ≡ Row q = rw (h.1, a, n.1) at e in
+            let z : Some r ≡ Some q = rw (h.1, a, n.1) at e in
             let w : q ≡ r = cc in
             inl (record { itself = w; repeats = a; named = n.0 }))
             (λ n. inr ((λ g. n.0 g.named), later (rw (h.1, a, n.1) at e)))
@@ -132,16 +132,16 @@ module _ (t : List ℕ) (r x q : ℕ) where
             (λ a. inr ((λ g. let z : true ≡ false = sym g.repeats ∙ a in absurd (zero-not-one (cc))), later (rw (h.1, a) at e)))
             (bool_cases (repeated (get_or t r 0))),
       ))
-      (λ h. let z : NotDue ≡ Row q = rw h.1 at e in absurd (zero-not-one (cc)))
+      (λ h. let z : None ≡ Some q = rw h.1 at e in absurd (zero-not-one (cc)))
       (ltb-cases r (length t))
 
   -- and what is due is found
-  pub start-made : (o : Bool) → StartDue t r o x q → start_of t r o x ≡ Row q
+  pub start-made : (o : Bool) → StartDue t r o x q → start_of t r o x ≡ Some q
   unfolding start_of
   start-made true d = rw (lt-ltb _ _ d.0) (next-made t r r x (q - (r + 1)) (r + 1) q (omega (arith, d.1.after)) (omega arith) d.1)
   start-made false d =
       ⊎_elim
-      (λ g. rw (lt-ltb _ _ d.0, g.repeats, eq-eqb _ _ g.named) (ap Row (sym g.itself)))
+      (λ g. rw (lt-ltb _ _ d.0, g.repeats, eq-eqb _ _ g.named) (ap Some (sym g.itself)))
       (λ g.
       let n = next-made t r (parent_of (get_or t r 0)) x (q - (r + 1)) (r + 1) q (omega (arith, g.1.after)) (omega arith) g.1 in
       ⊎_elim
@@ -150,7 +150,7 @@ module _ (t : List ℕ) (r x q : ℕ) where
       (bool_cases (repeated (get_or t r 0))))
       d.1
 
-  at-means : (o : Bool) (p : ℕ) → r < length t → p ≡ cond o r (parent_of (get_or t r 0)) → end_at t r p x ≡ Row q → EndDue t r o x q
+  at-means : (o : Bool) (p : ℕ) → r < length t → p ≡ cond o r (parent_of (get_or t r 0)) → end_at t r p x ≡ Some q → EndDue t r o x q
   unfolding end_at
   at-means o p l m e =
       ⊎_elim
@@ -159,7 +159,7 @@ module _ (t : List ℕ) (r x q : ℕ) where
       (λ n.
       ⊎_elim
       (λ f.
-      let z : Row p ≡ Row q = rw (h.1, n.1, f) at e in
+      let z : Some p ≡ Some q = rw (h.1, n.1, f) at e in
       let w : q ≡ p = cc in
       rw w (record {
         inside = l;
@@ -168,32 +168,32 @@ module _ (t : List ℕ) (r x q : ℕ) where
         named = n.0;
         complete = λ j a. ends-mean t p (length t) (r + 1) (omega arith) f j (omega arith);
       }))
-      (λ f. let z : NotDue ≡ Row q = rw (h.1, n.1, f) at e in absurd (zero-not-one (cc)))
+      (λ f. let z : None ≡ Some q = rw (h.1, n.1, f) at e in absurd (zero-not-one (cc)))
       (bool_cases (ends_in (drop (r + 1) t) p)))
-      (λ n. let z : NotDue ≡ Row q = rw (h.1, n.1) at e in absurd (zero-not-one (cc)))
+      (λ n. let z : None ≡ Some q = rw (h.1, n.1) at e in absurd (zero-not-one (cc)))
       (eqb-cases (name_of (get_or t p 0)) x))
-      (λ h. let z : NotDue ≡ Row q = rw h.1 at e in absurd (zero-not-one (cc)))
+      (λ h. let z : None ≡ Some q = rw h.1 at e in absurd (zero-not-one (cc)))
       (ltb-cases p (length t))
 
-  at-made : (o : Bool) → EndDue t r o x q → end_at t r q x ≡ Row q
+  at-made : (o : Bool) → EndDue t r o x q → end_at t r q x ≡ Some q
   unfolding end_at
   at-made o d =
       rw (lt-ltb _ _ d.within, eq-eqb _ _ d.named, ends-made t q (length t) (r + 1) (omega arith) (λ j a. d.complete j (omega arith)))
 
-  pub end-means : (o : Bool) → end_of t r o x ≡ Row q → EndDue t r o x q
+  pub end-means : (o : Bool) → end_of t r o x ≡ Some q → EndDue t r o x q
   unfolding end_of
   end-means true e =
       ⊎_elim
       (λ h. at-means true r h.0 refl (rw h.1 at e))
-      (λ h. let z : NotDue ≡ Row q = rw h.1 at e in absurd (zero-not-one (cc)))
+      (λ h. let z : None ≡ Some q = rw h.1 at e in absurd (zero-not-one (cc)))
       (ltb-cases r (length t))
   end-means false e =
       ⊎_elim
       (λ h. at-means false (parent_of (get_or t r 0)) h.0 refl (rw h.1 at e))
-      (λ h. let z : NotDue ≡ Row q = rw h.1 at e in absurd (zero-not-one (cc)))
+      (λ h. let z : None ≡ Some q = rw h.1 at e in absurd (zero-not-one (cc)))
       (ltb-cases r (length t))
 
-  pub end-made : (o : Bool) → EndDue t r o x q → end_of t r o x ≡ Row q
+  pub end-made : (o : Bool) → EndDue t r o x q → end_of t r o x ≡ Some q
   unfolding end_of
   end-made true d = rw (lt-ltb _ _ d.inside) (ap (λ (p : ℕ). end_at t r p x) (sym d.innermost) ∙ at-made true d)
   end-made false d = rw (lt-ltb _ _ d.inside) (ap (λ (p : ℕ). end_at t r p x) (sym d.innermost) ∙ at-made false d)

@@ -4,10 +4,10 @@ use Prim.Native.Nat.{ℕ}
 use mathlib.Core.Path.{◌≡◌}
 use mathlib.Core.List.{List}
 use mathlib.Core.Bool.{Bool}
+use Rattle.std.specs.Prelude.{Option}
 use Rattle.lists.proofs.Unique.{one}
 use Rattle.structure.specs.Rows.{name_of, parent_of, required, repeated, start_of, end_of, ends_at_once, over_of}
 use Rattle.structure.specs.Depth.{depth_of}
-use Rattle.structure.specs.declared.Due.{Due}
 
 pub name-of-one : (w : ℕ) {r r' : ℕ} → r ≡ name_of w → r' ≡ name_of w → r ≡ r'
 name-of-one w = one
@@ -21,11 +21,11 @@ is-required-one w = one
 pub is-repeated-one : (w : ℕ) {r r' : Bool} → r ≡ repeated w → r' ≡ repeated w → r ≡ r'
 is-repeated-one w = one
 
-pub start-after-one : (t : List ℕ) (row : ℕ) (inside : Bool) (name : ℕ) {d d' : Due}
+pub start-after-one : (t : List ℕ) (row : ℕ) (inside : Bool) (name : ℕ) {d d' : Option ℕ}
     → d ≡ start_of t row inside name → d' ≡ start_of t row inside name → d ≡ d'
 start-after-one t row inside name = one
 
-pub end-after-one : (t : List ℕ) (row : ℕ) (inside : Bool) (name : ℕ) {d d' : Due}
+pub end-after-one : (t : List ℕ) (row : ℕ) (inside : Bool) (name : ℕ) {d d' : Option ℕ}
     → d ≡ end_of t row inside name → d' ≡ end_of t row inside name → d ≡ d'
 end-after-one t row inside name = one
 

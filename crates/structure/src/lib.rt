@@ -6,12 +6,6 @@ ghost use Rattle.std.specs.Prelude.{◌≡◌, ◌<◌, ◌+◌, length, drop, g
 ghost use Rattle.structure.specs.Rows.{name_of, parent_of, required, repeated, next_in, ends_in, start_of, end_at, end_of, ends_at_once, over_of};
 ghost use Rattle.structure.specs.Depth.{height_in, depth_of};
 
-#[derive(Clone, Copy)]
-pub enum Due {
-    Row(usize),
-    NotDue,
-}
-
 // The name of row 0, the document as a whole: no element has it.
 pub const DOCUMENT: usize = 255;
 
@@ -44,49 +38,45 @@ pub fn is_repeated(w: usize) -> bool
 }
 
 // The first of the rows from `from` on that stand in p and bears the name, if no row that has to come stands before it.
-fn next_in(t: &[usize], from: usize, p: usize, name: usize) -> Due
+fn next_in(t: &[usize], from: usize, p: usize, name: usize) -> Option<usize>
     ensures { result ≡ next_in (drop from t.now) from p name }
 {
-    let mut i = from;
-    while i < t.len() {
+    for i in from..t.len() {
         let w = t[i];
         if parent_of(w) == p {
             if name_of(w) == name {
-                return Due::Row(i);
+                return Some(i);
             }
             if is_required(w) {
-                return Due::NotDue;
+                return None;
             }
         }
-        i += 1;
     }
-    Due::NotDue
+    None
 }
 
 // Whether none of the rows from `from` on stands in p and has to come.
 fn ends_in(t: &[usize], from: usize, p: usize) -> bool
     ensures { result ≡ ends_in (drop from t.now) p }
 {
-    let mut i = from;
-    while i < t.len() {
+    for i in from..t.len() {
         let w = t[i];
         if parent_of(w) == p {
             if is_required(w) {
                 return false;
             }
         }
-        i += 1;
     }
     true
 }
 
 // The row that a start tag takes after `row`, the last that was started, which is open or closed.
 // Ruled out: a row past one that has to come; the first row of that name wherever it stands; an element that may come once, again.
-pub fn start_after(t: &[usize], row: usize, inside: bool, name: usize) -> Due
+pub fn start_after(t: &[usize], row: usize, inside: bool, name: usize) -> Option<usize>
     ensures { result ≡ start_of t.now row inside name }
 {
     if t.len() <= row {
-        return Due::NotDue;
+        return None;
     }
     if inside {
         return next_in(t, row + 1, row, name);
@@ -94,35 +84,35 @@ pub fn start_after(t: &[usize], row: usize, inside: bool, name: usize) -> Due
     let w = t[row];
     if is_repeated(w) {
         if name_of(w) == name {
-            return Due::Row(row);
+            return Some(row);
         }
     }
     next_in(t, row + 1, parent_of(w), name)
 }
 
 // Row p, if it bears the name and may end after `row`.
-fn end_at(t: &[usize], row: usize, p: usize, name: usize) -> Due
+fn end_at(t: &[usize], row: usize, p: usize, name: usize) -> Option<usize>
     requires { row < length t.now }
     ensures { result ≡ end_at t.now row p name }
 {
     if t.len() <= p {
-        return Due::NotDue;
+        return None;
     }
     if name_of(t[p]) == name {
         if ends_in(t, row + 1, p) {
-            return Due::Row(p);
+            return Some(p);
         }
     }
-    Due::NotDue
+    None
 }
 
 // The row that an end tag closes after `row`, the last that was started, which is open or closed.
 // Ruled out: an end with a child missing; an end tag of another name than the open element's; the row itself where it is closed already.
-pub fn end_after(t: &[usize], row: usize, inside: bool, name: usize) -> Due
+pub fn end_after(t: &[usize], row: usize, inside: bool, name: usize) -> Option<usize>
     ensures { result ≡ end_of t.now row inside name }
 {
     if t.len() <= row {
-        return Due::NotDue;
+        return None;
     }
     if inside {
         return end_at(t, row, row, name);
@@ -146,10 +136,7 @@ pub fn ends_at_once(t: &[usize], row: usize) -> bool
 pub fn is_over(t: &[usize], row: usize, inside: bool) -> bool
     ensures { result ≡ over_of t.now row inside }
 {
-    match end_after(t, row, inside, DOCUMENT) {
-        Due::Row(p) => p == 0,
-        Due::NotDue => false,
-    }
+    end_after(t, row, inside, DOCUMENT) == Some(0)
 }
 
 // Row r, and 0 past the last.
@@ -166,16 +153,14 @@ fn row_at(t: &[usize], r: usize) -> usize
 fn height(t: &[usize], row: usize) -> u32
     ensures { result ≡ height_in 16 t.now row }
 {
-    let mut n: u32 = 0;
     let mut r = row;
-    while n < 16 {
+    for n in 0..16 {
         if r == 0 {
             return n;
         }
         r = parent_of(row_at(t, r));
-        n += 1;
     }
-    n
+    16
 }
 
 // "The count of elements open" after `row`, the last that was started, which is open or closed.

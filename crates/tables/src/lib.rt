@@ -9,22 +9,14 @@ ghost use Rattle.tables.specs.Cells.{no_amounts};
 pub fn clear_numbers(t: &mut [u32])
     ensures { t.new ≡ zeros (length t.old) }
 {
-    let mut i: usize = 0;
-    while i < t.len() {
-        t[i] = 0;
-        i += 1;
-    }
+    t.fill(0);
 }
 
 // Makes every amount 0. Ruled out: a cell left as it was (the last, say), and another value than 0 anywhere.
 pub fn clear_amounts(t: &mut [i64])
     ensures { t.new ≡ no_amounts (length t.old) }
 {
-    let mut i: usize = 0;
-    while i < t.len() {
-        t[i] = 0;
-        i += 1;
-    }
+    t.fill(0);
 }
 
 // Sets cell i to n. Ruled out: another cell set, and a cell left as it was where there is one.

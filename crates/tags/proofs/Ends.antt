@@ -23,10 +23,9 @@ use Rattle.attributes.specs.declared.Piece.{Piece}
 use Rattle.attributes.specs.declared.Piece.TheVariants.{Attribute, Close, CloseEmpty, Torn}
 use Rattle.tags.specs.Known.{dtd_name, with_attribute, none_known, absent}
 use Rattle.tags.specs.First.{v_use, first_known}
-use Rattle.tags.specs.Tail.{Attr, Ends, closed, torn, onto, ends_after, ends, kept_of, tail}
+use Rattle.tags.specs.Tail.{Attr, Ends, closed, torn, onto, ends_after, ends, kept_of, tail, shut}
 use Rattle.slices.specs.declared.Span.{Span}
 use Rattle.tags.specs.declared.Known.{Known}
-use Rattle.tags.specs.declared.Tail.TheVariants.{Shut}
 
 skip : (k at : ℕ) (l : List ℕ) → ends_after k at l ≡ ends_after 0 (at + k) (drop k l)
 unfolding ends_after
@@ -120,7 +119,7 @@ noted-v k {next} name value j e p q =
 
 -- t is the part of the tag from i on, and b what `byte_at` answered there
 pub close-tail : (s : List ℕ) (i : ℕ) {t : List ℕ} {b : ℕ} → t ≡ drop i s → b ≡ byte t 0 → b ≡ 0x3E → i < length s
-    → Shut none_known false (i + 1) ≡ tail none_known (ends s i)
+    → shut none_known false (i + 1) ≡ tail none_known (ends s i)
 unfolding tail kept_of
 close-tail s i {t} et e f h = sym (ap (tail none_known) (ends_close s i t et (piece t) refl 1 h (close-piece t (sym e ∙ f))))
 
@@ -175,7 +174,7 @@ module _ (i m u : ℕ) (k : Known) (eu : u ≡ v_use m) (ek : k ≡ first_known 
 
     -- with `/>` after it; a and b are the two bytes
     pub first-empty : {a b : ℕ} → 0 < m → a ≡ byte t (m + 4) → a ≡ 0x2F → b ≡ byte t (m + 5) → b ≡ 0x3E → i + (m + 5) < length s
-        → Shut k true (i + u + 2) ≡ tail k (ends s (i + u))
+        → shut k true (i + u + 2) ≡ tail k (ends s (i + u))
     unfolding tail kept_of
     first-empty n ea fa eb fb h =
         let x : u ≡ m + 4 = use-some (ne_eqb m 0 (λ e. omega arith)) in

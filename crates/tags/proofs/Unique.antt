@@ -3,6 +3,7 @@
 use Prim.Native.Nat.{ℕ}
 use mathlib.Core.Path.{◌≡◌}
 use mathlib.Core.List.{List}
+use Rattle.std.specs.Prelude.{Option}
 use Rattle.lists.proofs.Unique.{one}
 use Rattle.tags.specs.Known.{with_attribute, none_known}
 use Rattle.tags.specs.Tail.{ends, tail}
@@ -16,5 +17,5 @@ none-one = one
 pub noted_one : (k : Known) (name : List ℕ) (value : Span) {r r' : Known} → r ≡ with_attribute k name value → r' ≡ with_attribute k name value → r ≡ r'
 noted_one k name value = one
 
-pub tail-at-one : (s : List ℕ) (from : ℕ) {r r' : Tail} → r ≡ tail none_known (ends s from) → r' ≡ tail none_known (ends s from) → r ≡ r'
+pub tail-at-one : (s : List ℕ) (from : ℕ) {r r' : Option Tail} → r ≡ tail none_known (ends s from) → r' ≡ tail none_known (ends s from) → r ≡ r'
 tail-at-one s from = one

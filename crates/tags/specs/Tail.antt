@@ -1,5 +1,5 @@
 -- What follows the name in a tag: attributes, and `>` or `/>`.
-use Rattle.std.specs.Prelude.{ℕ, zero, suc, pred, ◌+◌, List, [], ◌∷◌, Bool, true, false, cond, drop}
+use Rattle.std.specs.Prelude.{ℕ, zero, suc, pred, ◌+◌, List, [], ◌∷◌, Bool, true, false, cond, drop, Option, Some, None}
 use Rattle.slices.specs.Same.{same}
 use Rattle.slices.specs.Part.{part_of}
 use Rattle.attributes.specs.Attribute.{piece}
@@ -8,7 +8,6 @@ use Rattle.attributes.specs.declared.Piece.TheVariants.{Attribute, Close, CloseE
 use Rattle.slices.specs.declared.Span.{Span}
 use Rattle.tags.specs.declared.Known.{Known}
 use Rattle.tags.specs.declared.Tail.{Tail}
-use Rattle.tags.specs.declared.Tail.TheVariants.{Shut, Breaks}
 
 -- an attribute: its name, and where its value stands
 pub record Attr : Type 0 where
@@ -45,9 +44,13 @@ unfoldable pub kept_of : Known → List Attr → Known
 kept_of k [] = k
 kept_of k (a ∷ more) = kept_of (with_attribute k a.name a.value) more
 
-unfoldable pub tail : Known → Ends → Tail
-tail k (closed more empty n) = Shut (kept_of k more) empty n
-tail k torn = Breaks
+-- a tag that ends, with what is kept of its attributes
+abbrev pub shut : Known → Bool → ℕ → Option Tail
+shut k empty n = Some (record { known = k; empty = empty; end = n })
+
+unfoldable pub tail : Known → Ends → Option Tail
+tail k (closed more empty n) = shut (kept_of k more) empty n
+tail k torn = None
 
 -- one of the attributes has the name n
 unfoldable pub named : List ℕ → List Attr → Bool
@@ -64,11 +67,11 @@ twice_in (closed more empty n) = twice more
 twice_in torn = false
 
 -- how far a tag reaches
-abbrev pub tail_use : Tail → ℕ
-tail_use (Shut k empty n) = n
-tail_use Breaks = 1
+abbrev pub tail_use : Option Tail → ℕ
+tail_use (Some t) = t.end
+tail_use None = 1
 
 -- where the value of `v` ends
-abbrev pub tail_value : Tail → ℕ
-tail_value (Shut k empty n) = k.v.start + k.v.len
-tail_value Breaks = 0
+abbrev pub tail_value : Option Tail → ℕ
+tail_value (Some t) = t.known.v.start + t.known.v.len
+tail_value None = 0

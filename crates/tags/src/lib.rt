@@ -6,7 +6,7 @@ ghost use Rattle.slices.specs.Same.{same};
 ghost use Rattle.slices.specs.Text.{text};
 ghost use Rattle.tags.specs.Known.{passed_over, up_to_two, dtd_name, with_dtd, no_dtd, with_attribute, none_known};
 ghost use Rattle.tags.specs.First.{v_use, first_known};
-ghost use Rattle.tags.specs.Tail.{ends, tail, tail_use, tail_value};
+ghost use Rattle.tags.specs.Tail.{ends, shut, tail, tail_use, tail_value};
 
 use attributes::{Piece, piece_at, v_len};
 use slices::{Span, begins_with, byte_at, is_same, part, rest};
@@ -162,15 +162,25 @@ impl Known {
     }
 }
 
+// The rest of a tag that ends: what is kept of the attributes, whether the tag is an empty one, and the place after it.
 #[derive(Clone, Copy)]
-pub enum Tail {
-    // what is kept of the attributes, whether the tag is an empty one, and the place after it
-    Shut(Known, bool, usize),
-    Breaks,
+pub struct Tail {
+    pub known: Known,
+    pub empty: bool,
+    pub end: usize,
 }
 
-// The rest of a tag, where this is known of the attributes before it.
-fn any_tail(s: &[u8], from: usize, known: Known) -> Tail
+impl Tail {
+    // A tag that ends.
+    fn shut(known: Known, empty: bool, end: usize) -> Option<Tail>
+        ensures { result ≡ shut known empty end }
+    {
+        Some(Tail { known, empty, end })
+    }
+}
+
+// The rest of a tag, where this is known of the attributes before it; none where the tag breaks off.
+fn any_tail(s: &[u8], from: usize, known: Known) -> Option<Tail>
     requires { known.v.start + known.v.len ≤ from }
     ensures tail { result ≡ tail known (ends s.now from) }
     ensures size { (1 ≤ tail_use result) × (tail_use result ≤ length s.now + 3) × (tail_value result ≤ tail_use result) }
@@ -192,12 +202,12 @@ fn any_tail(s: &[u8], from: usize, known: Known) -> Tail
                 k = k.noted(part(t, at, name), Span { start, len });
                 i = after;
             }
-            Piece::Close(n) => return Tail::Shut(k, false, i + n),
-            Piece::CloseEmpty(n) => return Tail::Shut(k, true, i + n),
-            Piece::Torn => return Tail::Breaks,
+            Piece::Close(n) => return Tail::shut(k, false, i + n),
+            Piece::CloseEmpty(n) => return Tail::shut(k, true, i + n),
+            Piece::Torn => return None,
         }
     }
-    Tail::Breaks
+    None
 }
 
 // How many bytes `v` takes in its shortest form, where m is its `v_len`.
@@ -221,19 +231,19 @@ fn first_known(from: usize, m: usize) -> Known
     Known::only_v(Span { start, len })
 }
 
-// The rest of the tag at the front of s, from the place `from` on. `>`, and `v` alone in an empty tag, which nearly every tag has, are told
+// The rest of the tag at the front of s, from the place `from` on; none where it breaks off. `>`, and `v` alone in an empty tag, which nearly every tag has, are told
 // with no turn of a loop.
 // Ruled out: the value of another attribute; an empty tag taken for a start; a place before or past the `>`.
-pub fn tail_at(s: &[u8], from: usize) -> Tail
+pub fn tail_at(s: &[u8], from: usize) -> Option<Tail>
     ensures tail { result ≡ tail none_known (ends s.now from) }
     ensures size { (1 ≤ tail_use result) × (tail_use result ≤ length s.now + 3) × (tail_value result ≤ tail_use result) }
 {
     if s.len() <= from {
-        return Tail::Breaks;
+        return None;
     }
     let t = rest(s, from);
     if byte_at(t, 0) == 0x3E {
-        return Tail::Shut(Known::none(), false, from + 1);
+        return Tail::shut(Known::none(), false, from + 1);
     }
     let m = v_len(t);
     let k = first_known(from, m);
@@ -241,7 +251,7 @@ pub fn tail_at(s: &[u8], from: usize) -> Tail
     if 0 < m {
         if byte_at(t, m + 4) == 0x2F {
             if byte_at(t, m + 5) == 0x3E {
-                return Tail::Shut(k, true, i + 2);
+                return Tail::shut(k, true, i + 2);
             }
         }
     }

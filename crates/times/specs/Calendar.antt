@@ -1,9 +1,6 @@
 -- "years 2000 to 2099, real calendar dates": dates, and days counted from 2000-01-01.
-use Rattle.std.specs.Prelude.{ℕ, ◌+◌, ◌-◌, ◌*◌, ◌/◌, ◌%◌, Bool, cond, ◌&&◌, leb, eqb}
-use Rattle.times.specs.declared.calendar.Day.{Day}
-use Rattle.times.specs.declared.calendar.Day.TheVariants.{DayIs, NoDay}
-use Rattle.times.specs.declared.calendar.Sum.{Sum}
-use Rattle.times.specs.declared.calendar.Sum.TheVariants.{Of, NotDate}
+use Rattle.std.specs.Prelude.{ℕ, ◌+◌, ◌-◌, ◌*◌, ◌/◌, ◌%◌, Bool, cond, ◌&&◌, leb, eqb, Option, Some, None}
+use Rattle.times.specs.declared.calendar.Terms.{Terms}
 
 -- leap years: of the years 2000 to 2099 exactly those that 4 divides
 unfoldable pub leap : ℕ → Bool
@@ -47,17 +44,12 @@ unfoldable pub day_number : ℕ → ℕ → ℕ → ℕ
 day_number y m d = year_days y + leap_days_before y + month_start y m + (d - 1)
 
 -- the terms of a real date's number
-unfoldable pub sum_of : ℕ → ℕ → ℕ → Sum
+unfoldable pub sum_of : ℕ → ℕ → ℕ → Option Terms
 sum_of y m d =
     cond (real_date y m d)
-    (Of (record { years = year_days y; leaps = leap_days_before y; month = month_start y m; days = d - 1 }))
-    NotDate
+    (Some (record { years = year_days y; leaps = leap_days_before y; month = month_start y m; days = d - 1 }))
+    None
 
 -- the number of a real date
-unfoldable pub day_of : ℕ → ℕ → ℕ → Day
-day_of y m d = cond (real_date y m d) (DayIs (day_number y m d)) NoDay
-
--- for the bound that callers need of a number
-abbrev pub day_count : Day → ℕ
-day_count (DayIs n) = n
-day_count NoDay = 0
+unfoldable pub day_of : ℕ → ℕ → ℕ → Option ℕ
+day_of y m d = cond (real_date y m d) (Some (day_number y m d)) None

@@ -1,13 +1,6 @@
 // Days counted from 2000-01-01 by the usual sum: 365 for each year before, the leap days before, where the month starts, the day of the month.
-ghost use Rattle.std.specs.Prelude.{◌≡◌, ◌≤◌, ◌<◌};
-ghost use Rattle.times.specs.Calendar.{leap, month_days, real_date, days_before, leap_day, year_days, leap_days_before, month_start, day_number, day_of, day_count, sum_of};
-
-#[derive(Clone, Copy)]
-pub(crate) enum Day {
-    // days since 2000-01-01
-    DayIs(u32),
-    NoDay,
-}
+ghost use Rattle.std.specs.Prelude.{◌≡◌, ◌≤◌, ◌<◌, unwrap_or};
+ghost use Rattle.times.specs.Calendar.{leap, month_days, real_date, days_before, leap_day, year_days, leap_days_before, month_start, day_number, day_of, sum_of};
 
 // The four terms of the sum.
 #[derive(Clone, Copy)]
@@ -18,56 +11,30 @@ pub struct Terms {
     pub days: u32,
 }
 
-#[derive(Clone, Copy)]
-pub enum Sum {
-    Of(Terms),
-    NotDate,
-}
-
+#[tactic(auto, unfolding(crate::specs::Calendar::leap))]
 fn is_leap(y: u32) -> bool
     ensures { result ≡ leap y }
 {
     y % 4 == 0
 }
 
+#[tactic(auto, unfolding(crate::specs::Calendar::month_days))]
 fn month_days(y: u32, m: u32) -> u32
     ensures days { result ≡ month_days y m }
     ensures size { result ≤ 31 }
 {
-    if m == 2 {
-        if is_leap(y) { 29 } else { 28 }
-    } else if m == 4 {
-        30
-    } else if m == 6 {
-        30
-    } else if m == 9 {
-        30
-    } else if m == 11 {
-        30
-    } else {
-        31
+    match m {
+        2 => if is_leap(y) { 29 } else { 28 },
+        4 | 6 | 9 | 11 => 30,
+        _ => 31,
     }
 }
 
+#[tactic(auto, unfolding(crate::specs::Calendar::real_date))]
 fn is_real(y: u32, m: u32, d: u32) -> bool
     ensures { result ≡ real_date y m d }
 {
-    if y < 2000 {
-        return false;
-    }
-    if 2099 < y {
-        return false;
-    }
-    if m < 1 {
-        return false;
-    }
-    if 12 < m {
-        return false;
-    }
-    if d < 1 {
-        return false;
-    }
-    d <= month_days(y, m)
+    2000 <= y && y <= 2099 && 1 <= m && m <= 12 && 1 <= d && d <= month_days(y, m)
 }
 
 // 365 for each year before.
@@ -88,47 +55,33 @@ fn leap_days_before(y: u32) -> u32
     (y - 2000 + 3) / 4
 }
 
+#[tactic(auto, unfolding(crate::specs::Calendar::days_before))]
 fn days_before(m: u32) -> u32
     ensures days { result ≡ days_before m }
     ensures size { result ≤ 334 }
 {
-    if m == 1 {
-        0
-    } else if m == 2 {
-        31
-    } else if m == 3 {
-        59
-    } else if m == 4 {
-        90
-    } else if m == 5 {
-        120
-    } else if m == 6 {
-        151
-    } else if m == 7 {
-        181
-    } else if m == 8 {
-        212
-    } else if m == 9 {
-        243
-    } else if m == 10 {
-        273
-    } else if m == 11 {
-        304
-    } else {
-        334
+    match m {
+        1 => 0,
+        2 => 31,
+        3 => 59,
+        4 => 90,
+        5 => 120,
+        6 => 151,
+        7 => 181,
+        8 => 212,
+        9 => 243,
+        10 => 273,
+        11 => 304,
+        _ => 334,
     }
 }
 
+#[tactic(auto, unfolding(crate::specs::Calendar::leap_day))]
 fn leap_day(y: u32, m: u32) -> u32
     ensures days { result ≡ leap_day y m }
     ensures size { result ≤ 1 }
 {
-    if is_leap(y) {
-        if 3 <= m {
-            return 1;
-        }
-    }
-    0
+    if is_leap(y) && 3 <= m { 1 } else { 0 }
 }
 
 // The days of the year before the first of the month.
@@ -140,6 +93,7 @@ fn month_start(y: u32, m: u32) -> u32
 }
 
 // The number of a date.
+#[tactic(auto, unfolding(crate::specs::Calendar::day_number))]
 pub(crate) fn day_number(y: u32, m: u32, d: u32) -> u32
     requires { (2000 ≤ y) × (y ≤ 2099) × (1 ≤ d) × (d ≤ 31) }
     ensures number { result ≡ day_number y m d }
@@ -149,28 +103,31 @@ pub(crate) fn day_number(y: u32, m: u32, d: u32) -> u32
 }
 
 // The number of a real date.
-pub(crate) fn day_of(y: u32, m: u32, d: u32) -> Day
+#[tactic(auto, unfolding(crate::specs::Calendar::day_of))]
+pub(crate) fn day_of(y: u32, m: u32, d: u32) -> Option<u32>
     ensures day { result ≡ day_of y m d }
-    ensures size { day_count result < 40000 }
+    ensures size { unwrap_or result 0 < 40000 }
 {
     if is_real(y, m, d) {
-        return Day::DayIs(day_number(y, m, d));
+        Some(day_number(y, m, d))
+    } else {
+        None
     }
-    Day::NoDay
 }
 
 // The terms of a real date's number, for those who follow the sum.
 // Ruled out: the leap day of a month before March; a year's own leap day among those before it; a term for 29 February 2023.
-pub fn sum_of(y: u32, m: u32, d: u32) -> Sum
+#[tactic(auto, unfolding(crate::specs::Calendar::sum_of))]
+pub fn sum_of(y: u32, m: u32, d: u32) -> Option<Terms>
     ensures { result ≡ sum_of y m d }
 {
     if is_real(y, m, d) {
-        return Sum::Of(Terms {
+        return Some(Terms {
             years: year_days(y),
             leaps: leap_days_before(y),
             month: month_start(y, m),
             days: d - 1,
         });
     }
-    Sum::NotDate
+    None
 }

@@ -15,17 +15,12 @@ const SUNDAYS: [u8; 100] = [
     32,
 ];
 
-fn wide(b: u8) -> u32
-    ensures { result ≡ b }
-{
-    b as u32
-}
-
+#[tactic(auto, unfolding(crate::specs::Packed::packed))]
 fn sundays_of(year: usize) -> u32
     requires { year < 100 }
     ensures { result ≡ get_or packed year 0 }
 {
-    wide(SUNDAYS[year])
+    SUNDAYS[year] as u32
 }
 
 fn march_sunday(year: usize) -> u32
@@ -43,23 +38,23 @@ fn october_sunday(year: usize) -> u32
 }
 
 // The year of a day, counted from 2000.
+#[tactic(auto, unfolding(crate::specs::Midnight::year_of))]
 fn year_of(d: u32) -> usize
     ensures { result ≡ year_of d }
 {
     4 * (d as usize) / 1461
 }
 
+#[tactic(auto, unfolding(crate::specs::Midnight::in_summer))]
 fn is_in_summer(d: u32) -> bool
     ensures { result ≡ in_summer d }
 {
     let year = year_of(d);
-    if 100 <= year {
-        return false;
-    }
-    march_sunday(year) < d && d <= october_sunday(year)
+    year < 100 && march_sunday(year) < d && d <= october_sunday(year)
 }
 
 // The minute at which the day d starts.
+#[tactic(auto, unfolding(crate::specs::Midnight::start_of_day))]
 pub(crate) fn start_of_day(d: u32) -> u64
     requires { 1 ≤ d }
     ensures { result ≡ start_of_day d }

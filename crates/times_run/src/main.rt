@@ -2,8 +2,6 @@
 // interval, its two minutes, its quarter hours, and 1 or 0 for each of: it is a period as kind 1 asks for, as kind 2 does.
 #![tactic(auto)]
 
-use times::Interval;
-
 fn print_flag(b: bool) {
     if b {
         lines::print_text(b" 1");
@@ -30,8 +28,8 @@ fn run_case(line: &[u8]) {
     lines::print_text(b"date-time");
     print_flag(times::is_date_time(line));
     match times::interval_of(line) {
-        Interval::Minutes(from, to) => show_period(from, to),
-        Interval::NotInterval => lines::print_text(b" no interval"),
+        Some((from, to)) => show_period(from, to),
+        None => lines::print_text(b" no interval"),
     }
     lines::print_text(b"\n");
 }

@@ -1,3 +1,4 @@
 pub mod Rules
 pub mod Totals
+pub mod Given
 pub mod Shifted

@@ -8,8 +8,7 @@ ghost use Rattle.std.specs.Prelude.{length};
 ghost use Rattle.totals.specs.Totals.{PermittedTotals};
 ghost use Rattle.totals.specs.Rules.{Handed, handed};
 
-use allowed::is_allowed;
-use sums::put_totals;
+use allowed::Given;
 use tables::clear_amounts;
 
 const MOST_SERIES: usize = 200;
@@ -38,9 +37,16 @@ pub fn lumintayag_totals(
     if MOST_SERIES < count {
         return 17;
     }
-    let n = count as u32;
-    if is_allowed(kind, quarters, n, series, positions, amounts) {
-        put_totals(kind, quarters, n, series, positions, amounts, totals, sum);
+    let given = Given {
+        kind,
+        quarters,
+        count: count as u32,
+        series,
+        positions,
+        amounts,
+    };
+    if given.is_allowed() {
+        given.put_totals(totals, sum);
         return 0;
     }
     18

@@ -3,11 +3,12 @@
 ghost use Rattle.std.specs.Prelude.{◌≡◌, true, [], ◌∷◌, ◌+◌, ◌*◌, ◌≤◌, ◌<◌, pos, length, set};
 ghost use Rattle.std.proofs.Math.IntN.{sub_ℕ};
 ghost use Rattle.tables.specs.Cells.{no_amounts};
-ghost use Rattle.totals.specs.Rules.{most_series, most_quarters, too_large, handed, is_allowed, own_of};
+ghost use Rattle.totals.specs.Given.{handed_of};
+ghost use Rattle.totals.specs.Rules.{most_series, most_quarters, too_large, is_allowed, own_of};
 ghost use Rattle.totals.specs.Totals.{last_quarter, added, each_total, pair_cells, stands_from};
 ghost use Rattle.totals.specs.Shifted.{shifted_of, added_from, shifted_at, held_in, Holds, shift, most_held, Rising, Adds};
 
-use crate::allowed::end_row;
+use crate::allowed::{Given, end_row};
 use series::{Field, field_of};
 use tables::set_amount;
 
@@ -46,7 +47,7 @@ fn with_times(w: Words, b: u64, n: u64) -> Words
     let rest = w.rest + b % 1000 * n;
     let whole = w.whole + b / 1000 * n + rest / 1000;
     Words {
-        whole: whole,
+        whole,
         rest: rest % 1000,
     }
 }
@@ -61,12 +62,13 @@ fn with_words(w: Words, v: Words) -> Words
     let rest = w.rest + v.rest;
     let whole = w.whole + v.whole + rest / 1000;
     Words {
-        whole: whole,
+        whole,
         rest: rest % 1000,
     }
 }
 
 // The quarter hour in which row j begins to stand; after the last row, the one after the last quarter hour.
+#[tactic(auto, unfolding(crate::specs::Totals::stands_from))]
 fn stands_from(positions: &[u32], last: u32, j: usize) -> u32
     requires { last ≤ most_quarters }
     ensures { result ≡ stands_from positions.now last j }
@@ -84,18 +86,17 @@ fn rows_sum(positions: &[u32], amounts: &[i64], last: u32) -> Words
     ensures { Holds result (added_from (shifted_at positions.now amounts.now) 1 last) }
 {
     let mut w = Words { whole: 0, rest: 0 };
-    let mut j: usize = 0;
-    while j < positions.len() {
+    for j in 0..positions.len() {
         let p = stands_from(positions, last, j);
         let next = stands_from(positions, last, j + 1);
         let n = next - p;
         let a = amounts[j];
         w = with_times(w, shifted(a), n as u64);
-        j += 1;
     }
     w
 }
 
+#[tactic(auto, unfolding(crate::specs::Totals::last_quarter))]
 fn last_quarter(kind: u32, quarters: u32, n: u32) -> u32
     ensures { result ≡ last_quarter kind quarters n }
 {
@@ -138,33 +139,28 @@ fn put_pair(t: &mut [i64], at: usize, w: Words, n: u64)
     set_amount(t, at + 1, rest as i64);
 }
 
-pub(crate) fn put_totals(
-    kind: u32,
-    quarters: u32,
-    count: u32,
-    series: &[u32],
-    positions: &[u32],
-    amounts: &[i64],
-    totals: &mut [i64],
-    sum: &mut [i64],
-)
-    requires allowed { is_allowed (handed kind quarters count series.now positions.now amounts.now) ≡ true }
-    requires most { count ≤ most_series }
-    requires blank { totals.old ≡ no_amounts (length totals.old) }
-    requires empty { sum.old ≡ no_amounts (length sum.old) }
-    ensures each { totals.new ≡ pair_cells (length totals.old) (each_total (handed kind quarters count series.now positions.now amounts.now)) }
-    ensures all { sum.new ≡ pair_cells (length sum.old) (added (each_total (handed kind quarters count series.now positions.now amounts.now)) ∷ []) }
-{
-    let mut w = Words { whole: 0, rest: 0 };
-    let mut n: u64 = 0;
-    let mut i: u32 = 0;
-    while i < count {
-        let last = last_quarter(kind, quarters, field_of(series, i, Field::Count));
-        let v = series_sum(series, positions, amounts, i, last);
-        put_pair(totals, 2 * (i as usize), v, last as u64);
-        w = with_words(w, v);
-        n += last as u64;
-        i += 1;
+impl Given<'_> {
+    pub(crate) fn put_totals(self, totals: &mut [i64], sum: &mut [i64])
+        requires allowed { is_allowed (handed_of self) ≡ true }
+        requires most { self.count ≤ most_series }
+        requires blank { totals.old ≡ no_amounts (length totals.old) }
+        requires empty { sum.old ≡ no_amounts (length sum.old) }
+        ensures each { totals.new ≡ pair_cells (length totals.old) (each_total (handed_of self.entry)) }
+        ensures all { sum.new ≡ pair_cells (length sum.old) (added (each_total (handed_of self.entry)) ∷ []) }
+    {
+        let mut w = Words { whole: 0, rest: 0 };
+        let mut n: u64 = 0;
+        for i in 0..self.count {
+            let last = last_quarter(
+                self.kind,
+                self.quarters,
+                field_of(self.series, i, Field::Count),
+            );
+            let v = series_sum(self.series, self.positions, self.amounts, i, last);
+            put_pair(totals, 2 * (i as usize), v, last as u64);
+            w = with_words(w, v);
+            n += last as u64;
+        }
+        put_pair(sum, 0, w, n);
     }
-    put_pair(sum, 0, w, n);
 }

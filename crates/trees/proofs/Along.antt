@@ -10,11 +10,10 @@ use native.Mathlib.Omega.{arith}
 use lib.Dec.{ltb}
 use lib.ListN.{length, get_or}
 use borrow.Author.Tests.{eq-eqb, eqb-true}
+use Rattle.std.specs.Prelude.{Option, Some, None}
 use Rattle.lists.proofs.Cases.{bool_cases, eqb-cases, ltb-cases, zero-not-one}
 use Rattle.structure.specs.Rows.{start_of, end_of, over_of, closes_document, parent_of, name_of, required}
 use Rattle.structure.specs.Means.{NextIn, StartDue, EndDue}
-use Rattle.structure.specs.declared.Due.{Due}
-use Rattle.structure.specs.declared.Due.TheVariants.{Row, NotDue}
 use Rattle.structure.proofs.Means.{start-made, end-means, end-made}
 use Rattle.trees.specs.Trees.{Sign, Opens, Closes, Trees, none, element, rows_taken, spell, Stand, ComesAfter, InOrder, Among}
 use Rattle.trees.specs.Trees.{Fits, EachConforms, Conforms}
@@ -30,34 +29,34 @@ abbrev pub Along : {A : Type 0} → List ℕ → ℕ → Bool → Trees A → Ty
 Along t r o none = (j : ℕ) → r < j → j < length t → parent_of (get_or t j 0) ≡ enclosing t r o → required (get_or t j 0) ≡ false
 Along t r o (element q tag inner after) = StartDue t r o (name_of (get_or t q 0)) q × Along t q true inner × Along t q false after
 
-on-row : (d : Due) (go : ℕ → Bool) → on_row d go ≡ true → (q : ℕ) × (d ≡ Row q) × (go q ≡ true)
+on-row : (d : Option ℕ) (go : ℕ → Bool) → on_row d go ≡ true → (q : ℕ) × (d ≡ Some q) × (go q ≡ true)
 unfolding on_row
-on-row (Row q) go e = (q, refl, e)
-on-row NotDue go e = absurd (zero-not-one (cc))
+on-row (Some q) go e = (q, refl, e)
+on-row None go e = absurd (zero-not-one (cc))
 
-closes-row : (d : Due) → closes_document d ≡ true → d ≡ Row 0
+closes-row : (d : Option ℕ) → closes_document d ≡ true → d ≡ Some 0
 unfolding closes_document
-closes-row (Row p) e = ap Row (eqb-true p 0 e)
-closes-row NotDue e = absurd (zero-not-one (cc))
+closes-row (Some p) e = ap Some (eqb-true p 0 e)
+closes-row None e = absurd (zero-not-one (cc))
 
 -- ---- the cursor's steps, and how they are spelled
 
 module _ (A : Type 0) (t : List ℕ) where
-  pub opens-on : (r : ℕ) (o : Bool) (tag : A) (x q : ℕ) (s : List (Sign A)) → start_of t r o x ≡ Row q → follows t r o (Opens tag x ∷ s) ≡ follows t q true s
+  pub opens-on : (r : ℕ) (o : Bool) (tag : A) (x q : ℕ) (s : List (Sign A)) → start_of t r o x ≡ Some q → follows t r o (Opens tag x ∷ s) ≡ follows t q true s
   unfolding follows on_row
-  opens-on r o tag x q s e = ap (λ (d : Due). on_row d (λ p. follows t p true s)) e
+  opens-on r o tag x q s e = ap (λ (d : Option ℕ). on_row d (λ p. follows t p true s)) e
 
-  pub closes-on : (r : ℕ) (o : Bool) (x q : ℕ) (s : List (Sign A)) → end_of t r o x ≡ Row q → follows t r o (Closes x ∷ s) ≡ follows t q false s
+  pub closes-on : (r : ℕ) (o : Bool) (x q : ℕ) (s : List (Sign A)) → end_of t r o x ≡ Some q → follows t r o (Closes x ∷ s) ≡ follows t q false s
   unfolding follows on_row
-  closes-on r o x q s e = ap (λ (d : Due). on_row d (λ p. follows t p false s)) e
+  closes-on r o x q s e = ap (λ (d : Option ℕ). on_row d (λ p. follows t p false s)) e
 
   pub opened : (r : ℕ) (o : Bool) (tag : A) (x : ℕ) (s : List (Sign A)) → follows t r o (Opens tag x ∷ s) ≡ true
-      → (q : ℕ) × (start_of t r o x ≡ Row q) × (follows t q true s ≡ true)
+      → (q : ℕ) × (start_of t r o x ≡ Some q) × (follows t q true s ≡ true)
   unfolding follows
   opened r o tag x s e = on-row (start_of t r o x) (λ p. follows t p true s) e
 
   pub closed : (r : ℕ) (o : Bool) (x : ℕ) (s : List (Sign A)) → follows t r o (Closes x ∷ s) ≡ true
-      → (q : ℕ) × (end_of t r o x ≡ Row q) × (follows t q false s ≡ true)
+      → (q : ℕ) × (end_of t r o x ≡ Some q) × (follows t q false s ≡ true)
   unfolding follows
   closed r o x s e = on-row (end_of t r o x) (λ p. follows t p false s) e
 
@@ -65,7 +64,7 @@ module _ (A : Type 0) (t : List ℕ) where
   unfolding follows over_of
   over-means r o e = end-means t r 255 0 o (closes-row (end_of t r o 255) e)
 
-  pub over-made : (r : ℕ) (o : Bool) → end_of t r o 255 ≡ Row 0 → follows {A = A} t r o [] ≡ true
+  pub over-made : (r : ℕ) (o : Bool) → end_of t r o 255 ≡ Some 0 → follows {A = A} t r o [] ≡ true
   unfolding follows over_of closes_document
   over-made r o e = ap closes_document e ∙ eq-eqb 0 0 refl
 
@@ -101,7 +100,7 @@ module _ (t : List ℕ) where
 module _ (A : Type 0) (t : List ℕ) where
   -- where the elements that stand in p are all there, p may be closed
   pub closes-after : (kids : Trees A) (r : ℕ) (o : Bool) (p : ℕ) → p ≡ enclosing t r o → p < length t → r < length t → Along t r o kids
-      → end_of t (row_after r kids) (open_after o kids) (name_of (get_or t p 0)) ≡ Row p
+      → end_of t (row_after r kids) (open_after o kids) (name_of (get_or t p 0)) ≡ Some p
   unfolding row_after open_after
   closes-after none r o p e w l a =
       end-made t r (name_of (get_or t p 0)) p o
@@ -123,12 +122,12 @@ module _ (A : Type 0) (t : List ℕ) where
       ∙ closes-on A t (row_after q inner) (open_after true inner) x q (spell t after ++ rest) (closes-after inner q true q refl l l a.1)
       ∙ run_along after q false a.2 rest
 
-  visits-open : (r : ℕ) (o : Bool) (tag : A) (x q : ℕ) (s : List (Sign A)) → start_of t r o x ≡ Row q
+  visits-open : (r : ℕ) (o : Bool) (tag : A) (x q : ℕ) (s : List (Sign A)) → start_of t r o x ≡ Some q
       → visited t r o (Opens tag x ∷ s) ≡ record { row = q; inside = true } ∷ visited t q true s
   unfolding visited
   visits-open r o tag x q s e = rw (e, visited) refl
 
-  visits-closed : (r : ℕ) (o : Bool) (x q : ℕ) (s : List (Sign A)) → end_of t r o x ≡ Row q
+  visits-closed : (r : ℕ) (o : Bool) (x q : ℕ) (s : List (Sign A)) → end_of t r o x ≡ Some q
       → visited t r o (Closes x ∷ s) ≡ record { row = q; inside = false } ∷ visited t q false s
   unfolding visited
   visits-closed r o x q s e = rw (e, visited) refl
@@ -176,7 +175,7 @@ module _ (A : Type 0) (t : List ℕ) where
   one-row r o q p e c d =
       let a = start-made t r (name_of (get_or t q 0)) q o c in
       let b = start-made t r (name_of (get_or t p 0)) p o d in
-      let z : Row q ≡ Row p = sym a ∙ ap (λ (i : ℕ). start_of t r o i) e ∙ b in
+      let z : Some q ≡ Some p = sym a ∙ ap (λ (i : ℕ). start_of t r o i) e ∙ b in
       cc
 
   one-element : (q p : ℕ) (f g : A) (i k a l : Trees A) → p ≡ q → f ≡ g → i ≡ k → a ≡ l → element q f i a ≡ element p g k l

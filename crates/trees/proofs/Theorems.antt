@@ -8,10 +8,9 @@ use Prim.Native.Nat.{ℕ, ◌+◌, ◌<◌}
 use native.Mathlib.Omega.{arith}
 use lib.ListN.{length, get_or}
 use borrow.Author.Tests.{eq-eqb, lt-ltb}
+use Rattle.std.specs.Prelude.{Option, Some, None}
 use Rattle.lists.proofs.Cases.{zero-not-one}
 use Rattle.structure.specs.Rows.{start_of, end_of, end_at, ends_at_once, name_of}
-use Rattle.structure.specs.declared.Due.{Due}
-use Rattle.structure.specs.declared.Due.TheVariants.{Row, NotDue}
 use Rattle.structure.proofs.Means.{start-means, end-means}
 use Rattle.trees.specs.Trees.{Sign, Opens, Closes, Trees, none, spell, Conforms, well_made}
 use Rattle.trees.specs.Cursor.{on_row, follows, row_after, open_after, visited, places_of}
@@ -20,28 +19,28 @@ use Rattle.trees.proofs.Along.{over-made, closes-after, run_along, visits-along,
 use Rattle.trees.proofs.Along.{conforms-along, along-conforms}
 use Rattle.trees.proofs.Parse.{parse, whole}
 
-chosen : (q : ℕ) (b : Bool) → cond b (Row q) NotDue ≡ Row q → b ≡ true
+chosen : (q : ℕ) (b : Bool) → cond b (Some q) None ≡ Some q → b ≡ true
 chosen q true e = refl
 chosen q false e = absurd (zero-not-one (cc))
 
 -- an end tag right after its start tag
-at_once : (t : List ℕ) (q x : ℕ) → q < length t → name_of (get_or t q 0) ≡ x → end_of t q true x ≡ cond (ends_at_once t q) (Row q) NotDue
+at_once : (t : List ℕ) (q x : ℕ) → q < length t → name_of (get_or t q 0) ≡ x → end_of t q true x ≡ cond (ends_at_once t q) (Some q) None
 unfolding end_of end_at ends_at_once
 at_once t q x l n = rw (lt-ltb q (length t) l, eq-eqb (name_of (get_or t q 0)) x n) refl
 
-on-chosen : (q : ℕ) (b : Bool) (go : ℕ → Bool) → on_row (cond b (Row q) NotDue) go ≡ cond b (go q) false
+on-chosen : (q : ℕ) (b : Bool) (go : ℕ → Bool) → on_row (cond b (Some q) None) go ≡ cond b (go q) false
 unfolding on_row
 on-chosen q true go = refl
 on-chosen q false go = refl
 
 -- An empty tag opens and closes the row that is due, exactly where `ends_at_once` says so; the cursor is then at that row, closed. In any table.
-pub empty-tag : (A : Type 0) (t : List ℕ) (r : ℕ) (o : Bool) (tag : A) (x q : ℕ) (s : List (Sign A)) → start_of t r o x ≡ Row q
+pub empty-tag : (A : Type 0) (t : List ℕ) (r : ℕ) (o : Bool) (tag : A) (x q : ℕ) (s : List (Sign A)) → start_of t r o x ≡ Some q
     → follows t r o (Opens tag x ∷ (Closes x ∷ s)) ≡ cond (ends_at_once t q) (follows t q false s) false
 unfolding follows
 empty-tag A t r o tag x q s e =
     let d = start-means t r x q o e in
     opens-on A t r o tag x q (Closes x ∷ s) e
-    ∙ ap (λ (f : Due). on_row f (λ p. follows t p false s)) (at_once t q x (due-within t r o x q d) (due-named t r o x q d))
+    ∙ ap (λ (f : Option ℕ). on_row f (λ p. follows t p false s)) (at_once t q x (due-within t r o x q d) (due-named t r o x q d))
     ∙ on-chosen q (ends_at_once t q) (λ p. follows t p false s)
 
 module _ (A : Type 0) (t : List ℕ) (w : well_made t ≡ true) where
@@ -80,7 +79,7 @@ module _ (A : Type 0) (t : List ℕ) (w : well_made t ≡ true) where
 
   -- there p may be closed
   pub may-close : (p : ℕ) (kids : Trees A) → p < length t → Conforms t p kids
-      → end_of t (row_after p kids) (open_after true kids) (name_of (get_or t p 0)) ≡ Row p
+      → end_of t (row_after p kids) (open_after true kids) (name_of (get_or t p 0)) ≡ Some p
   may-close p kids l c = closes-after A t kids p true p refl l l (conforms-along A t (made t w) p kids l c)
 
   -- After each tag of elements that conform, the cursor is at the row of the element that was just opened, or just closed.
@@ -99,5 +98,5 @@ module _ (A : Type 0) (t : List ℕ) (w : well_made t ≡ true) where
 
   pub empty-conforms : (q : ℕ) → q < length t → ends_at_once t q ≡ true → Conforms {A = A} t q none
   empty-conforms q l e =
-      let d = end-means t q (name_of (get_or t q 0)) q true (at_once t q (name_of (get_or t q 0)) l refl ∙ ap (λ (b : Bool). cond b (Row q) NotDue) e) in
+      let d = end-means t q (name_of (get_or t q 0)) q true (at_once t q (name_of (get_or t q 0)) l refl ∙ ap (λ (b : Bool). cond b (Some q) None) e) in
       along-conforms A t (made t w) q none l d.complete

@@ -1,14 +1,12 @@
 -- The bridge to the reader: the order of tags judged one by one, from a place in the table, as the reader does with `start_of`, `end_of`
 -- and `over_of`. Nothing is believed of it that proofs/Theorems.antt does not show.
-use Rattle.std.specs.Prelude.{ℕ, List, [], ◌∷◌, ◌++◌, Bool, true, false}
+use Rattle.std.specs.Prelude.{ℕ, List, [], ◌∷◌, ◌++◌, Bool, true, false, Option, Some, None}
 use Rattle.structure.specs.Rows.{start_of, end_of, over_of}
-use Rattle.structure.specs.declared.Due.{Due}
-use Rattle.structure.specs.declared.Due.TheVariants.{Row, NotDue}
 use Rattle.trees.specs.Trees.{Sign, Opens, Closes, Trees, none, element}
 
-unfoldable pub on_row : Due → (ℕ → Bool) → Bool
-on_row (Row q) go = go q
-on_row NotDue go = false
+unfoldable pub on_row : Option ℕ → (ℕ → Bool) → Bool
+on_row (Some q) go = go q
+on_row None go = false
 
 -- after row r, which is open or closed, the signs are all due, and after them the document may be over
 unfoldable pub follows : {A : Type 0} → List ℕ → ℕ → Bool → List (Sign A) → Bool
@@ -34,9 +32,9 @@ pub record Place : Type 0 where
 unfoldable pub visited : {A : Type 0} → List ℕ → ℕ → Bool → List (Sign A) → List Place
 visited rows r inside [] = []
 visited rows r inside (Opens tag x ∷ s) =
-    elim (start_of rows r inside x) [ Row q ↦ record { row = q; inside = true } ∷ visited rows q true s | NotDue ↦ [] ]
+    elim (start_of rows r inside x) [ Some q ↦ record { row = q; inside = true } ∷ visited rows q true s | None ↦ [] ]
 visited rows r inside (Closes x ∷ s) =
-    elim (end_of rows r inside x) [ Row q ↦ record { row = q; inside = false } ∷ visited rows q false s | NotDue ↦ [] ]
+    elim (end_of rows r inside x) [ Some q ↦ record { row = q; inside = false } ∷ visited rows q false s | None ↦ [] ]
 
 -- the rows of elements that are written down: open after an element's start, closed after its end
 unfoldable pub places_of : {A : Type 0} → Trees A → List Place

@@ -11,12 +11,11 @@ use lib.Dec.{eqb}
 use lib.ListN.{length, take, drop, drop_of_length-le, length-drop, length-take}
 use lib.Seq.{drop-drop, take_all, length-take-le}
 use borrow.Author.Tests.{eq-eqb, ne_eqb, eqb-false}
+use Rattle.std.specs.Prelude.{Option, Some, None}
 use Rattle.lists.proofs.Cases.{bool_cases, eqb-cases, ltb-cases, past-cond, both_true, never}
 use Rattle.slices.specs.Bytes.{byte}
 use Rattle.slices.proofs.Bytes.{byte-drop}
 use Rattle.characters.specs.Says.{said_at, says}
-use Rattle.characters.specs.declared.Said.{Said}
-use Rattle.characters.specs.declared.Said.TheVariants.{Says, Over}
 use Rattle.characters.proofs.Low.{char-low}
 use Rattle.characters.proofs.Units.{Unit', stands, refers, unit-is, reference-shut}
 use Rattle.characters.proofs.Saying.{says-char, says_none, said-not-over, Uttered, unit, stray, uttered, said-some-bytes, said-inside, said-cut}
@@ -45,21 +44,21 @@ kept-skip zero v = refl
 kept-skip (suc k) [] = refl
 kept-skip (suc k) (b ∷ t) = kept-skip k t
 
-pub lead-step : (v : List ℕ) {c n : ℕ} → 0 < length v → said_at v ≡ Says c n → 1 ≤ n → lead_of v ≡ cond (space c) (n + lead_of (drop n v)) 0
+pub lead-step : (v : List ℕ) {c n : ℕ} → 0 < length v → said_at v ≡ Some (c, n) → 1 ≤ n → lead_of v ≡ cond (space c) (n + lead_of (drop n v)) 0
 unfolding lead_of lead_after
 lead-step [] p q m = absurd (omega arith)
 lead-step (b ∷ t) {c} {n} p q m = by n q m
   where
-    by : (n : ℕ) → said_at (b ∷ t) ≡ Says c n → 1 ≤ n → lead_after 0 (b ∷ t) ≡ cond (space c) (n + lead_after 0 (drop n (b ∷ t))) 0
+    by : (n : ℕ) → said_at (b ∷ t) ≡ Some (c, n) → 1 ≤ n → lead_after 0 (b ∷ t) ≡ cond (space c) (n + lead_after 0 (drop n (b ∷ t))) 0
     by zero q m = absurd (omega arith)
     by (suc n) q m = rw (lead_after, q) (ap (λ (k : ℕ). cond (space c) (suc n + k) 0) (lead-skip n t))
 
-pub kept_step : (v : List ℕ) {c n : ℕ} → 0 < length v → said_at v ≡ Says c n → 1 ≤ n → kept_bytes v ≡ kept_from c n (kept_bytes (drop n v))
+pub kept_step : (v : List ℕ) {c n : ℕ} → 0 < length v → said_at v ≡ Some (c, n) → 1 ≤ n → kept_bytes v ≡ kept_from c n (kept_bytes (drop n v))
 unfolding kept_bytes kept_after
 kept_step [] p q m = absurd (omega arith)
 kept_step (b ∷ t) {c} {n} p q m = by n q m
   where
-    by : (n : ℕ) → said_at (b ∷ t) ≡ Says c n → 1 ≤ n → kept_after 0 (b ∷ t) ≡ kept_from c n (kept_after 0 (drop n (b ∷ t)))
+    by : (n : ℕ) → said_at (b ∷ t) ≡ Some (c, n) → 1 ≤ n → kept_after 0 (b ∷ t) ≡ kept_from c n (kept_after 0 (drop n (b ∷ t)))
     by zero q m = absurd (omega arith)
     by (suc n) q m = rw (kept_after, q) (ap (kept_from c (suc n)) (kept-skip n t))
 
@@ -75,7 +74,7 @@ kept-none = refl
 record First (v : List ℕ) : Type 0 where
   c : ℕ
   n : ℕ
-  is : said_at v ≡ Says c n
+  is : said_at v ≡ Some (c, n)
   some : 1 ≤ n
   inside : n ≤ length v
   says : says v ≡ c ∷ says (drop n v)
@@ -83,9 +82,9 @@ record First (v : List ℕ) : Type 0 where
 first : (v : List ℕ) → 0 < length v → First v
 first v p = by (said_at v) refl
   where
-    by : (x : Said) → said_at v ≡ x → First v
-    by Over q = absurd (said-not-over v p q)
-    by (Says c n) q =
+    by : (x : Option (ℕ × ℕ)) → said_at v ≡ x → First v
+    by None q = absurd (said-not-over v p q)
+    by (Some (c, n)) q =
         let m = said-some-bytes v p q in
         record { c = c; n = n; is = q; some = m; inside = said-inside v p q; says = says-char v c n p q m }
 
@@ -254,14 +253,14 @@ module _ {v : List ℕ} {i : ℕ} (w : Led v i) where
   led-end h = let z : lead_of (drop i v) ≡ 0 = rw (drop_of_length-le v h) lead-none in omega (arith, z, w.total)
 
   -- x is what `said_at` answered of the rest
-  module _ {x : Said} (h : i < length v) (e : x ≡ said_at (drop i v)) where
+  module _ {x : Option (ℕ × ℕ)} (h : i < length v) (e : x ≡ said_at (drop i v)) where
     more : 0 < length (drop i v)
     more = rw length-drop (omega arith)
 
-    pub led-never : x ≡ Over → ⊥
+    pub led-never : x ≡ None → ⊥
     led-never q = said-not-over (drop i v) more (sym e ∙ q)
 
-    module _ {c n : ℕ} (q : x ≡ Says c n) where
+    module _ {c n : ℕ} (q : x ≡ Some (c, n)) where
       step : lead_of (drop i v) ≡ cond (space c) (n + lead_of (drop (i + n) v)) 0
       step = let m = said-some-bytes (drop i v) more (sym e ∙ q) in rw (← drop-drop n i v) (lead-step (drop i v) more (sym e ∙ q) m)
 
@@ -289,14 +288,14 @@ module _ {v : List ℕ} {i kept : ℕ} (w : Keeping v i kept) where
   pub keeping-end : length v ≤ i → kept ≡ kept_bytes v
   keeping-end h = let z : kept_bytes (drop i v) ≡ 0 = rw (drop_of_length-le v h) kept-none in rw z at w.total
 
-  module _ {x : Said} (h : i < length v) (e : x ≡ said_at (drop i v)) where
+  module _ {x : Option (ℕ × ℕ)} (h : i < length v) (e : x ≡ said_at (drop i v)) where
     more-kept : 0 < length (drop i v)
     more-kept = rw length-drop (omega arith)
 
-    pub keeping-never : x ≡ Over → ⊥
+    pub keeping-never : x ≡ None → ⊥
     keeping-never q = said-not-over (drop i v) more-kept (sym e ∙ q)
 
-    module _ {c n : ℕ} (q : x ≡ Says c n) where
+    module _ {c n : ℕ} (q : x ≡ Some (c, n)) where
       some_bytes : 1 ≤ n
       some_bytes = said-some-bytes (drop i v) more-kept (sym e ∙ q)
 

@@ -1,8 +1,7 @@
 -- "Where the guideline says collapse, leading and trailing spaces are dropped." K4: "A referenced space is dropped at a collapsed end like any other."
-use Rattle.std.specs.Prelude.{ℕ, zero, suc, pred, ◌+◌, List, [], ◌∷◌, Bool, cond, eqb, take, drop}
+use Rattle.std.specs.Prelude.{ℕ, zero, suc, pred, ◌+◌, List, [], ◌∷◌, Bool, cond, eqb, take, drop, Some, None}
 use Prim.Native.Char.{code}
 use Rattle.characters.specs.Says.{said_at}
-use Rattle.characters.specs.declared.Said.TheVariants.{Says, Over}
 
 -- ---- of what a value says, by which it is judged
 
@@ -32,7 +31,7 @@ dropped l = drop_trail (drop_lead l)
 unfoldable pub lead_after : ℕ → List ℕ → ℕ
 lead_after k [] = 0
 lead_after (suc k) (b ∷ t) = lead_after k t
-lead_after zero (b ∷ t) = elim (said_at (b ∷ t)) [ Says c n ↦ cond (space c) (n + lead_after (pred n) t) 0 | Over ↦ 0 ]
+lead_after zero (b ∷ t) = elim (said_at (b ∷ t)) [ Some (c, n) ↦ cond (space c) (n + lead_after (pred n) t) 0 | None ↦ 0 ]
 
 unfoldable pub lead_of : List ℕ → ℕ
 lead_of v = lead_after 0 v
@@ -44,7 +43,7 @@ kept_from c n more = cond (eqb more 0) (cond (space c) 0 n) (n + more)
 unfoldable pub kept_after : ℕ → List ℕ → ℕ
 kept_after k [] = 0
 kept_after (suc k) (b ∷ t) = kept_after k t
-kept_after zero (b ∷ t) = elim (said_at (b ∷ t)) [ Says c n ↦ kept_from c n (kept_after (pred n) t) | Over ↦ 0 ]
+kept_after zero (b ∷ t) = elim (said_at (b ∷ t)) [ Some (c, n) ↦ kept_from c n (kept_after (pred n) t) | None ↦ 0 ]
 
 unfoldable pub kept_bytes : List ℕ → ℕ
 kept_bytes v = kept_after 0 v

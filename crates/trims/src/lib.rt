@@ -5,7 +5,7 @@ ghost use Rattle.std.specs.Prelude.{◌≡◌, ◌≤◌, length};
 ghost use Rattle.trims.specs.Trim.{lead_of, kept_bytes, cut_trail, trimmed_of};
 ghost use Rattle.trims.specs.Short.{bare, bare_at_ends};
 
-use characters::{Said, said_at};
+use characters::said_at;
 use slices::{front, rest};
 
 // How many bytes say the spaces that a value begins with: where the part that is left starts.
@@ -16,7 +16,7 @@ pub fn leading_spaces(v: &[u8]) -> usize
 {
     let mut i = 0;
     while i < v.len() {
-        let Said::Says(c, n) = said_at(rest(v, i)) else {
+        let Some((c, n)) = said_at(rest(v, i)) else {
             return i;
         };
         if c != 0x20 {
@@ -34,7 +34,7 @@ fn kept_len(v: &[u8]) -> usize
     let mut i = 0;
     let mut kept = 0;
     while i < v.len() {
-        let Said::Says(c, n) = said_at(rest(v, i)) else {
+        let Some((c, n)) = said_at(rest(v, i)) else {
             return kept;
         };
         i += n;
@@ -46,29 +46,19 @@ fn kept_len(v: &[u8]) -> usize
 }
 
 // Whether a byte neither is a space nor begins or ends a reference.
+#[tactic(auto, unfolding(crate::specs::Short::bare))]
 fn is_bare(b: u8) -> bool
     ensures { result ≡ bare b }
 {
-    if b == 0x20 {
-        return false;
-    }
-    if b == 0x26 {
-        return false;
-    }
-    b != 0x3B
+    !matches!(b, b' ' | b'&' | b';')
 }
 
 // Whether the first and the last byte tell that nothing is dropped: so it is of nearly every value.
+#[tactic(auto, unfolding(crate::specs::Short::bare_at_ends, slices::specs::Bytes::byte))]
 fn is_bare_at_ends(v: &[u8]) -> bool
     ensures { result ≡ bare_at_ends v.now }
 {
-    if v.len() == 0 {
-        return false;
-    }
-    if is_bare(v[0]) {
-        return is_bare(v[v.len() - 1]);
-    }
-    false
+    v.len() != 0 && is_bare(v[0]) && is_bare(v[v.len() - 1])
 }
 
 fn without_trail(v: &[u8]) -> &[u8]

@@ -8,10 +8,10 @@ use native.Mathlib.Omega.{arith}
 use lib.Dec.{ltb}
 use lib.ListN.{length}
 use borrow.Author.Tests.{lt-ltb, le-ltb, eq-eqb, ne_eqb, ltb-false}
+use Rattle.std.specs.Prelude.{Ok, Err}
 use Rattle.lists.specs.Zeros.{zeros}
 use Rattle.lists.proofs.Cases.{bool_cases}
 use Rattle.prolog.specs.Prolog.{begin}
-use Rattle.prolog.specs.declared.Begin.TheVariants.{From, Misdeclared}
 use Rattle.guideline.specs.Rows.{every_row, rows_in, rows_of}
 use Rattle.guideline.proofs.Each.{rows-in}
 use Rattle.states.specs.Moves.{begun}
@@ -26,11 +26,11 @@ use Rattle.views.specs.Views.{shown_after, sheet_shown, Sight, sight, sight_by, 
 use Rattle.views.proofs.Slots.{rows_few}
 
 module _ (rows doc t : List ℕ) where
-  pub sheet-from : (n : ℕ) → begin doc ≡ From n → items_shown rows (items_from doc n) 0 t ≡ sheet_shown rows doc t
+  pub sheet-from : (n : ℕ) → begin doc ≡ Ok n → items_shown rows (items_from doc n) 0 t ≡ sheet_shown rows doc t
   unfolding sheet_shown shown_after
   sheet-from n e = rw e refl
 
-  pub sheet-none : (p : ℕ) → begin doc ≡ Misdeclared p → t ≡ sheet_shown rows doc t
+  pub sheet-none : (p : ℕ) → begin doc ≡ Err p → t ≡ sheet_shown rows doc t
   unfolding sheet_shown shown_after
   sheet-none p e = rw e refl
 

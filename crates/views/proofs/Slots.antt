@@ -10,6 +10,16 @@ use lib.ListN.{length, take, drop, get_or, drop_of_length-le}
 use lib.Seq.{drop-cons}
 use lib.Dec.{leb}
 use borrow.Author.Tests.{eq-eqb, ne_eqb, leb-true}
+use mathlib.Core.Bool.{cond, not}
+use mathlib.Core.Logic.{⊎_elim}
+use lib.Dec.{eqb, ltb}
+use Rattle.std.specs.List.{position_or_len}
+use Rattle.std.specs.declared.option.Option.{Option}
+use Rattle.std.specs.declared.option.Option.TheVariants.{None, Some}
+use Rattle.std.specs.Option.{unwrap_or}
+use Rattle.std.proofs.lemmas.List.Recursion.{is_position_or_len}
+use Rattle.std.proofs.lemmas.List.Sums.{prefix_len-le-length}
+use Rattle.lists.proofs.Cases.{ltb-cases}
 use Rattle.structure.specs.Rows.{name_of}
 use Rattle.slices.specs.Same.{same}
 use Rattle.elements.specs.Names.{names, number_in, element_no}
@@ -74,32 +84,23 @@ pairing-end {rows} p h = let e = p.low in p.is ∙ ap (first_pair rows) (omega (
 
 -- ---- the row of a name
 
--- the loop that looks for it
-pub record Naming (name : ℕ) (rows : List ℕ) (i : ℕ) : Type 0 where
-  pub left : i + row_named name (drop i rows) ≡ row_named name rows
-  pub low : i ≤ length rows
+-- a name's row is the first place of the rows that bears it
+first-named : (name : ℕ) (rows : List ℕ) → row_named name rows ≡ position_or_len (λ w. eqb (name_of w) name) rows
+unfolding row_named
+first-named name rows =
+    is_position_or_len (row_named name) (λ w. eqb (name_of w) name) refl
+    (λ w ws. let e : suc (row_named name ws) ≡ 1 + row_named name ws = omega arith in rw e refl)
+    rows
 
-pub naming-start : (name : ℕ) (rows : List ℕ) → Naming name rows 0
-naming-start name rows = record { left = zero-add _; low = omega arith }
+-- the first place that passes, or the end where there is none
+pub first-or-end : (p : ℕ → Bool) (xs : List ℕ) →
+    unwrap_or (cond (ltb (position_or_len p xs) (length xs)) (Some (position_or_len p xs)) None) (length xs) ≡ position_or_len p xs
+first-or-end p xs =
+    let k = position_or_len p xs in
+    let h : k ≤ length xs = prefix_len-le-length (λ x. not (p x)) xs in
+    ⊎_elim (λ y. rw y.1 refl) (λ y. let z = y.0 in rw y.1 (omega (arith, h, z))) (ltb-cases k (length xs))
 
-module _ {name : ℕ} {rows : List ℕ} {i : ℕ} (n : Naming name rows i) where
-  pub naming-here : i < length rows → name_of (get_or rows i 0) ≡ name → (i ≡ row_named name rows) × (i ≤ length rows)
-  unfolding row_named
-  naming-here h e = (sym (ap (λ (k : ℕ). i + k) (here) ∙ add-zero i) ∙ n.left, n.low)
-    where
-      here : row_named name (drop i rows) ≡ 0
-      here = rw (drop-cons rows i 0 h, eq-eqb _ _ e) refl
-
-  pub naming-next : i < length rows → (name_of (get_or rows i 0) ≡ name → ⊥) → Naming name rows (i + 1)
-  unfolding row_named
-  naming-next h d =
-      let e : row_named name (drop i rows) ≡ suc (row_named name (drop (i + 1) rows)) = rw (drop-cons rows i 0 h, ne_eqb _ _ d, add-one i) refl in
-      let l = n.left in
-      record { left = omega (arith, e, l); low = omega (arith, h) }
-
-  pub naming-over : length rows ≤ i → (i ≡ row_named name rows) × (i ≤ length rows)
-  unfolding row_named
-  naming-over h = (sym (ap (λ (k : ℕ). i + k) over ∙ add-zero i) ∙ n.left, n.low)
-    where
-      over : row_named name (drop i rows) ≡ 0
-      over = rw (drop_of_length-le rows h) refl
+pub named-or-end : (name : ℕ) (rows : List ℕ) {o : Option ℕ} {n : ℕ} →
+    o ≡ cond (ltb (position_or_len (λ w. eqb (name_of w) name) rows) (length rows)) (Some (position_or_len (λ w. eqb (name_of w) name) rows)) None →
+    n ≡ unwrap_or o (length rows) → n ≡ row_named name rows
+named-or-end name rows e u = u ∙ ap (λ (x : Option ℕ). unwrap_or x (length rows)) e ∙ first-or-end _ rows ∙ sym (first-named name rows)

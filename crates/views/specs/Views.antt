@@ -1,11 +1,9 @@
 -- What `lumintayag_views` answers and leaves in the two lent slices: "The answer is the reader's (number, place, kind, series), with 4 for a table that is too
 -- short, and the period's two ends in minutes; on every refusal all cells are 0."
-use Rattle.std.specs.Prelude.{ℕ, ◌≡◌, List, cond, eqb, ltb, length, set}
+use Rattle.std.specs.Prelude.{ℕ, ◌≡◌, List, cond, eqb, ltb, length, set, Result, Ok, Err}
 use Rattle.refusals.specs.Refusals.{table_full}
 use Rattle.lists.specs.Zeros.{zeros}
 use Rattle.prolog.specs.Prolog.{begin}
-use Rattle.prolog.specs.declared.Begin.{Begin}
-use Rattle.prolog.specs.declared.Begin.TheVariants.{From, Misdeclared}
 use Rattle.guideline.specs.Rows.{rows_of}
 use Rattle.states.specs.Moves.{begun}
 use Rattle.reader.specs.Items.{items_from}
@@ -16,9 +14,9 @@ use Rattle.views.specs.Layout.{header_pairs, cell_of, view_room}
 use Rattle.views.specs.Shown.{items_shown}
 
 -- the table of a document that is accepted, by the rows of its kind
-unfoldable pub shown_after : List ℕ → List ℕ → List ℕ → Begin → List ℕ
-shown_after rows doc t (From n) = items_shown rows (items_from doc n) 0 t
-shown_after rows doc t (Misdeclared p) = t
+unfoldable pub shown_after : List ℕ → List ℕ → List ℕ → Result ℕ ℕ → List ℕ
+shown_after rows doc t (Ok n) = items_shown rows (items_from doc n) 0 t
+shown_after rows doc t (Err p) = t
 
 unfoldable pub sheet_shown : List ℕ → List ℕ → List ℕ → List ℕ
 sheet_shown rows doc t = shown_after rows doc t (begin doc)

@@ -1,25 +1,17 @@
 // What an item shows in the table of views.
 ghost use Rattle.std.specs.Prelude.{◌≡◌, ◌+◌, ◌≤◌, ◌<◌, length};
-ghost use Rattle.reader.specs.Rows.{quoted};
 ghost use Rattle.views.specs.Shown.{value_start, value_length, with_pair, with_value, root_shown, v_shown, scheme_shown, tag_shown, tag_row, series_at, tag_counts, tag_shows, item_counts, item_shows, SpanInside, TagInside, ItemInside};
 
 use crate::layout::{first_pair, one_if, pair_in, row_at, row_named, values_of};
 use columns::{ROOT_ROLE, SERIES_ROLE, is_collapsed, role_of};
 use elements::element_no;
 use items::{Item, Tag};
+use reader::quoted_of;
 use slices::{Span, part};
 use states::{asks_scheme, asks_v, is_there};
 use tables::set_number;
 use tags::Dtd;
 use trims::{leading_spaces, trimmed};
-
-fn quoted_of(x: Span, s: &[u8]) -> &[u8]
-    ensures { result.now ≡ quoted x s.now }
-{
-    let start = x.start;
-    let len = x.len;
-    part(s, start, len)
-}
 
 // Where a value starts in the document, without its leading spaces where they are dropped.
 fn start_of(drops: bool, at: usize, x: Span, s: &[u8]) -> u32
@@ -50,6 +42,7 @@ fn length_of(drops: bool, x: Span, s: &[u8]) -> u32
     0
 }
 
+#[tactic(auto, unfolding(crate::specs::Shown::with_pair))]
 fn set_pair(t: &mut [u32], k: usize, start: u32, len: u32)
     requires { k ≤ 1099511627776 }
     ensures { t.new ≡ with_pair t.old k start len }
@@ -58,6 +51,7 @@ fn set_pair(t: &mut [u32], k: usize, start: u32, len: u32)
     set_number(t, 2 * k + 1, len);
 }
 
+#[tactic(auto, unfolding(crate::specs::Shown::with_value))]
 fn put_value(t: &mut [u32], k: usize, drops: bool, at: usize, x: Span, s: &[u8])
     requires pair { k ≤ 1099511627776 }
     requires inside { SpanInside at x }
@@ -69,6 +63,7 @@ fn put_value(t: &mut [u32], k: usize, drops: bool, at: usize, x: Span, s: &[u8])
 }
 
 // The attributes that a root may have.
+#[tactic(auto, unfolding(crate::specs::Shown::root_shown))]
 fn show_root(t: &mut [u32], k: usize, at: usize, d: Dtd, s: &[u8])
     requires pair { k ≤ 1000000000000 }
     requires version { SpanInside at d.version }
@@ -84,6 +79,7 @@ fn show_root(t: &mut [u32], k: usize, at: usize, d: Dtd, s: &[u8])
     put_value(t, k + 2, false, at, message, s);
 }
 
+#[tactic(auto, unfolding(crate::specs::Shown::v_shown))]
 fn show_v(t: &mut [u32], k: usize, at: usize, w: usize, x: Span, s: &[u8])
     requires pair { k ≤ 1000000000000 }
     requires inside { SpanInside at x }
@@ -95,6 +91,7 @@ fn show_v(t: &mut [u32], k: usize, at: usize, w: usize, x: Span, s: &[u8])
 }
 
 // codingScheme, which is collapsed in every row that has it.
+#[tactic(auto, unfolding(crate::specs::Shown::scheme_shown))]
 fn show_scheme(t: &mut [u32], k: usize, at: usize, w: usize, x: Span, s: &[u8])
     requires pair { k ≤ 1000000000000 }
     requires inside { SpanInside at x }
@@ -106,6 +103,7 @@ fn show_scheme(t: &mut [u32], k: usize, at: usize, w: usize, x: Span, s: &[u8])
 }
 
 // The values of a tag of row w, whose first pair is k.
+#[tactic(auto, unfolding(crate::specs::Shown::tag_shown))]
 fn show_tag(t: &mut [u32], k: usize, at: usize, w: usize, tag: Tag, s: &[u8])
     requires pair { k ≤ 1000000000000 }
     requires inside { TagInside at tag }
@@ -122,6 +120,7 @@ fn show_tag(t: &mut [u32], k: usize, at: usize, w: usize, tag: Tag, s: &[u8])
     show_scheme(t, k, at, w, coding, s);
 }
 
+#[tactic(auto, unfolding(crate::specs::Shown::series_at))]
 fn series_at(w: usize, n: u32) -> u32
     requires { n < 4294967295 }
     ensures { result ≡ series_at w n }
@@ -129,6 +128,7 @@ fn series_at(w: usize, n: u32) -> u32
     if role_of(w) == SERIES_ROLE { n + 1 } else { n }
 }
 
+#[tactic(auto, unfolding(crate::specs::Shown::tag_row))]
 fn tag_row(rows: &[usize], tag: Tag, s: &[u8]) -> usize
     ensures row { result ≡ tag_row rows.now tag s.now }
     ensures size { result ≤ length rows.now }
@@ -138,6 +138,7 @@ fn tag_row(rows: &[usize], tag: Tag, s: &[u8]) -> usize
 }
 
 // A tag after n series: shows its values, and answers how many series there are after it.
+#[tactic(auto, unfolding(crate::specs::Shown::tag_counts, crate::specs::Shown::tag_shows))]
 fn open_tag(t: &mut [u32], rows: &[usize], at: usize, tag: Tag, s: &[u8], n: u32) -> u32
     requires rows { length rows.now ≤ 34 }
     requires few { n < 4294967295 }

@@ -19,6 +19,7 @@ pub(crate) fn one_if(b: bool) -> usize
 }
 
 // How many values a row has.
+#[tactic(auto, unfolding(crate::specs::Layout::values_of))]
 pub(crate) fn values_of(w: usize) -> usize
     ensures many { result ≡ values_of w }
     ensures size { result ≤ 3 }
@@ -36,6 +37,7 @@ pub(crate) fn values_of(w: usize) -> usize
     one_if(asks_v(w)) + one_if(asks_scheme(w))
 }
 
+#[tactic(auto, unfolding(crate::specs::Layout::pair_after))]
 fn pair_after(k: usize, w: usize) -> usize
     requires { k ≤ 1000 }
     ensures pair { result ≡ pair_after k w }
@@ -47,7 +49,8 @@ fn pair_after(k: usize, w: usize) -> usize
     k + values_of(w)
 }
 
-pub(crate) fn row_at(rows: &[usize], row: usize) -> usize
+// A row, and 0 past the end. Ruled out: the last row for one past the end.
+pub fn row_at(rows: &[usize], row: usize) -> usize
     ensures { result ≡ get_or rows.now row 0 }
 {
     if row < rows.len() { rows[row] } else { 0 }
@@ -60,15 +63,14 @@ pub(crate) fn first_pair(rows: &[usize], row: usize) -> usize
     ensures size { result ≤ 1000 }
 {
     let mut k: usize = 0;
-    let mut i: usize = 0;
-    while i < row {
+    for i in 0..row {
         k = pair_after(k, row_at(rows, i));
-        i += 1;
     }
     k
 }
 
 // Where it stands for the last of n series.
+#[tactic(auto, unfolding(crate::specs::Layout::pair_in))]
 pub(crate) fn pair_in(k: usize, n: u32) -> usize
     requires { k ≤ 1000 }
     ensures pair { result ≡ pair_in k n }
@@ -88,12 +90,7 @@ pub(crate) fn row_named(rows: &[usize], name: usize) -> usize
     ensures row { result ≡ row_named name rows.now }
     ensures size { result ≤ length rows.now }
 {
-    let mut i: usize = 0;
-    while i < rows.len() {
-        if name_of(rows[i]) == name {
-            return i;
-        }
-        i += 1;
-    }
-    i
+    rows.iter()
+        .position(|w| name_of(*w) == name)
+        .unwrap_or(rows.len())
 }

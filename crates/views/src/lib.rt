@@ -17,19 +17,20 @@ ghost use Rattle.views.specs.Views.{sheet_shown, sight, sheet_viewed, six_in, vi
 use cells::show_item;
 use guideline::{every_row, rows_of};
 use items::{item_at, item_len};
-pub use layout::{HEADER_PAIRS, SERIES_PAIRS};
-use prolog::{Begin, first_item};
+pub use layout::{HEADER_PAIRS, SERIES_PAIRS, row_at};
+use prolog::first_item;
 use reader::{Found, judge};
-use refusals::{NO_REFUSAL, TABLE_FULL};
+use refusals::{NO_REFUSAL, Refusal};
 use slices::rest;
 use states::Room;
 use tables::{clear_numbers, set_number};
 
+#[tactic(auto, unfolding(reader::specs::Reading::refused_at, states::specs::Moves::begun, structure::specs::Depth::depth_of, structure::specs::Depth::height_in, guideline::specs::Rows::rows_of))]
 fn too_short() -> Found
     ensures { result ≡ refused_at table_full 0 begun }
 {
     Found {
-        refusal: TABLE_FULL,
+        refusal: Refusal::TableFull.number(),
         place: 0,
         kind: 0,
         series: 0,
@@ -42,6 +43,7 @@ fn too_short() -> Found
 }
 
 // No table is lent for intervals, so that they never lack room.
+#[tactic(auto, unfolding(crate::specs::Layout::view_room))]
 fn room_in(n: usize) -> Room
     requires { 32 ≤ n }
     ensures { result ≡ view_room n }
@@ -75,8 +77,8 @@ fn show_sheet(doc: &[u8], rows: &[usize], t: &mut [u32])
     ensures { t.new ≡ sheet_shown rows.now doc.now t.old }
 {
     match first_item(doc) {
-        Begin::From(n) => show_items(doc, n, rows, t),
-        Begin::Misdeclared(_) => {}
+        Ok(n) => show_items(doc, n, rows, t),
+        Err(_) => {}
     }
 }
 
@@ -96,6 +98,7 @@ fn view_sheet(doc: &[u8], t: &mut [u32]) -> Found
 }
 
 // The six numbers, as far as there are cells, and 0 in those after them.
+#[tactic(auto, unfolding(crate::specs::Views::six_in))]
 fn put_six(t: &mut [u32], f: Found)
     ensures { t.new ≡ six_in (length t.old) f }
 {

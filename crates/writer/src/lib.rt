@@ -2,6 +2,7 @@
 #![tactic(auto)]
 
 ghost use Rattle.std.specs.Prelude.{◌≡◌, ◌≤◌, length};
+ghost use Rattle.refusals.specs.Refusals.{number};
 ghost use Rattle.escapes.specs.Spelled.{unescaped};
 ghost use Rattle.drafts.specs.Fit.{draft_of};
 ghost use Rattle.drafts.specs.Written.{longest, room_in, written_of};
@@ -11,7 +12,7 @@ use escapes::put_unescaped;
 use fitting::is_fit;
 use lists::clear_bytes;
 use putting::put_sheet;
-use refusals::{CONTENT_UNFIT, NO_REFUSAL, NO_ROOM_TO_WRITE};
+use refusals::{NO_REFUSAL, Refusal};
 use tables::{clear_numbers, set_number};
 
 // The longest document.
@@ -69,6 +70,16 @@ fn put_two(t: &mut [u32], refusal: u32, len: u32)
     set_number(t, 1, len);
 }
 
+// Answers the refusal too.
+fn put_refusal(t: &mut [u32], refusal: Refusal) -> u32
+    ensures answer { result ≡ number refusal }
+    ensures cells { t.new ≡ two_in (length t.old) (number refusal) 0 }
+{
+    let n = refusal.number();
+    put_two(t, n, 0);
+    n
+}
+
 // Writes a Beschaffungsanforderung or Kostenblatt into `out` from a text of unescaped values, a pair (start and length in the text) for each value as
 // `lumintayag_views` lays them, and the tables that the reader fills; puts refusal and length into `answer`, and answers the refusal.
 // Ruled out: a document that the reader would refuse; 12 where a legal document has this content; 13 before 12; a byte left behind in the output of a refusal, or past the document.
@@ -88,13 +99,11 @@ pub fn lumintayag_write(
 {
     if !is_fit(kind, text, pairs, count, series, positions, amounts) {
         clear_bytes(out);
-        put_two(answer, CONTENT_UNFIT, 0);
-        return CONTENT_UNFIT;
+        return put_refusal(answer, Refusal::ContentUnfit);
     }
     let len = write_fit(kind, text, pairs, count, series, positions, amounts, out);
     if len == 0 {
-        put_two(answer, NO_ROOM_TO_WRITE, 0);
-        return NO_ROOM_TO_WRITE;
+        return put_refusal(answer, Refusal::NoRoomToWrite);
     }
     put_two(answer, NO_REFUSAL, len as u32);
     NO_REFUSAL

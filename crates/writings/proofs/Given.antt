@@ -17,7 +17,7 @@ use Rattle.structure.specs.Rows.{name_of}
 use Rattle.guideline.specs.Kinds.{kind_at, kind_one, kind_two, dtd_version, dtd_release, dtd_message}
 use Rattle.guideline.specs.Rows.{beschaffungsanforderung, kostenblatt, rows_of}
 use Rattle.states.specs.Attributes.{agree, no_others, asks_v, asks_scheme, demands_at}
-use Rattle.rules.specs.Rules.{judge, form_refusal, unless, amount, amount_by}
+use Rattle.rules.specs.Rules.{judge, form_refusal, unless, amount}
 use Rattle.rules.specs.declared.Held.{Held}
 use Rattle.trees.specs.Trees.{Trees, none, element}
 use Rattle.contents.specs.Said.{AttributeValue, Absent, Given, TagSaid, given, bytes}
@@ -122,7 +122,7 @@ unfolding scheme_fits
 scheme-same w s t h = rw h.scheme.said refl
 
 qty-same : (held : Held) (x y : List ℕ) → amount_of x ≡ amount_of y → eqb (judge amount_form held x).number 0 ≡ eqb (judge amount_form held y).number 0
-unfolding judge form_refusal unless amount amount_by
+unfolding judge form_refusal unless amount
 qty-same held x y e = rw e refl
 
 module _ (kind w : ℕ) (s t : TagSaid) (h : TagHas w s t) (n : numbers_in w ≡ true) where

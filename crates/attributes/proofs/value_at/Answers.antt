@@ -1,4 +1,3 @@
-use Prim.Native.Nat.{◌-◌}
 use mathlib.Core.Path.{refl, ◌∙◌}
 use native.Mathlib.Omega.{arith}
 use Rattle.slices.proofs.Walks.{walked_start, walked-go, walked_stop, walked_end}
@@ -7,9 +6,6 @@ use Rattle.attributes.proofs.Values.{plain_here, longer-here}
 use borrow.Author.Tests.{eq-eqb, ne_eqb}
 use Rattle.attributes.specs.Attribute.{value, value_over, referred_next}
 use Rattle.attributes.proofs.value_at.Goals as goal
-
-pub loop-i-init : goal.loop-i-init
-loop-i-init c = walked_start
 
 pub returns-then-b-q : goal.returns-then-b-q
 unfolding value
@@ -22,15 +18,9 @@ pub returns-in_default : goal.returns-in_default
 unfolding value referred_next
 returns-in_default c = record { value = walked_stop c.loop-i.invariant c.loop-i-test.true refl (longer-here c.args.q c.loop-i.i c.args.s.now c.loop-i.i c.loop-i-test.true c.is_plain.ensures c.requires c.if-is_plain.false c.longer_at.ensures.char ∙ simp c.in_default.is); size = omega arith }
 
-pub overflow_add-i-else-is_plain : goal.overflow_add-i-else-is_plain
-overflow_add-i-else-is_plain c = omega (arith, rw c.in-Is.is at c.longer_at.ensures.size)
-
-pub loop-i-smaller : goal.loop-i-smaller
-loop-i-smaller c = omega (arith, rw c.in-Is.is at c.longer_at.ensures.size)
-
 pub loop-i-preserved : goal.loop-i-preserved
 unfolding referred_next
-loop-i-preserved c = walked-go c.loop-i.invariant c.loop-i-test.true refl (longer-here c.args.q c.loop-i.i c.args.s.now c.loop-i.i c.loop-i-test.true c.is_plain.ensures c.requires c.if-is_plain.false c.longer_at.ensures.char ∙ simp c.in-Is.is) (omega (arith, rw c.in-Is.is at c.longer_at.ensures.size))
+loop-i-preserved c = walked-go c.loop-i.invariant c.loop-i-test.true refl (longer-here c.args.q c.loop-i.i c.args.s.now c.loop-i.i c.loop-i-test.true c.is_plain.ensures c.requires c.if-is_plain.false c.longer_at.ensures.char ∙ simp c.in-Some.is) (omega (arith, rw c.in-Some.is at c.longer_at.ensures.size))
 
 pub returns : goal.returns
 unfolding value value_over

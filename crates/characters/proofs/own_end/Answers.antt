@@ -1,4 +1,4 @@
-use Rattle.characters.specs.Says.{own_byte, own_end}
+use Rattle.characters.specs.Says.{own_end}
 use Rattle.characters.proofs.own_end.Goals as goal
 
 pub returns : goal.returns

@@ -1,21 +1,22 @@
-use Prim.Native.Nat.{◌-◌}
-use Rattle.characters.proofs.Alike.{owned-start, owned-end, owned-short, owned-other, owned-stop, owned-more}
+use mathlib.Core.Path.{◌≡◌, ◌∙◌}
+use native.Mathlib.Omega.{arith}
+use Prim.Native.Nat.{min, ◌≤◌}
+use lib.ListN.{length}
+use Rattle.characters.proofs.Alike.{owned-end, owned-other, owned-stop, owned-more}
+use Rattle.characters.proofs.own_len.Goals.{then-a-i-via-then-a-i, then-a-i-via-else-a-i+then-not-is_itself}
 use Rattle.characters.proofs.own_len.Goals as goal
 
-pub loop-i-init : goal.loop-i-init
-loop-i-init c = owned-start
-
-pub returns-then-b-i : goal.returns-then-b-i
-returns-then-b-i c = record { len = owned-short c.loop-i.invariant c.loop-i-test.true c.if-b-i.true; size = (c.loop-i.invariant.first, c.loop-i.invariant.second) }
-
-pub returns-then-a-i : goal.returns-then-a-i
-returns-then-a-i c = record { len = owned-other c.loop-i.invariant c.loop-i-test.true c.if-b-i.false c.if-a-i.true; size = (c.loop-i.invariant.first, c.loop-i.invariant.second) }
+pub returns-then-a-i-clause-len : goal.returns-then-a-i-clause-len
+returns-then-a-i-clause-len c = elim c.then-a-i.branch [
+  | then-a-i-via-then-a-i w ↦ owned-other c.loop-i.invariant (omega arith) (omega arith) w.if-a-i.true
+  | then-a-i-via-else-a-i+then-not-is_itself w ↦ owned-stop c.loop-i.invariant (omega arith) (omega arith) w.if-a-i.false w.is_itself.ensures w.if-not-is_itself.true
+]
 
 pub loop-i-preserved : goal.loop-i-preserved
-loop-i-preserved c = owned-more c.loop-i.invariant c.loop-i-test.true c.if-b-i.false c.if-a-i.false c.is_itself.ensures c.if-is_itself.true
+loop-i-preserved c = owned-more c.loop-i.invariant (omega arith) (omega arith) c.if-a-i.false c.is_itself.ensures c.if-not-is_itself.false
 
-pub returns-else-is_itself : goal.returns-else-is_itself
-returns-else-is_itself c = record { len = owned-stop c.loop-i.invariant c.loop-i-test.true c.if-b-i.false c.if-a-i.false c.is_itself.ensures c.if-is_itself.false; size = (c.loop-i.invariant.first, c.loop-i.invariant.second) }
-
-pub returns : goal.returns
-returns c = record { len = owned-end c.loop-i.invariant c.loop-i-test.false; size = (c.loop-i.invariant.first, c.loop-i.invariant.second) }
+pub returns-clause-len : goal.returns-clause-len
+returns-clause-len c =
+    let h : min (length c.args.a.now) (length c.args.b.now) ≤ c.loop-i.i = omega arith in
+    let e : c.min-most.result ≡ c.loop-i.i = omega arith in
+    e ∙ owned-end c.loop-i.invariant h

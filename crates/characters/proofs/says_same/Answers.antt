@@ -1,5 +1,4 @@
 use native.Mathlib.Omega.{arith}
-use Prim.Native.Nat.{◌-◌}
 use mathlib.Core.Path.{ap, ◌∙◌}
 use Rattle.characters.specs.Says.{said_at}
 use Rattle.characters.proofs.Alike.{own-abreast, abreast-never, abreast-over, abreast-stop, abreast-more, abreast-end}
@@ -12,22 +11,13 @@ pub returns-in_default : goal.returns-in_default
 returns-in_default c = absurd (abreast-never c.loop-i.invariant c.loop-i-test.true (c.said_at.ensures.said ∙ ap said_at c.rest.ensures.list) c.in_default.is)
 
 pub returns-in_default-said_at : goal.returns-in_default-said_at
-returns-in_default-said_at c = abreast-over c.loop-i.invariant c.loop-i-test.true (c.said_at.ensures.said ∙ ap said_at c.rest.ensures.list) c.in-Says.is (c.said_at-in-loop-i.ensures.said ∙ ap said_at c.rest-in-loop-i.ensures.list) c.in_default-said_at.is
+returns-in_default-said_at c = abreast-over c.loop-i.invariant c.loop-i-test.true (c.said_at.ensures.said ∙ ap said_at c.rest.ensures.list) c.in-Some.is (c.said_at-in-loop-i.ensures.said ∙ ap said_at c.rest-in-loop-i.ensures.list) c.in_default-said_at.is
 
 pub returns-then-c-d : goal.returns-then-c-d
-returns-then-c-d c = abreast-stop c.loop-i.invariant c.loop-i-test.true (c.said_at.ensures.said ∙ ap said_at c.rest.ensures.list) c.in-Says.is (c.said_at-in-loop-i.ensures.said ∙ ap said_at c.rest-in-loop-i.ensures.list) c.in-Says-said_at.is c.if-c-d.true
-
-pub overflow_add-i : goal.overflow_add-i
-overflow_add-i c = omega (arith, rw c.in-Says.is at c.said_at.ensures.size)
-
-pub overflow_add-k : goal.overflow_add-k
-overflow_add-k c = omega (arith, (abreast-more c.loop-i.invariant c.loop-i-test.true (c.said_at.ensures.said ∙ ap said_at c.rest.ensures.list) c.in-Says.is (c.said_at-in-loop-i.ensures.said ∙ ap said_at c.rest-in-loop-i.ensures.list) c.in-Says-said_at.is c.if-c-d.false).inside)
-
-pub loop-i-smaller : goal.loop-i-smaller
-loop-i-smaller c = omega (arith, rw c.in-Says.is at c.said_at.ensures.size)
+returns-then-c-d c = abreast-stop c.loop-i.invariant c.loop-i-test.true (c.said_at.ensures.said ∙ ap said_at c.rest.ensures.list) c.in-Some.is (c.said_at-in-loop-i.ensures.said ∙ ap said_at c.rest-in-loop-i.ensures.list) c.in-Some-said_at.is c.if-c-d.true
 
 pub loop-i-preserved : goal.loop-i-preserved
-loop-i-preserved c = abreast-more c.loop-i.invariant c.loop-i-test.true (c.said_at.ensures.said ∙ ap said_at c.rest.ensures.list) c.in-Says.is (c.said_at-in-loop-i.ensures.said ∙ ap said_at c.rest-in-loop-i.ensures.list) c.in-Says-said_at.is c.if-c-d.false
+loop-i-preserved c = abreast-more c.loop-i.invariant c.loop-i-test.true (c.said_at.ensures.said ∙ ap said_at c.rest.ensures.list) c.in-Some.is (c.said_at-in-loop-i.ensures.said ∙ ap said_at c.rest-in-loop-i.ensures.list) c.in-Some-said_at.is c.if-c-d.false
 
 pub returns : goal.returns
 returns c = abreast-end c.loop-i.invariant c.loop-i-test.false

@@ -1,16 +1,13 @@
-use Prim.Native.Nat.{◌-◌}
-use mathlib.Core.Path.{sym, ◌∙◌}
-use Rattle.drafts.proofs.Given.{seeking-start, seeking-here, seeking-next, seeking-over}
+use Rattle.std.proofs.Common.{rules, tests}
+use Rattle.std.proofs.lemmas.Iterator.{YieldsList-from_slice}
+use Rattle.std.proofs.lemmas.Iterator.Search.{position_from_yields_List}
+use lib.Dec.{eqb}
+use Rattle.columns.specs.Columns.{role_of}
+use Rattle.drafts.proofs.Given.{role-or-end}
 use Rattle.drafts.proofs.role_row.Goals as goal
 
-pub loop-q-init : goal.loop-q-init
-loop-q-init c = seeking-start _ _
-
-pub returns-then-role_of-role : goal.returns-then-role_of-role
-returns-then-role_of-role c = let it = seeking-here c.loop-q.invariant c.loop-q-test.true (sym c.role_of.ensures ∙ c.if-role_of-role.true) in record { row = it.0; size = it.1 }
-
-pub loop-q-preserved : goal.loop-q-preserved
-loop-q-preserved c = seeking-next c.loop-q.invariant c.loop-q-test.true (λ z. c.if-role_of-role.false (c.role_of.ensures ∙ z))
-
-pub returns : goal.returns
-returns c = let it = seeking-over c.loop-q.invariant c.loop-q-test.false in record { row = it.0; size = it.1 }
+pub returns-clause-row : goal.returns-clause-row
+returns-clause-row c =
+    let rows = c.args.rows.now in
+    let found = position_from_yields_List (λ w. eqb (role_of w) c.args.role) _ _ c.position.result c.position.ensures.ran (YieldsList-from_slice rows cc) (λ x b q k. search (rules, tests)) in
+    role-or-end _ rows found c.unwrap_or.ensures

@@ -1,5 +1,6 @@
 -- `escapes::put_text` meets its contract. The invariant is `Put`.
 -- Assumes nothing.
+use mathlib.Core.Path.{refl}
 use lib.ListN.{drop_of_length-le}
 use Rattle.escapes.proofs.Putting.{put-start, next-byte, put_byte, put-end}
 use Rattle.escapes.proofs.put_text.Goals as goal
@@ -16,4 +17,4 @@ pub shape_of-free : goal.shape_of-free
 shape_of-free c = c.loop-i.invariant.same
 
 pub returns : goal.returns
-returns c = let it = put-end c.loop-i.invariant (drop_of_length-le _ c.loop-i-test.false) in record { answer = it.0; buffer = it.1 }
+returns c = let it = put-end c.loop-i.invariant (drop_of_length-le _ c.loop-i-test.false) in record { answer = refl; buffer = it.1 }

@@ -5,15 +5,15 @@ use borrow.Author.Rules.{rules}
 use Rattle.items.proofs.comment_tag.Goals as goal
 
 pub overflow_add-result : goal.overflow_add-result
-overflow_add-result c = omega (arith, rw c.in-Upto.is at c.comment_at.ensures.size)
+overflow_add-result c = omega (arith, rw c.in-Some.is at c.comment_at.ensures.size)
 
-pub returns-in-Upto : goal.returns-in-Upto
+pub returns-in-Some : goal.returns-in-Some
 unfolding comment_tag comment_item
-returns-in-Upto c = record { item = simp (c.in-Upto.is, ← c.comment_at.ensures.reach, ← c.rest.ensures.list, eq-eqb _ _ c.if-byte_at-eq45-2.true, ← c.byte_at-then-byte_at-eq45.ensures, eq-eqb _ _ c.if-byte_at-eq45.true, ← c.byte_at.ensures); size = omega (arith, rw c.in-Upto.is at c.comment_at.ensures.size) }
+returns-in-Some c = record { item = simp (c.in-Some.is, ← c.comment_at.ensures.reach, ← c.rest.ensures.list, eq-eqb _ _ c.if-byte_at-eq45-2.true, ← c.byte_at-then-byte_at-eq45.ensures, eq-eqb _ _ c.if-byte_at-eq45.true, ← c.byte_at.ensures); size = omega (arith, rw c.in-Some.is at c.comment_at.ensures.size) }
 
-pub returns-in-Unread : goal.returns-in-Unread
+pub returns-in-None : goal.returns-in-None
 unfolding comment_tag comment_item
-returns-in-Unread c = record { item = simp (c.in-Unread.is, ← c.comment_at.ensures.reach, ← c.rest.ensures.list, eq-eqb _ _ c.if-byte_at-eq45-2.true, ← c.byte_at-then-byte_at-eq45.ensures, eq-eqb _ _ c.if-byte_at-eq45.true, ← c.byte_at.ensures); size = omega (arith, rw c.in-Unread.is at c.comment_at.ensures.size) }
+returns-in-None c = record { item = simp (c.in-None.is, ← c.comment_at.ensures.reach, ← c.rest.ensures.list, eq-eqb _ _ c.if-byte_at-eq45-2.true, ← c.byte_at-then-byte_at-eq45.ensures, eq-eqb _ _ c.if-byte_at-eq45.true, ← c.byte_at.ensures); size = omega (arith, rw c.in-None.is at c.comment_at.ensures.size) }
 
 pub returns-else-byte_at-eq45-2 : goal.returns-else-byte_at-eq45-2
 unfolding comment_tag comment_item

@@ -1,4 +1,3 @@
-use Prim.Native.Nat.{◌-◌}
 use native.Mathlib.Omega.{arith}
 use Rattle.putting.proofs.Landing.{took, left-start, left-more, left_end}
 use Rattle.putting.proofs.Turns.{series-start, series-next, series-over}

@@ -1,6 +1,5 @@
 -- `putting::put_singles` meets its contract. The invariant is `Going`.
 -- Assumes nothing.
-use Prim.Native.Nat.{◌-◌}
 use native.Mathlib.Omega.{arith}
 use Rattle.putting.proofs.Singles.{going_start, going-over, going-value, going-period, going-out}
 use Rattle.putting.proofs.put_singles.Goals as goal
@@ -24,12 +23,6 @@ shape_of-out-else-role_of-eq-PERIOD_ROLE c = c.loop-q.invariant.left.same
 
 pub returns-else-role_of-eq-PERIOD_ROLE : goal.returns-else-role_of-eq-PERIOD_ROLE
 returns-else-role_of-eq-PERIOD_ROLE c = let it = going-out c.loop-q.invariant c.loop-q-test.true c.asks_v.ensures c.if-asks_v.false c.role_of.ensures c.if-role_of-eq-PERIOD_ROLE.false in record { answer = it.0; buffer = it.1 }
-
-pub overflow_add-q : goal.overflow_add-q
-overflow_add-q c = omega (arith, c.loop-q-test.true, c.requires.rows)
-
-pub loop-q-smaller : goal.loop-q-smaller
-loop-q-smaller c = omega (arith, c.loop-q-test.true)
 
 pub loop-q-preserved : goal.loop-q-preserved
 loop-q-preserved c = let g = c.loop-q.invariant in

@@ -7,10 +7,10 @@ use Rattle.reader.proofs.Sheets.{judged-items, judged-unread}
 use Rattle.reader.proofs.judge_all.Goals as goal
 
 pub overflow_cast-p : goal.overflow_cast-p
-overflow_cast-p c = ⊎_elim (λ z. omega (arith, z)) (λ z. omega (arith, z)) (refused-place _ _ (sym c.first_item.ensures.begin ∙ c.in-Misdeclared.is))
+overflow_cast-p c = ⊎_elim (λ z. omega (arith, z)) (λ z. omega (arith, z)) (refused-place _ _ (sym c.first_item.ensures.begin ∙ c.in-Err.is))
 
-pub returns-in-From : goal.returns-in-From
-returns-in-From c = ap (λ (o : Out). o.found) c.read_items.ensures ∙ judged-items _ _ _ _ (sym c.first_item.ensures.begin ∙ c.in-From.is)
+pub returns-in-Ok : goal.returns-in-Ok
+returns-in-Ok c = ap (λ (o : Out). o.found) c.read_items.ensures ∙ judged-items _ _ _ _ (sym c.first_item.ensures.begin ∙ c.in-Ok.is)
 
-pub returns-in-Misdeclared : goal.returns-in-Misdeclared
-returns-in-Misdeclared c = c.refused_first.ensures ∙ judged-unread _ _ _ _ (sym c.first_item.ensures.begin ∙ c.in-Misdeclared.is)
+pub returns-in-Err : goal.returns-in-Err
+returns-in-Err c = c.refused_first.ensures ∙ judged-unread _ _ _ _ (sym c.first_item.ensures.begin ∙ c.in-Err.is)

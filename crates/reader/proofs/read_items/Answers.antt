@@ -1,7 +1,7 @@
-use Prim.Native.Nat.{◌-◌}
 use mathlib.Core.Path.{sym, ap, ◌∙◌}
 use native.Mathlib.Omega.{arith}
 use lib.ListN.{length, length-drop}
+use Rattle.states.specs.Step.{step_told}
 use Rattle.reader.proofs.Ran.{ran-start, ran-next, ran-pass, ran-rows, ran-stop, ran-unread, ran-end}
 use Rattle.reader.proofs.read_items.Goals as goal
 
@@ -41,20 +41,20 @@ enter-requires c = let h = c.loop-at-test.true in omega (arith, h, c.requires, c
 pub overflow_cast-at : goal.overflow_cast-at
 overflow_cast-at c = let h = c.loop-at-test.true in omega (arith, h, c.requires)
 
-pub refused_at-requires-in-Refused : goal.refused_at-requires-in-Refused
-refused_at-requires-in-Refused c = ran-rows c.loop-at.invariant c.rows_of-in-Refused.ensures
+pub refused_at-requires-in-Err : goal.refused_at-requires-in-Err
+refused_at-requires-in-Err c = ran-rows c.loop-at.invariant c.rows_of-in-Err.ensures
 
-pub shape_of-series-in-Refused : goal.shape_of-series-in-Refused
-shape_of-series-in-Refused c = c.loop-at.invariant.ser-same
+pub shape_of-series-in-Err : goal.shape_of-series-in-Err
+shape_of-series-in-Err c = c.loop-at.invariant.ser-same
 
-pub shape_of-positions-in-Refused : goal.shape_of-positions-in-Refused
-shape_of-positions-in-Refused c = c.loop-at.invariant.pos-same
+pub shape_of-positions-in-Err : goal.shape_of-positions-in-Err
+shape_of-positions-in-Err c = c.loop-at.invariant.pos-same
 
-pub shape_of-amounts-in-Refused : goal.shape_of-amounts-in-Refused
-shape_of-amounts-in-Refused c = c.loop-at.invariant.ams-same
+pub shape_of-amounts-in-Err : goal.shape_of-amounts-in-Err
+shape_of-amounts-in-Err c = c.loop-at.invariant.ams-same
 
-pub returns-in-Refused : goal.returns-in-Refused
-returns-in-Refused c = rw c.refused_at-in-Refused.ensures (ran-stop c.loop-at.invariant c.loop-at-test.true c.rest-s.ensures.list c.item_at-item.ensures.item c.item_at-item.ensures.size.0 c.step_in.ensures c.in-Refused.is)
+pub returns-in-Err : goal.returns-in-Err
+returns-in-Err c = rw c.refused_at-in-Err.ensures (ran-stop c.loop-at.invariant c.loop-at-test.true c.rest-s.ensures.list c.item_at-item.ensures.item c.item_at-item.ensures.size.0 c.step_in.ensures (ap step_told c.in-Err.is))
 
 pub overflow_add-at-in-loop-at : goal.overflow_add-at-in-loop-at
 overflow_add-at-in-loop-at c = let h = c.loop-at-test.true in omega (arith, c.item_len-at-in-loop-at.ensures, h, c.requires, c.item_at-item.ensures.size.0, c.item_at-item.ensures.size.1, c.item_at-item.ensures.size.2, ap length c.rest-s.ensures.list, length-drop c.loop-at.at c.args.doc.now)
@@ -63,7 +63,7 @@ pub loop-at-smaller : goal.loop-at-smaller
 loop-at-smaller c = let h = c.loop-at-test.true in omega (arith, c.item_len-at-in-loop-at.ensures, h, c.requires, c.item_at-item.ensures.size.0, c.item_at-item.ensures.size.1, c.item_at-item.ensures.size.2, ap length c.rest-s.ensures.list, length-drop c.loop-at.at c.args.doc.now)
 
 pub loop-at-preserved : goal.loop-at-preserved
-loop-at-preserved c = rw c.item_len-at-in-loop-at.ensures (ran-next c.loop-at.invariant c.loop-at-test.true c.rest-s.ensures.list c.item_at-item.ensures.item c.item_at-item.ensures.size.0 c.step_in.ensures c.in-Next.is c.enter.auto.series c.enter.auto.positions c.enter.auto.amounts c.enter.ensures)
+loop-at-preserved c = rw c.item_len-at-in-loop-at.ensures (ran-next c.loop-at.invariant c.loop-at-test.true c.rest-s.ensures.list c.item_at-item.ensures.item c.item_at-item.ensures.size.0 c.step_in.ensures (ap step_told c.in-Ok.is) c.enter.auto.series c.enter.auto.positions c.enter.auto.amounts c.enter.ensures)
 
 pub overflow_cast-doc : goal.overflow_cast-doc
 overflow_cast-doc c = omega (arith, c.requires)

@@ -3,4 +3,4 @@ use Rattle.reader.proofs.refused_at.Goals as goal
 
 pub returns : goal.returns
 unfolding refused_at
-returns c = rw (c.depth_after-depth.ensures, c.requires)
+returns c = rw (c.depth_after-depth.ensures, c.number.ensures, c.requires)

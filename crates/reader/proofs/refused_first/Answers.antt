@@ -7,4 +7,4 @@ use Rattle.reader.proofs.refused_first.Goals as goal
 
 pub returns : goal.returns
 unfolding refused_at begun depth_of height_in rows_of
-returns c = refl
+returns c = rw c.number.ensures

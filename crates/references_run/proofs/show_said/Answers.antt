@@ -4,7 +4,7 @@ use native.Mathlib.Omega.{arith}
 use Rattle.references_run.proofs.show_said.Goals as goal
 
 pub overflow_add-i : goal.overflow_add-i
-overflow_add-i c = omega (arith, rw c.in-Says.is at c.said_at.ensures.size)
+overflow_add-i c = omega (arith, rw c.in-Some.is at c.said_at.ensures.size)
 
 pub loop-i-smaller : goal.loop-i-smaller
-loop-i-smaller c = omega (arith, rw c.in-Says.is at c.said_at.ensures.size)
+loop-i-smaller c = omega (arith, rw c.in-Some.is at c.said_at.ensures.size)

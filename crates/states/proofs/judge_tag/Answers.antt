@@ -1,5 +1,6 @@
 use borrow.Author.Tests.{eq-eqb, ne_eqb}
-use Rattle.states.specs.Attributes.{also_scheme, judge_tag}
+use Rattle.states.specs.Attributes.{least, also_scheme, judge_tag}
+use Rattle.states.proofs.Judgements.{also-none}
 use Rattle.states.proofs.judge_tag.Goals as goal
 
 pub returns-then-is_dtd_fixed : goal.returns-then-is_dtd_fixed
@@ -14,6 +15,14 @@ pub returns-then-form-eq-NO_FORM : goal.returns-then-form-eq-NO_FORM
 unfolding judge_tag also_scheme
 returns-then-form-eq-NO_FORM c = simp (eq-eqb _ _ c.if-form-eq-NO_FORM.true, ← c.form_of-form.ensures, c.if-is_root.false, ← c.is_root.ensures)
 
-pub returns : goal.returns
+pub returns-in-Ok : goal.returns-in-Ok
+unfolding judge_tag
+returns-in-Ok c = simp (also-none, ← c.in-Ok.ensures, ← c.value_of.ensures, ne_eqb _ _ c.if-form-eq-NO_FORM.false, ← c.form_of-form.ensures, c.if-is_root.false, ← c.is_root.ensures) c.judge_value-said.ensures
+
+pub returns-in-Ok-said : goal.returns-in-Ok-said
+unfolding judge_tag also_scheme least
+returns-in-Ok-said c = simp (← c.in-Err.ensures, c.in-Ok-said.ensures, ← c.value_of.ensures, ne_eqb _ _ c.if-form-eq-NO_FORM.false, ← c.form_of-form.ensures, c.if-is_root.false, ← c.is_root.ensures)
+
+pub returns-in-Err-said : goal.returns-in-Err-said
 unfolding judge_tag also_scheme
-returns c = simp (← c.least_of.ensures, ← c.scheme_refusal.ensures, ← c.judge_value-j.ensures, ← c.value_of.ensures, ne_eqb _ _ c.if-form-eq-NO_FORM.false, ← c.form_of-form.ensures, c.if-is_root.false, ← c.is_root.ensures)
+returns-in-Err-said c = simp (c.least_of.ensures, ← c.in-Err.ensures, c.in-Err-said.ensures, ← c.value_of.ensures, ne_eqb _ _ c.if-form-eq-NO_FORM.false, ← c.form_of-form.ensures, c.if-is_root.false, ← c.is_root.ensures)

@@ -1,4 +1,3 @@
-use Prim.Native.Nat.{◌-◌}
 use Rattle.structure.proofs.Laws.{ends-end, ends-past, ends-stop, ends_on}
 use Rattle.structure.proofs.ends_in.Goals as goal
 use Rattle.structure.proofs.ends_in.Goals.{then-parent_of-p+else-is_required, else-parent_of-p}

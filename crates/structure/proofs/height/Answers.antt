@@ -1,6 +1,7 @@
 -- `structure::height` meets its contract. The invariant is `Climbed`.
 -- Assumes nothing.
-use Prim.Native.Nat.{◌-◌}
+use mathlib.Core.Path.{◌≡◌, sym, ◌∙◌}
+use native.Mathlib.Omega.{arith}
 use Rattle.structure.proofs.Depths.{climb-start, climb-next, climb-top, climb-end}
 use Rattle.structure.proofs.height.Goals as goal
 
@@ -14,4 +15,4 @@ pub loop-n-preserved : goal.loop-n-preserved
 loop-n-preserved c = rw (c.parent_of-r.ensures, c.row_at.ensures) (climb-next _ _ _ _ c.loop-n.invariant c.loop-n-test.true c.if-r-eq0.false)
 
 pub returns : goal.returns
-returns c = climb-end _ _ _ _ c.loop-n.invariant c.loop-n-test.false
+returns c = let e : c.loop-n.n ≡ 16 = omega arith in sym e ∙ climb-end _ _ _ _ c.loop-n.invariant c.loop-n-test.false

@@ -1,4 +1,3 @@
-use Prim.Native.Nat.{◌-◌}
 use Rattle.structure.proofs.Laws.{next-end, next_past, next_row, next-stop, next-on}
 use Rattle.structure.proofs.next_in.Goals as goal
 use Rattle.structure.proofs.next_in.Goals.{then-parent_of-p+else-name_of-name+else-is_required, else-parent_of-p}

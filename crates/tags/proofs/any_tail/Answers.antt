@@ -24,21 +24,21 @@ loop-i-preserved c = let z = rw c.in-Attribute.is at c.piece_at.ensures.size in 
   noted-v c.loop-i.k _ _ _ c.noted-k.ensures (omega (arith, z, c.loop-i.invariant.1)) (omega (arith, z)),
 )
 
-pub overflow_add-result : goal.overflow_add-result
-overflow_add-result c = omega (arith, rw c.in-Close.is at c.piece_at.ensures.size, c.rest-t.ensures.size)
+pub overflow_add-i : goal.overflow_add-i
+overflow_add-i c = omega (arith, rw c.in-Close.is at c.piece_at.ensures.size, c.rest-t.ensures.size)
 
 pub returns-in-Close : goal.returns-in-Close
 unfolding tail kept_of
 returns-in-Close c = let more = ends_close c.args.s.now c.loop-i.i _ c.rest-t.ensures.list _ c.piece_at.ensures.piece _ c.loop-i-test.true c.in-Close.is in
-    record { tail = sym (ap (tail c.loop-i.k) more) ∙ c.loop-i.invariant.0; size = omega (arith, rw c.in-Close.is at c.piece_at.ensures.size, c.rest-t.ensures.size, c.loop-i.invariant.1) }
+    record { tail = c.shut.ensures ∙ sym (ap (tail c.loop-i.k) more) ∙ c.loop-i.invariant.0; size = rw c.shut.ensures (omega (arith, rw c.in-Close.is at c.piece_at.ensures.size, c.rest-t.ensures.size, c.loop-i.invariant.1)) }
 
-pub overflow_add-result-in-CloseEmpty : goal.overflow_add-result-in-CloseEmpty
-overflow_add-result-in-CloseEmpty c = omega (arith, rw c.in-CloseEmpty.is at c.piece_at.ensures.size, c.rest-t.ensures.size)
+pub overflow_add-i-in-CloseEmpty : goal.overflow_add-i-in-CloseEmpty
+overflow_add-i-in-CloseEmpty c = omega (arith, rw c.in-CloseEmpty.is at c.piece_at.ensures.size, c.rest-t.ensures.size)
 
 pub returns-in-CloseEmpty : goal.returns-in-CloseEmpty
 unfolding tail kept_of
 returns-in-CloseEmpty c = let more = ends-empty c.args.s.now c.loop-i.i _ c.rest-t.ensures.list _ c.piece_at.ensures.piece _ c.loop-i-test.true c.in-CloseEmpty.is in
-    record { tail = sym (ap (tail c.loop-i.k) more) ∙ c.loop-i.invariant.0; size = omega (arith, rw c.in-CloseEmpty.is at c.piece_at.ensures.size, c.rest-t.ensures.size, c.loop-i.invariant.1) }
+    record { tail = c.shut-in-CloseEmpty.ensures ∙ sym (ap (tail c.loop-i.k) more) ∙ c.loop-i.invariant.0; size = rw c.shut-in-CloseEmpty.ensures (omega (arith, rw c.in-CloseEmpty.is at c.piece_at.ensures.size, c.rest-t.ensures.size, c.loop-i.invariant.1)) }
 
 pub returns-in-Torn : goal.returns-in-Torn
 unfolding tail

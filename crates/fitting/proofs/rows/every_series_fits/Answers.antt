@@ -1,4 +1,3 @@
-use Prim.Native.Nat.{◌-◌}
 use Rattle.fitting.proofs.Loops.{telling-start, telling-over, telling-fails, telling-used, telling-next}
 use Rattle.fitting.proofs.rows.every_series_fits.Goals as goal
 use Rattle.fitting.proofs.rows.every_series_fits.Goals.{then-not-series_fits-via-then-not-series_fits, then-not-series_fits-via-else-not-series_fits+then-is_used_before}

@@ -1,9 +1,5 @@
-use Prim.Native.Nat.{◌-◌}
 use Rattle.fitting.proofs.Loops.{Telling}
 use Rattle.fitting.proofs.rows.every_series_fits.Given as goal
 
 abbrev pub invariant-loop-i : goal.invariant-loop-i
 invariant-loop-i l = Telling l.kind l.from l.to l.text l.pairs l.rows l.series l.positions l.amounts l.count l.i
-
-abbrev pub decreases-loop-i : goal.decreases-loop-i
-decreases-loop-i l = l.count - l.i

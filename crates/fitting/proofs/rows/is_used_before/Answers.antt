@@ -1,4 +1,3 @@
-use Prim.Native.Nat.{◌-◌}
 use Rattle.fitting.proofs.Loops.{unused-start, unused-over, unused-fails, unused-next}
 use Rattle.fitting.proofs.rows.is_used_before.Goals as goal
 

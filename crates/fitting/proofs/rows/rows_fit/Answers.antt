@@ -1,4 +1,3 @@
-use Prim.Native.Nat.{◌-◌}
 use Rattle.fitting.proofs.Loops.{rowing_start, rowing-over, rowing-fails, rowing-next}
 use borrow.Author.Rules.{sfits_of}
 use mir.Facts.{to_z-of_z}

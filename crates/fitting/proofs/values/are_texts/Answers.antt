@@ -1,4 +1,3 @@
-use Prim.Native.Nat.{◌-◌}
 use mathlib.Core.Path.{sym, ◌∙◌}
 use Rattle.fitting.proofs.Judging.{texts-start, texts-not, texts-next, texts-over}
 use Rattle.fitting.proofs.values.are_texts.Goals as goal

@@ -1,4 +1,3 @@
-use Prim.Native.Nat.{◌-◌}
 use mathlib.Core.Path.{sym, ◌∙◌}
 use Rattle.fitting.proofs.Judging.{covering-start, covering-here, covering-next, covering-over}
 use Rattle.fitting.proofs.values.covered_pair.Goals as goal

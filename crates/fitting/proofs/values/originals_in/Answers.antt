@@ -1,4 +1,3 @@
-use Prim.Native.Nat.{◌-◌}
 use mathlib.Core.Path.{sym, ◌∙◌}
 use native.Mathlib.Omega.{arith}
 use Rattle.fitting.proofs.Judging.{as-given, originals-start, originals-stop, originals-one, originals-none, originals-other, originals-over}

@@ -1,4 +1,3 @@
-use Prim.Native.Nat.{◌-◌}
 use mathlib.Core.Path.{sym, ◌∙◌}
 use native.Mathlib.Omega.{arith}
 use Rattle.fitting.proofs.Judging.{singles-start, singles-stop, singles-period, singles-not, singles-next, singles-over}

@@ -1,6 +1,5 @@
 -- `putting::texts::put_bytes` meets its contract. The invariant is `Ran`.
 -- Assumes nothing.
-use Prim.Native.Nat.{◌-◌}
 use native.Mathlib.Omega.{arith}
 use Rattle.putting.proofs.Lent.{ran-start, ran-same, ran-more, ran-past, ran-end}
 use Rattle.putting.proofs.texts.put_bytes.Goals as goal

@@ -1,15 +1,15 @@
-use borrow.Author.Tests.{eq-eqb, ne_eqb}
+use Rattle.refusals.proofs.Numbers.{raised, refuses}
 use Rattle.states.specs.Moves.{after_end_at, after_end}
 use Rattle.states.proofs.State.ended.Goals as goal
 
-pub returns-then-n-eq-NO_REFUSAL : goal.returns-then-n-eq-NO_REFUSAL
+pub returns-in_err-end_refusal-in-Some : goal.returns-in_err-end_refusal-in-Some
 unfolding after_end after_end_at
-returns-then-n-eq-NO_REFUSAL c = simp (← c.left.ensures, eq-eqb _ _ c.if-n-eq-NO_REFUSAL.true, ← c.end_refusal-n.ensures, c.in-Row.is, ← c.end_after.ensures)
+returns-in_err-end_refusal-in-Some c = rw (raised _ _ c.from_residual.ensures.1) (simp (refuses c.in_err-end_refusal-in-Some.field-0.0, ← c.in_err-end_refusal-in-Some.ensures, c.in-Some.is, ← c.end_after.ensures))
 
-pub returns-else-n-eq-NO_REFUSAL : goal.returns-else-n-eq-NO_REFUSAL
+pub returns-in_ok-end_refusal-in-Some : goal.returns-in_ok-end_refusal-in-Some
 unfolding after_end after_end_at
-returns-else-n-eq-NO_REFUSAL c = simp (ne_eqb _ _ c.if-n-eq-NO_REFUSAL.false, ← c.end_refusal-n.ensures, c.in-Row.is, ← c.end_after.ensures)
+returns-in_ok-end_refusal-in-Some c = simp (← c.left.ensures, ← c.in_ok-end_refusal-in-Some.ensures, c.in-Some.is, ← c.end_after.ensures)
 
-pub returns-in-NotDue : goal.returns-in-NotDue
+pub returns-in-None : goal.returns-in-None
 unfolding after_end after_end_at
-returns-in-NotDue c = simp (c.in-NotDue.is, ← c.end_after.ensures)
+returns-in-None c = simp (c.in-None.is, ← c.end_after.ensures)

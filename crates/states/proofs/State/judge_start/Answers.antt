@@ -15,7 +15,7 @@ returns-then-lacks_room c = simp (c.if-lacks_room.true, ← c.lacks_room.ensures
 
 pub returns-then-has_attributes : goal.returns-then-has_attributes
 unfolding start_judged judged_at
-returns-then-has_attributes c = simp (← c.judge_values.ensures, c.if-has_attributes.true, ← c.has_attributes.ensures, c.if-lacks_room.false, ← c.lacks_room.ensures, c.if-has_too_many.false, ← c.has_too_many.ensures, c.if-is_cut_short.false, ← c.is_cut_short.ensures, ← c.role_of-role.ensures, ← c.row_at-w.ensures)
+returns-then-has_attributes c = simp (c.if-has_attributes.true, ← c.has_attributes.ensures, c.if-lacks_room.false, ← c.lacks_room.ensures, c.if-has_too_many.false, ← c.has_too_many.ensures, c.if-is_cut_short.false, ← c.is_cut_short.ensures, ← c.role_of-role.ensures, ← c.row_at-w.ensures) c.judge_values.ensures
 
 pub returns : goal.returns
 unfolding start_judged judged_at

@@ -1,10 +1,16 @@
+use Rattle.refusals.proofs.Numbers.{raised}
 use Rattle.states.specs.Moves.{values_judged}
+use Rattle.states.proofs.Judgements.{beside-refused}
 use Rattle.states.proofs.State.judge_values.Goals as goal
 
 pub returns-then-has_half : goal.returns-then-has_half
 unfolding values_judged
 returns-then-has_half c = simp (c.if-has_half.true, ← c.has_half.ensures, ← c.role_of-role.ensures)
 
+pub returns-in_err-j : goal.returns-in_err-j
+unfolding values_judged
+returns-in_err-j c = rw (raised _ _ c.from_residual.ensures.1) (simp (c.if-has_half.false, ← c.has_half.ensures, ← c.role_of-role.ensures) (beside-refused _ _ _ _ _ (simp (← c.held.ensures) c.in_err-j.ensures)))
+
 pub returns : goal.returns
 unfolding values_judged
-returns c = simp (← c.beside_others.ensures, ← c.judge_tag.ensures, ← c.held.ensures, c.if-has_half.false, ← c.has_half.ensures, ← c.role_of-role.ensures)
+returns c = simp (c.in_ok-j.ensures, ← c.held.ensures, c.if-has_half.false, ← c.has_half.ensures, ← c.role_of-role.ensures) c.beside_others.ensures

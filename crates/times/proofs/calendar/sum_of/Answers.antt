@@ -1,5 +1,4 @@
 use mathlib.Core.Path.{sym, ◌∙◌}
-use Rattle.times.specs.Calendar.{sum_of}
 use Rattle.times.proofs.Consecutive.{real}
 use Rattle.times.proofs.calendar.sum_of.Goals as goal
 
@@ -14,11 +13,3 @@ leap_days_before-requires c = let f = real _ _ _ (sym c.is_real.ensures ∙ c.if
 pub overflow_sub-result : goal.overflow_sub-result
 overflow_sub-result c = let f = real _ _ _ (sym c.is_real.ensures ∙ c.if-is_real.true) in
     f.day-from
-
-pub returns-then-is_real : goal.returns-then-is_real
-unfolding sum_of
-returns-then-is_real c = simp (← c.is_real.ensures, c.if-is_real.true, ← c.month_start.ensures.days, ← c.leap_days_before.ensures.days, ← c.year_days.ensures.days)
-
-pub returns : goal.returns
-unfolding sum_of
-returns c = simp (← c.is_real.ensures, c.if-is_real.false)

@@ -1,18 +1,15 @@
 use native.Mathlib.Omega.{arith}
-use Rattle.totals.proofs.Below.{all_none, all-next, all-fails, all_end}
+use lib.ListN.{length}
+use mathlib.Core.Path.{refl, ◌∙◌}
+use Rattle.std.proofs.Common.{rules, tests}
+use Rattle.std.proofs.lemmas.Iterator.{YieldsList-from_range}
+use Rattle.std.proofs.lemmas.Iterator.Search.{all_from_yields_List}
+use Rattle.totals.specs.Rules.{row_allowed}
+use Rattle.totals.proofs.Below.{all_listed}
 use Rattle.totals.proofs.allowed.are_rows_allowed.Goals as goal
 
-pub loop-j-init : goal.loop-j-init
-loop-j-init c = (omega arith, all_none _)
-
-pub is_row_allowed-requires : goal.is_row_allowed-requires
-is_row_allowed-requires c = c.loop-j-test.true
-
-pub loop-j-preserved : goal.loop-j-preserved
-loop-j-preserved c = (omega arith, all-next _ c.loop-j.invariant.1 c.is_row_allowed.ensures c.if-is_row_allowed.true)
-
-pub returns-else-is_row_allowed : goal.returns-else-is_row_allowed
-returns-else-is_row_allowed c = all-fails _ _ _ c.loop-j-test.true c.is_row_allowed.ensures c.if-is_row_allowed.false
-
 pub returns : goal.returns
-returns c = all_end _ _ _ c.loop-j.invariant.1 c.loop-j.invariant.0 c.loop-j-test.false
+returns c =
+    let f = row_allowed c.args.kind c.args.quarters c.args.positions.now c.args.amounts.now in
+    let n = length c.args.positions.now in
+    all_from_yields_List f _ _ _ c.all.ensures.ran (YieldsList-from_range 0 n n refl (omega arith)) (λ x b q k. search (rules, tests)) ∙ all_listed f _

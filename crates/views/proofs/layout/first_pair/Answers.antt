@@ -9,12 +9,6 @@ pub pair_after-k-requires : goal.pair_after-k-requires
 pair_after-k-requires c = let p = c.loop-i.invariant.most in
     omega (arith, p, c.loop-i-test.true, c.requires)
 
-pub overflow_add-i : goal.overflow_add-i
-overflow_add-i c = omega (arith, c.loop-i-test.true, c.requires)
-
-pub loop-i-smaller : goal.loop-i-smaller
-loop-i-smaller c = omega (arith, c.loop-i-test.true)
-
 pub loop-i-preserved : goal.loop-i-preserved
 loop-i-preserved c = pairing-next c.loop-i.invariant c.loop-i-test.true c.row_at.ensures c.pair_after-k.ensures.pair c.pair_after-k.ensures.size
 

@@ -1,15 +1,13 @@
-use mathlib.Core.Path.{sym, ◌∙◌}
-use Rattle.views.proofs.Slots.{naming-start, naming-here, naming-next, naming-over}
+use Rattle.std.proofs.Common.{rules, tests}
+use Rattle.std.proofs.lemmas.Iterator.{YieldsList-from_slice}
+use Rattle.std.proofs.lemmas.Iterator.Search.{position_from_yields_List}
+use lib.Dec.{eqb}
+use Rattle.structure.specs.Rows.{name_of}
+use Rattle.views.proofs.Slots.{named-or-end}
 use Rattle.views.proofs.layout.row_named.Goals as goal
 
-pub loop-i-init : goal.loop-i-init
-loop-i-init c = naming-start _ _
-
-pub returns-then-name_of-name : goal.returns-then-name_of-name
-returns-then-name_of-name c = let it = naming-here c.loop-i.invariant c.loop-i-test.true (sym c.name_of.ensures ∙ c.if-name_of-name.true) in record { row = it.0; size = it.1 }
-
-pub loop-i-preserved : goal.loop-i-preserved
-loop-i-preserved c = naming-next c.loop-i.invariant c.loop-i-test.true (λ z. c.if-name_of-name.false (c.name_of.ensures ∙ z))
-
-pub returns : goal.returns
-returns c = let it = naming-over c.loop-i.invariant c.loop-i-test.false in record { row = it.0; size = it.1 }
+pub returns-clause-row : goal.returns-clause-row
+returns-clause-row c =
+    let rows = c.args.rows.now in
+    let found = position_from_yields_List (λ w. eqb (name_of w) c.args.name) _ _ c.position.result c.position.ensures.ran (YieldsList-from_slice rows cc) (λ x b q k. search (rules, tests)) in
+    named-or-end _ rows found c.unwrap_or.ensures

@@ -1,6 +1,0 @@
-use mathlib.Core.Path.{sym}
-use lib.Seq.{set_out}
-use Rattle.amounts.proofs.set_byte.Goals as goal
-
-pub returns-else-i-t : goal.returns-else-i-t
-returns-else-i-t c = sym (set_out _ _ _ c.if-i-t.false)

@@ -1,5 +1,0 @@
-use Rattle.lists.proofs.Tests.{tests}
-use Rattle.drafts.proofs.row_at.Goals as goal
-
-pub returns-else-row-rows : goal.returns-else-row-rows
-returns-else-row-rows c = search tests
