@@ -2,56 +2,28 @@
 // character at its front, or `none`; whether every byte belongs to a character (1 or 0); how many characters it says.
 #![tactic(auto)]
 
-fn show_number(n: u64) {
-    lines::print_text(b" ");
-    lines::print_number(n);
-}
+use std::io;
 
-fn show_flag(b: bool) {
-    if b {
-        lines::print_text(b" 1");
-    } else {
-        lines::print_text(b" 0");
-    }
-}
-
-fn show_char(s: &[u8]) {
+fn show_char(rt: &impl Print, s: &[u8]) -> io::Result<()> {
     match characters::char_at(s) {
-        Some((c, n)) => {
-            show_number(c as u64);
-            show_number(n as u64);
-        }
-        None => lines::print_text(b" none"),
+        Some((c, n)) => print!(rt; " {c} {n}"),
+        None => print!(rt; " none"),
     }
 }
 
-fn show_part(s: &[u8]) {
-    lines::print_text(b"char");
-    show_char(s);
-    lines::print_text(b" all");
-    show_flag(characters::all_chars(s));
-    lines::print_text(b" count");
-    show_number(characters::count_chars(s) as u64);
-    lines::print_text(b"\n");
+fn run_case(rt: &(impl Print + AllocGlobal), line: &[u8]) -> io::Result<()> {
+    let s = lines::case_bytes(rt.alloc(), line)?;
+    let all = u8::from(characters::all_chars(&s));
+    let count = characters::count_chars(&s);
+    print!(rt; "char")?;
+    show_char(rt, &s)?;
+    println!(rt; " all {all} count {count}")
 }
 
-fn run_case(line: &[u8]) {
-    let mut bytes = io::buffer();
-    let n = lines::put_bytes(line, &mut bytes);
-    show_part(&bytes[..n]);
-}
-
-fn run_lines(s: &[u8]) {
-    let mut at: usize = 0;
-    while at < s.len() {
-        let line = lines::line_at(s, at);
-        run_case(line);
-        at += line.len() + 1;
+fn main(rt: HostRuntime) -> io::Result<()> {
+    let input = lines::input_of(&rt, lines::INPUT_MOST)?;
+    for line in lines::lines_of(&input) {
+        run_case(&rt, line)?;
     }
-}
-
-fn main() {
-    let mut buf = lines::input_buffer();
-    let n = lines::read_input(&mut buf);
-    run_lines(&buf[..n]);
+    Ok(())
 }

@@ -4,9 +4,10 @@
 
 ghost use Rattle.std.specs.Prelude.{◌≤◌, ◌<◌};
 
+use std::io;
 use times::is_day_period;
 
-const LINE: usize = 1461;
+const LINE: u32 = 1461;
 
 fn weight(b: bool, n: u8) -> u8
     ensures { result ≤ n }
@@ -26,22 +27,19 @@ fn pairs_taken(d: u32) -> u8
     both_early + shifted + weight(is_day_period(late, late + 1440), 8)
 }
 
-fn print_line(first: u32)
+fn print_line(rt: &(impl Print + Alloc), first: u32) -> io::Result<()>
     requires { first < 36525 }
 {
-    let mut text = [b'\n'; LINE + 1];
-    let mut k: usize = 0;
-    while k < LINE {
-        text[k] = b'0' + pairs_taken(first + k as u32);
-        k += 1;
+    let mut text = String::new(rt.alloc());
+    for day in first..first + LINE {
+        text.push(char::from(b'0' + pairs_taken(day)))?;
     }
-    lines::print_text(&text);
+    println!(rt; "{text}")
 }
 
-fn main() {
-    let mut first: u32 = 0;
-    while first < 36525 {
-        print_line(first);
-        first += LINE as u32;
+fn main(rt: HostRuntime) -> io::Result<()> {
+    for line in 0..25 {
+        print_line(&rt, line * LINE)?;
     }
+    Ok(())
 }

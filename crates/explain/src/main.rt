@@ -1,25 +1,20 @@
 // Explains each line of standard input as a note, with an empty line after each explanation. It sees no document.
 #![tactic(auto)]
 
-// Writes what the note on a line means; 370 bytes have room for any explanation (`explanation-fits` of explanations).
-fn explain_line(line: &[u8]) {
+use std::io;
+
+// Prints what the note on a line means; 370 bytes have room for any explanation (`explanation-fits` of explanations).
+fn explain_line(rt: &impl Print, line: &[u8]) -> io::Result<()> {
     let mut text = [0u8; 370];
     let n = explanations::put_explanation(line, &mut text);
-    lines::print_text(&text[..n]);
-    lines::print_text(b"\n");
+    rt.write_all(&text[..n])?;
+    println!(rt)
 }
 
-fn explain_lines(s: &[u8]) {
-    let mut at: usize = 0;
-    while at < s.len() {
-        let line = lines::line_at(s, at);
-        explain_line(line);
-        at += line.len() + 1;
+fn main(rt: HostRuntime) -> io::Result<()> {
+    let input = lines::input_of(&rt, lines::INPUT_MOST)?;
+    for line in lines::lines_of(&input) {
+        explain_line(&rt, line)?;
     }
-}
-
-fn main() {
-    let mut buf = lines::input_buffer();
-    let n = lines::read_input(&mut buf);
-    explain_lines(&buf[..n]);
+    Ok(())
 }

@@ -4,94 +4,65 @@
 //   as it stands and with spaces dropped: the numbers of the code lists that have it, each after a comma
 #![tactic(auto)]
 
-fn print_flag(yes: bool) {
-    if yes {
-        lines::print_text(b" 1");
-    } else {
-        lines::print_text(b" 0");
+use guideline::{DTD_MESSAGE, DTD_RELEASE, DTD_VERSION, is_fixed};
+use std::io;
+
+fn print_forms(rt: &impl Print, v: &[u8]) -> io::Result<()> {
+    let forms = [
+        forms::is_identification(v),
+        forms::is_market_partner(v),
+        forms::is_resource_object(v),
+        forms::is_party(v),
+        is_fixed(1, DTD_MESSAGE, v),
+        forms::is_grid_element(v),
+        is_fixed(3, DTD_VERSION, v),
+        is_fixed(3, DTD_RELEASE, v),
+        is_fixed(3, DTD_MESSAGE, v),
+    ];
+    for has_form in forms {
+        print!(rt; " {}", u8::from(has_form))?;
     }
+    Ok(())
 }
 
-fn print_field(n: u64) {
-    lines::print_text(b" ");
-    lines::print_number(n);
+fn print_version(rt: &impl Print, v: &[u8], most: usize) -> io::Result<()> {
+    print!(rt; " {}", numbers::number_of(v, most).unwrap_or(0))
 }
 
-fn print_version(v: &[u8], most: usize) {
-    print_field(numbers::number_of(v, most).unwrap_or(0) as u64);
-}
-
-fn print_signed(x: i64) {
-    if 0 <= x {
-        lines::print_number(x as u64);
-    } else {
-        let size = -1 - x;
-        lines::print_text(b"-");
-        lines::print_number(size as u64 + 1);
-    }
-}
-
-fn print_amount(v: &[u8]) {
-    lines::print_text(b" ");
+fn print_amount(rt: &impl Print, v: &[u8]) -> io::Result<()> {
     match numbers::amount_of(v) {
-        Some(x) => print_signed(x),
-        None => lines::print_text(b"x"),
+        Some(x) => print!(rt; " {x}"),
+        None => print!(rt; " x"),
     }
 }
 
-fn print_lists(v: &[u8]) {
-    lines::print_text(b" ");
-    let mut k = 0;
-    while k < 26 {
+fn print_lists(rt: &impl Print, v: &[u8]) -> io::Result<()> {
+    print!(rt; " ")?;
+    for k in 0..26 {
         if codes::is_listed(k, v) {
-            lines::print_text(b",");
-            lines::print_number(k as u64);
+            print!(rt; ",{k}")?;
         }
-        k += 1;
     }
+    Ok(())
 }
 
-fn print_forms(v: &[u8]) {
-    print_flag(forms::is_identification(v));
-    print_flag(forms::is_market_partner(v));
-    print_flag(forms::is_resource_object(v));
-    print_flag(forms::is_party(v));
-    print_flag(guideline::is_fixed(1, guideline::DTD_MESSAGE, v));
-    print_flag(forms::is_grid_element(v));
-    print_flag(guideline::is_fixed(3, guideline::DTD_VERSION, v));
-    print_flag(guideline::is_fixed(3, guideline::DTD_RELEASE, v));
-    print_flag(guideline::is_fixed(3, guideline::DTD_MESSAGE, v));
-}
-
-fn print_numbers(v: &[u8]) {
-    print_flag(forms::is_quarter_hour(v));
-    print_version(v, 3);
-    print_version(v, 5);
-    print_amount(v);
-}
-
-fn run_case(v: &[u8]) {
+fn run_case(rt: &impl Print, v: &[u8]) -> io::Result<()> {
     let t = trims::trimmed(v);
-    lines::print_number(trims::leading_spaces(v) as u64);
-    print_field(t.len() as u64);
-    print_forms(v);
-    print_numbers(t);
-    print_lists(v);
-    print_lists(t);
-    lines::print_text(b"\n");
+    print!(rt; "{} {}", trims::leading_spaces(v), t.len())?;
+    print_forms(rt, v)?;
+    print!(rt; " {}", u8::from(forms::is_quarter_hour(t)))?;
+    print_version(rt, t, 3)?;
+    print_version(rt, t, 5)?;
+    print_amount(rt, t)?;
+    print_lists(rt, v)?;
+    print_lists(rt, t)?;
+    println!(rt)
 }
 
-fn run_lines(s: &[u8]) {
-    let mut at: usize = 0;
-    while at < s.len() {
-        let line = lines::line_at(s, at);
-        run_case(line);
-        at += line.len() + 1;
+fn main(rt: HostRuntime) -> io::Result<()> {
+    let input = lines::input_of(&rt, lines::INPUT_MOST)?;
+    for line in lines::lines_of(&input) {
+        run_case(&rt, line)?;
     }
-}
-
-fn main() {
-    let mut buf = lines::input_buffer();
-    let n = lines::read_input(&mut buf);
-    run_lines(&buf[..n]);
+    Ok(())
 }

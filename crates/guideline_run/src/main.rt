@@ -3,99 +3,56 @@
 // whether it takes another; the kind that each number tells as a root's name; and for each line of standard input its number as a name.
 #![tactic(auto)]
 
-fn print_count(n: usize) {
-    lines::print_text(b" ");
-    lines::print_number(n as u64);
+use columns::{form_of, is_collapsed, role_of, scheme_of};
+use std::io;
+use structure::{is_repeated, is_required, name_of, parent_of};
+
+fn show_row(rt: &impl Print, i: usize, w: usize) -> io::Result<()> {
+    print!(rt; "row {i} {} {}", name_of(w), parent_of(w))?;
+    print!(rt;
+        " {} {}",
+        u8::from(is_required(w)),
+        u8::from(is_repeated(w))
+    )?;
+    print!(rt; " {} {}", form_of(w), u8::from(is_collapsed(w)))?;
+    println!(rt; " {} {}", scheme_of(w), role_of(w))
 }
 
-fn print_flag(b: bool) {
-    if b {
-        lines::print_text(b" 1");
-    } else {
-        lines::print_text(b" 0");
+fn show_rows(rt: &impl Print, rows: &[usize]) -> io::Result<()> {
+    for i in 0..rows.len() {
+        show_row(rt, i, rows[i])?;
     }
+    Ok(())
 }
 
-fn show_row(i: usize, w: usize) {
-    lines::print_text(b"row");
-    print_count(i);
-    print_count(structure::name_of(w));
-    print_count(structure::parent_of(w));
-    print_flag(structure::is_required(w));
-    print_flag(structure::is_repeated(w));
-    print_count(columns::form_of(w));
-    print_flag(columns::is_collapsed(w));
-    print_count(columns::scheme_of(w));
-    print_count(columns::role_of(w));
-    lines::print_text(b"\n");
-}
-
-fn show_rows(t: &[usize]) {
-    let mut i: usize = 0;
-    while i < t.len() {
-        show_row(i, t[i]);
-        i += 1;
+fn show_kind(rt: &impl Print, kind: u32) -> io::Result<()> {
+    for n in [0, 1, 91, 92, 99, 100] {
+        let enough = u8::from(guideline::has_enough(kind, n));
+        let another = u8::from(guideline::takes_another(kind, n));
+        println!(rt; "intervals {kind} {n} {enough} {another}")?;
     }
+    Ok(())
 }
 
-fn show_period(kind: u32, n: usize) {
-    lines::print_text(b"intervals");
-    print_count(kind as usize);
-    print_count(n);
-    print_flag(guideline::has_enough(kind, n));
-    print_flag(guideline::takes_another(kind, n));
-    lines::print_text(b"\n");
+fn show_name(rt: &impl Print, name: &[u8]) -> io::Result<()> {
+    rt.write_all(name)?;
+    println!(rt; " {}", elements::element_no(name))
 }
 
-fn show_kind(kind: u32) {
-    show_period(kind, 0);
-    show_period(kind, 1);
-    show_period(kind, 91);
-    show_period(kind, 92);
-    show_period(kind, 99);
-    show_period(kind, 100);
-}
-
-fn show_roots() {
-    let mut name: usize = 0;
-    while name < 256 {
-        show_root(name, guideline::kind_of_root(name));
-        name += 1;
-    }
-}
-
-fn show_root(name: usize, kind: u32) {
-    lines::print_text(b"root");
-    print_count(name);
-    print_count(kind as usize);
-    lines::print_text(b"\n");
-}
-
-fn show_name(name: &[u8]) {
-    lines::print_text(name);
-    print_count(elements::element_no(name));
-    lines::print_text(b"\n");
-}
-
-fn show_names(s: &[u8]) {
-    let mut at: usize = 0;
-    while at < s.len() {
-        let line = lines::line_at(s, at);
-        show_name(line);
-        at += line.len() + 1;
-    }
-}
-
-fn main() {
+fn main(rt: HostRuntime) -> io::Result<()> {
     let rows = guideline::every_row();
-    show_rows(guideline::rows_of(&rows, 1));
-    show_rows(guideline::rows_of(&rows, 2));
-    show_rows(guideline::rows_of(&rows, 3));
-    show_kind(1);
-    show_kind(2);
-    show_kind(3);
-    show_roots();
-    let mut buf = lines::input_buffer();
-    let n = lines::read_input(&mut buf);
-    show_names(&buf[..n]);
+    for kind in 1..4 {
+        show_rows(&rt, guideline::rows_of(&rows, kind))?;
+    }
+    for kind in 1..4 {
+        show_kind(&rt, kind)?;
+    }
+    for name in 0..256 {
+        println!(rt; "root {name} {}", guideline::kind_of_root(name))?;
+    }
+    let input = lines::input_of(&rt, lines::INPUT_MOST)?;
+    for line in lines::lines_of(&input) {
+        show_name(&rt, line)?;
+    }
+    Ok(())
 }

@@ -5,165 +5,90 @@
 // those may be passed over on a root; its length.
 #![tactic(auto)]
 
-ghost use Rattle.std.specs.Prelude.{◌+◌, ◌≤◌, length};
+ghost use Rattle.std.specs.Prelude.{◌+◌, ◌≤◌, length, IfOk};
 
 use items::{Item, Tag};
 use slices::Span;
+use std::io;
 
-fn show_number(n: usize) {
-    lines::print_text(b" ");
-    lines::print_number(n as u64);
+fn show_span(rt: &impl Print, name: &str, s: Span) -> io::Result<()> {
+    print!(rt; " {name} {} {}", s.start, s.len)
 }
 
-fn show_flag(b: bool) {
-    if b {
-        lines::print_text(b" 1");
-    } else {
-        lines::print_text(b" 0");
-    }
-}
-
-fn show_len(n: usize) {
-    lines::print_text(b" len");
-    show_number(n);
-}
-
-fn show_span(s: Span) {
-    show_number(s.start);
-    show_number(s.len);
-}
-
-fn show_spans(t: Tag) {
-    lines::print_text(b" v");
-    show_span(t.v);
-    lines::print_text(b" coding");
-    show_span(t.coding);
-    lines::print_text(b" version");
+fn show_tag(rt: &impl Print, item: &str, t: Tag) -> io::Result<()> {
+    print!(rt; " {item} name {}", t.name)?;
+    show_span(rt, "v", t.v)?;
+    show_span(rt, "coding", t.coding)?;
     let dtd = t.dtd;
-    show_span(dtd.message);
-}
-
-fn show_tag(t: Tag) {
-    lines::print_text(b" name");
-    show_number(t.name);
-    show_spans(t);
-    lines::print_text(b" others");
-    show_flag(t.others);
-    lines::print_text(b" passable");
-    show_flag(t.passable);
-    show_len(t.len);
-}
-
-fn show_end(name: usize, n: usize) {
-    lines::print_text(b" end name");
-    show_number(name);
-    show_len(n);
-}
-
-fn show_text(white: bool, n: usize) {
-    lines::print_text(b" text white");
-    show_flag(white);
-    show_len(n);
-}
-
-fn show_start(t: Tag) {
-    lines::print_text(b" start");
-    show_tag(t);
-}
-
-fn show_empty(t: Tag) {
-    lines::print_text(b" empty");
-    show_tag(t);
-}
-
-fn show_comment(n: usize) {
-    lines::print_text(b" comment");
-    show_len(n);
-}
-
-fn show_refused(place: usize) {
-    lines::print_text(b" refused");
-    show_number(place);
+    show_span(rt, "version", dtd.message)?;
+    let (others, passable) = (u8::from(t.others), u8::from(t.passable));
+    print!(rt; " others {others} passable {passable} len {}", t.len)
 }
 
 // The item at the front of s is shown. The answer is how many bytes it takes, and 0 for an unreadable one.
-fn show_item(before: usize, s: &[u8]) -> usize
-    ensures { result ≤ length s.now + 8 }
+// No Option: the loop that asks has to test for 0 anyhow, so that it is seen to end.
+fn show_item(rt: &impl Print, before: usize, s: &[u8]) -> io::Result<usize>
+    ensures { IfOk result (λ n. n ≤ length s.now + 8) }
 {
     match items::item_at(before, s) {
         Item::Start(t) => {
-            show_start(t);
-            t.len
+            show_tag(rt, "start", t)?;
+            Ok(t.len)
         }
         Item::Empty(t) => {
-            show_empty(t);
-            t.len
+            show_tag(rt, "empty", t)?;
+            Ok(t.len)
         }
         Item::End(name, n) => {
-            show_end(name, n);
-            n
+            print!(rt; " end name {name} len {n}")?;
+            Ok(n)
         }
         Item::Text(white, n) => {
-            show_text(white, n);
-            n
+            print!(rt; " text white {} len {n}", u8::from(white))?;
+            Ok(n)
         }
         Item::Comment(n) => {
-            show_comment(n);
-            n
+            print!(rt; " comment len {n}")?;
+            Ok(n)
         }
         Item::Unreadable(place) => {
-            show_refused(place);
-            0
+            print!(rt; " refused {place}")?;
+            Ok(0)
         }
     }
 }
 
-fn show_items(doc: &[u8], from: usize) {
+fn show_items(rt: &impl Print, doc: &[u8], from: usize) -> io::Result<()> {
     let mut at = from;
     while at < doc.len() {
-        lines::print_text(b":");
-        let n = show_item(at, &doc[at..]);
+        print!(rt; ":")?;
+        let n = show_item(rt, at, &doc[at..])?;
         if n == 0 {
-            return;
+            return Ok(());
         }
         at += n;
     }
-    lines::print_text(b": over");
+    print!(rt; ": over")
 }
 
-fn show_document(doc: &[u8]) {
+fn show_document(rt: &impl Print, doc: &[u8]) -> io::Result<()> {
     match prolog::first_item(doc) {
         Ok(at) => {
-            lines::print_text(b"from");
-            show_number(at);
-            show_items(doc, at);
+            print!(rt; "from {at}")?;
+            show_items(rt, doc, at)?;
         }
         Err(at) => {
-            lines::print_text(b"unreadable");
-            show_number(at);
-            show_items(doc, at);
+            print!(rt; "unreadable {at}")?;
+            show_items(rt, doc, at)?;
         }
     }
-    lines::print_text(b"\n");
+    println!(rt)
 }
 
-fn run_case(line: &[u8]) {
-    let mut bytes = io::buffer();
-    let n = lines::put_bytes(line, &mut bytes);
-    show_document(&bytes[..n]);
-}
-
-fn run_lines(s: &[u8]) {
-    let mut at: usize = 0;
-    while at < s.len() {
-        let line = lines::line_at(s, at);
-        run_case(line);
-        at += line.len() + 1;
+fn main(rt: HostRuntime) -> io::Result<()> {
+    let input = lines::input_of(&rt, lines::INPUT_MOST)?;
+    for line in lines::lines_of(&input) {
+        show_document(&rt, &lines::case_bytes(rt.alloc(), line)?)?;
     }
-}
-
-fn main() {
-    let mut buf = lines::input_buffer();
-    let n = lines::read_input(&mut buf);
-    run_lines(&buf[..n]);
+    Ok(())
 }

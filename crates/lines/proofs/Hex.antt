@@ -1,9 +1,10 @@
--- The two loops over hexadecimal digits.
---     Read     from digits to bytes
---     Shown    from bytes to digits
+-- The loops over hexadecimal digits.
+--     waiting    from digits to bytes
+--     Shown      from bytes to digits
 -- and how long the digits are.
 -- Assumes nothing.
 use mathlib.Core.Path.{◌≡◌, refl, sym}
+use Rattle.std.proofs.Common.{Option, Some, None}
 use mathlib.Core.List.{List, [], ◌∷◌}
 use Prim.Native.Nat.{ℕ, suc, ◌+◌, ◌-◌, ◌*◌, ◌/◌, ◌≤◌, ◌<◌, min}
 use native.Mathlib.Numerals.{add-one}
@@ -21,38 +22,30 @@ pub done : {w out₀ out : List ℕ} {n : ℕ} → Putting w out₀ out n []
     → (n ≡ min (length w) (length out₀)) × ((out ≡ sets out₀ 0 w) × IsPrefixLen n out)
 done {w} {out₀} {out} {n} p = let e = put-end p in (e.0, (e.1, (e.2, sym (length-take-le n out e.2))))
 
--- ---- from digits to bytes: i characters are read, and `high` waits for its second digit
-pub record Read (line out₀ out : List ℕ) (n high i : ℕ) : Type 0 where
-  pub most : i ≤ length line
-  pub put : Putting (hex_bytes 16 line) out₀ out n (hex_bytes high (drop i line))
+-- ---- from digits to bytes
+-- the digit that waits for its second, as `hex_bytes` takes it
+abbrev pub waiting : Option ℕ → ℕ
+waiting (Some h) = h
+waiting None = 16
 
-pub read-start : (line out₀ : List ℕ) → Read line out₀ out₀ 0 16 0
-read-start line out₀ = record { most = omega arith; put = put-start (hex_bytes 16 line) out₀ }
-
-module _ (line out₀ out : List ℕ) (n high i d : ℕ) (r : Read line out₀ out n high i) (h : i < length line) (e : d ≡ digit_of (get_or line i 0)) where
-  pub read-pass : 16 ≤ d → Read line out₀ out n high (i + 1)
+-- a turn: what the character at i does to the bytes that are still to come
+module _ (line : List ℕ) (i h : ℕ) (l : i < length line) where
+  pub hex-pass : (digit_of (get_or line i 0) < 16 → ⊥) → hex_bytes h (drop i line) ≡ hex_bytes h (drop (i + 1) line)
   unfolding hex_bytes
-  read-pass w =
-      let q : hex_bytes high (drop i line) ≡ hex_bytes high (drop (i + 1) line) = rw (add-one, drop-cons line i 0 h) (simp (← e, le-ltb d 16 w)) in
-      record { most = omega arith; put = rw q at r.put }
+  hex-pass n = rw (add-one, drop-cons line i 0 l) (simp (le-ltb (digit_of (get_or line i 0)) 16 (omega arith)))
 
-  pub read_first : d < 16 → 16 ≤ high → Read line out₀ out n d (i + 1)
-  unfolding hex_bytes
-  read_first w g =
-      let q : hex_bytes high (drop i line) ≡ hex_bytes d (drop (i + 1) line) =
-      rw (add-one, drop-cons line i 0 h) (simp (← e, lt-ltb d 16 w, le-ltb high 16 g)) in
-      record { most = omega arith; put = rw q at r.put }
+  module _ (low : ℕ) (d : (digit_of (get_or line i 0) < 16) × (low ≡ digit_of (get_or line i 0))) where
+    pub hex-first : 16 ≤ h → hex_bytes h (drop i line) ≡ hex_bytes low (drop (i + 1) line)
+    unfolding hex_bytes
+    hex-first g = rw (add-one, drop-cons line i 0 l, d.1) (simp (lt-ltb (digit_of (get_or line i 0)) 16 d.0, le-ltb h 16 g))
 
-  pub read-pair : d < 16 → high < 16 → (m : ℕ) (l : List ℕ) → m ≡ min (n + 1) (length out) → l ≡ set out n (high * 16 + d) → Read line out₀ l m 16 (i + 1)
-  unfolding hex_bytes
-  read-pair w g m l em el =
-      let q : hex_bytes high (drop i line) ≡ (high * 16 + d) ∷ hex_bytes 16 (drop (i + 1) line) =
-      rw (add-one, drop-cons line i 0 h) (simp (← e, lt-ltb d 16 w, lt-ltb high 16 g)) in
-      record { most = omega arith; put = put_next (rw q at r.put) em el }
+    pub hex-pair : h < 16 → hex_bytes h (drop i line) ≡ (h * 16 + low) ∷ hex_bytes 16 (drop (i + 1) line)
+    unfolding hex_bytes
+    hex-pair g = rw (add-one, drop-cons line i 0 l, d.1) (simp (lt-ltb (digit_of (get_or line i 0)) 16 d.0, lt-ltb h 16 g))
 
-pub read-end : (line out₀ out : List ℕ) (n high i : ℕ) → Read line out₀ out n high i → length line ≤ i → Putting (hex_bytes 16 line) out₀ out n []
+pub hex-end : (h i : ℕ) (line : List ℕ) → length line ≤ i → hex_bytes h (drop i line) ≡ []
 unfolding hex_bytes
-read-end line out₀ out n high i r h = rw (drop_of_length-le line h) at r.put
+hex-end h i line l = rw (drop_of_length-le line l) refl
 
 -- ---- from bytes to digits: i bytes are shown
 pub record Shown (s out₀ out : List ℕ) (n i : ℕ) : Type 0 where

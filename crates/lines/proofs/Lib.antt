@@ -1,4 +1,4 @@
-pub mod Lines
+pub mod Cuts
 pub mod Hex
 pub mod Copies
 pub mod Unique

@@ -3,10 +3,11 @@
 use Prim.Native.Nat.{ℕ, ◌+◌, min}
 use mathlib.Core.Path.{◌≡◌}
 use mathlib.Core.List.{List}
-use lib.ListN.{length, drop, set}
+use lib.ListN.{length, take, drop, set}
 use lib.Seq.{sets}
 use Rattle.lists.proofs.Unique.{one, both}
 use Rattle.lists.specs.Zeros.{zeros}
+use Rattle.lines.specs.Pieces.{pieces_in}
 use Rattle.lines.specs.Text.{line_of, hex_bytes, hex_text}
 
 pub input-buffer-one : {r r' : List ℕ} → r ≡ zeros 262144 → r' ≡ zeros 262144 → r ≡ r'
@@ -32,3 +33,16 @@ pub put-hex-one : (s out : List ℕ) {r r' : ℕ} {b b' : List ℕ}
     → (r ≡ min (length (hex_text s)) (length out)) × (b ≡ sets out 0 (hex_text s))
     → (r' ≡ min (length (hex_text s)) (length out)) × (b' ≡ sets out 0 (hex_text s)) → (r ≡ r') × (b ≡ b')
 put-hex-one s out = both
+
+-- what is left of the pieces, and the bytes of an answer that is no error
+pub lines-of-one : (s : List ℕ) {l l' : List (List ℕ)} → l ≡ pieces_in 10 s → l' ≡ pieces_in 10 s → l ≡ l'
+lines-of-one s = one
+
+pub words-of-one : (s : List ℕ) {l l' : List (List ℕ)} → l ≡ pieces_in 32 s → l' ≡ pieces_in 32 s → l ≡ l'
+words-of-one s = one
+
+pub bytes-of-one : (line : List ℕ) {b b' : List ℕ} → b ≡ hex_bytes 16 line → b' ≡ hex_bytes 16 line → b ≡ b'
+bytes-of-one line = one
+
+pub case-bytes-one : (line : List ℕ) {b b' : List ℕ} → b ≡ take 4096 (hex_bytes 16 line) → b' ≡ take 4096 (hex_bytes 16 line) → b ≡ b'
+case-bytes-one line = one

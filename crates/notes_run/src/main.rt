@@ -7,78 +7,47 @@
 // Any other line is printed as it is.
 #![tactic(auto)]
 
-ghost use Rattle.std.specs.Prelude.{◌<◌};
-
 use notes::{ConvertError, Note, Shape};
+use std::io;
 
-fn print_numbers(refusal: u64, n: Note) {
-    lines::print_number(refusal);
-    lines::print_text(b" ");
-    lines::print_number(n.refusal as u64);
-    lines::print_text(b" ");
-    lines::print_number(n.place as u64);
-    lines::print_text(b" ");
-    lines::print_number(n.kind as u64);
-    lines::print_text(b" ");
-    lines::print_number(n.series as u64);
-    lines::print_text(b" ");
-    lines::print_number(n.intervals as u64);
-    lines::print_text(b" ");
-    lines::print_number(n.depth as u64);
+fn print_numbers(rt: &impl Print, refusal: u32, n: Note) -> io::Result<()> {
+    print!(rt; "{refusal} {} {} {}", n.refusal, n.place, n.kind)?;
+    print!(rt; " {} {} {}", n.series, n.intervals, n.depth)
 }
 
-fn show_read(s: &[u8]) {
+fn show_read(rt: &impl Print, s: &[u8]) -> io::Result<()> {
     match notes::read_note(s) {
-        Some(n) => print_numbers(0, n),
-        None => print_numbers(
-            11,
-            Note {
-                refusal: 0,
-                place: 0,
-                kind: 0,
-                series: 0,
-                intervals: 0,
-                depth: 0,
-            },
-        ),
+        Some(n) => print_numbers(rt, 0, n),
+        None => print!(rt; "11 0 0 0 0 0 0"),
     }
 }
 
-fn wide(b: u8) -> u32
-    ensures { result < 256 }
-{
-    b as u32
-}
-
 // The byte at i, and 0 past the end.
-fn byte_at(s: &[u8], i: usize) -> u32
-    ensures { result < 256 }
-{
-    if i < s.len() { wide(s[i]) } else { 0 }
+fn byte_at(s: &[u8], i: usize) -> u8 {
+    s.get(i).copied().unwrap_or(0)
 }
 
 // The number of the four bytes from `at` on, highest first.
 fn number_at(s: &[u8], at: u8) -> u32 {
     let i = at as usize;
-    let high = byte_at(s, i) * 256 + byte_at(s, i + 1);
-    let low = byte_at(s, i + 2) * 256 + byte_at(s, i + 3);
-    high * 65536 + low
+    u32::from_be_bytes([
+        byte_at(s, i),
+        byte_at(s, i + 1),
+        byte_at(s, i + 2),
+        byte_at(s, i + 3),
+    ])
 }
 
-fn show_bytes(refusal: u64, len: usize, out: &[u8]) {
-    lines::print_number(refusal);
-    lines::print_text(b" ");
-    lines::print_number(len as u64);
-    lines::print_text(b": ");
-    lines::print_bytes(out);
+fn show_bytes(rt: &impl Print, refusal: u32, len: usize, out: &[u8]) -> io::Result<()> {
+    print!(rt; "{refusal} {len}: ")?;
+    for i in 0..out.len() {
+        let space = if i == 0 { "" } else { " " };
+        print!(rt; "{space}{:02X}", out[i])?;
+    }
+    Ok(())
 }
 
-fn show_write(note: &mut [u8], shape: Shape, n: Note) {
-    let len = notes::write_note(note, shape, n);
-    show_bytes(0, len, note);
-}
-
-fn run_write(s: &[u8], shape: Shape) {
+fn run_write(rt: &(impl Print + AllocGlobal), s: &[u8], shape: Shape) -> io::Result<()> {
     let n = Note {
         refusal: number_at(s, 1),
         place: number_at(s, 5),
@@ -87,59 +56,47 @@ fn run_write(s: &[u8], shape: Shape) {
         intervals: number_at(s, 17),
         depth: number_at(s, 21),
     };
-    let mut buf = [255u8; 48];
     let room = byte_at(s, 0) as usize;
-    if room <= 48 {
-        show_write(&mut buf[..room], shape, n);
+    if 48 < room {
+        return Ok(());
+    }
+    let mut note = vec![in rt.alloc(); 255u8; room]?;
+    let len = notes::write_note(&mut note, shape, n);
+    show_bytes(rt, 0, len, &note)
+}
+
+fn run_convert(rt: &(impl Print + AllocGlobal), s: &[u8], shape: Shape) -> io::Result<()> {
+    let Some((room, note)) = s.split_first() else {
+        return Ok(());
+    };
+    if 48 < *room {
+        return Ok(());
+    }
+    let mut out = vec![in rt.alloc(); 255u8; *room as usize]?;
+    match notes::convert_note(note, shape, &mut out) {
+        Ok(k) => show_bytes(rt, 0, k, &out),
+        Err(ConvertError::OutShort) => show_bytes(rt, 10, 0, &out),
+        Err(ConvertError::NeitherShape) => show_bytes(rt, 11, 0, &out),
     }
 }
 
-fn show_convert(s: &[u8], shape: Shape, out: &mut [u8]) {
-    match notes::convert_note(s, shape, out) {
-        Ok(k) => show_bytes(0, k, out),
-        Err(ConvertError::OutShort) => show_bytes(10, 0, out),
-        Err(ConvertError::NeitherShape) => show_bytes(11, 0, out),
+fn run_case(rt: &(impl Print + AllocGlobal), line: &[u8]) -> io::Result<()> {
+    let s = lines::case_bytes(rt.alloc(), line)?;
+    match line.first() {
+        Some(b'r') => show_read(rt, &s)?,
+        Some(b'w') => run_write(rt, &s, Shape::Old)?,
+        Some(b'x') => run_write(rt, &s, Shape::New)?,
+        Some(b'o') => run_convert(rt, &s, Shape::Old)?,
+        Some(b'n') => run_convert(rt, &s, Shape::New)?,
+        _ => rt.write_all(line)?,
     }
+    println!(rt)
 }
 
-fn run_convert(s: &[u8], shape: Shape) {
-    let mut buf = [255u8; 48];
-    let room = byte_at(s, 0) as usize;
-    if room <= 48 && 1 <= s.len() {
-        show_convert(&s[1..], shape, &mut buf[..room]);
+fn main(rt: HostRuntime) -> io::Result<()> {
+    let input = lines::input_of(&rt, lines::INPUT_MOST)?;
+    for line in lines::lines_of(&input) {
+        run_case(&rt, line)?;
     }
-}
-
-fn run_case(line: &[u8]) {
-    let mut bytes = io::buffer();
-    let n = lines::put_bytes(line, &mut bytes);
-    if byte_at(line, 0) == 114 {
-        show_read(&bytes[..n]);
-    } else if byte_at(line, 0) == 119 {
-        run_write(&bytes[..n], Shape::Old);
-    } else if byte_at(line, 0) == 120 {
-        run_write(&bytes[..n], Shape::New);
-    } else if byte_at(line, 0) == 111 {
-        run_convert(&bytes[..n], Shape::Old);
-    } else if byte_at(line, 0) == 110 {
-        run_convert(&bytes[..n], Shape::New);
-    } else {
-        lines::print_text(line);
-    }
-    lines::print_text(b"\n");
-}
-
-fn run_lines(s: &[u8]) {
-    let mut at: usize = 0;
-    while at < s.len() {
-        let line = lines::line_at(s, at);
-        run_case(line);
-        at += line.len() + 1;
-    }
-}
-
-fn main() {
-    let mut buf = lines::input_buffer();
-    let n = lines::read_input(&mut buf);
-    run_lines(&buf[..n]);
+    Ok(())
 }

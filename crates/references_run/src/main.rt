@@ -3,83 +3,65 @@
 #![tactic(auto)]
 
 use attributes::Piece;
+use std::alloc::{AllocError, Global};
+use std::io;
 
-fn show_said(v: &[u8]) {
-    lines::print_text(b"says");
+// How many bytes a tag has here.
+const TAG: usize = 4096;
+
+fn show_said(rt: &impl Print, v: &[u8]) -> io::Result<()> {
+    print!(rt; "says")?;
     let mut i: usize = 0;
     while i < v.len() {
         let Some((c, n)) = characters::said_at(&v[i..]) else {
-            return;
+            return Ok(());
         };
-        lines::print_text(b" ");
-        lines::print_number(c as u64);
+        print!(rt; " {c}")?;
         i += n;
     }
+    Ok(())
 }
 
 // A value that has a double quote stands between single ones.
 fn quote_for(v: &[u8]) -> u8 {
-    if slices::first_at(b"\"", v) < v.len() {
-        0x27
-    } else {
-        0x22
-    }
+    if v.contains(&b'"') { b'\'' } else { b'"' }
 }
 
-// The attribute ` v="..."`, as much of it as there is room for.
-fn put_attribute(q: u8, v: &[u8], tag: &mut [u8]) {
-    let mut n = lines::put_byte(tag, 0, 0x20);
-    n = lines::put_byte(tag, n, 0x76);
-    n = lines::put_byte(tag, n, 0x3D);
-    n = lines::put_byte(tag, n, q);
-    let mut i: usize = 0;
-    while i < v.len() {
-        n = lines::put_byte(tag, n, v[i]);
-        i += 1;
-    }
-    let _end = lines::put_byte(tag, n, q);
+// The attribute ` v="..."`, as much of it as there is room for, and zeros after it.
+fn tag_of(alloc: Global, v: &[u8]) -> Result<Vec<u8>, AllocError> {
+    let quote = quote_for(v);
+    let mut tag = Vec::new(alloc);
+    tag.extend_from_slice(b" v=")?;
+    tag.push(quote)?;
+    tag.extend_from_slice(v)?;
+    tag.push(quote)?;
+    tag.resize(TAG, 0)?;
+    Ok(tag)
 }
 
 // Whether a tag may have an attribute with all of this as its value.
-fn is_value(v: &[u8]) -> bool {
-    let mut tag = io::buffer();
-    put_attribute(quote_for(v), v, &mut tag);
-    let Piece::Attribute {
-        at: _,
-        name: _,
-        value: _,
-        len,
-        next: _,
-    } = attributes::piece_at(&tag)
-    else {
-        return false;
+fn is_value(alloc: Global, v: &[u8]) -> Result<bool, AllocError> {
+    let tag = tag_of(alloc, v)?;
+    let Piece::Attribute { len, .. } = attributes::piece_at(&tag) else {
+        return Ok(false);
     };
-    len == v.len()
+    Ok(len == v.len())
 }
 
-fn run_case(line: &[u8]) {
-    let mut bytes = io::buffer();
-    let n = lines::put_bytes(line, &mut bytes);
-    let v = &bytes[..n];
-    if is_value(v) {
-        show_said(v);
+fn run_case(rt: &(impl Print + AllocGlobal), line: &[u8]) -> io::Result<()> {
+    let v = lines::case_bytes(rt.alloc(), line)?;
+    if is_value(rt.alloc(), &v)? {
+        show_said(rt, &v)?;
     } else {
-        lines::print_text(b"none");
+        print!(rt; "none")?;
     }
-    lines::print_text(b"\n");
+    println!(rt)
 }
 
-fn run_lines(s: &[u8]) {
-    let mut at: usize = 0;
-    while at < s.len() {
-        let line = lines::line_at(s, at);
-        run_case(line);
-        at += line.len() + 1;
+fn main(rt: HostRuntime) -> io::Result<()> {
+    let input = lines::input_of(&rt, lines::INPUT_MOST)?;
+    for line in lines::lines_of(&input) {
+        run_case(&rt, line)?;
     }
-}
-
-fn main() {
-    let mut buf = lines::input_buffer();
-    let n = lines::read_input(&mut buf);
-    run_lines(&buf[..n]);
+    Ok(())
 }

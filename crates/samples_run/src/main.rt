@@ -6,46 +6,16 @@
 
 mod sums;
 
-ghost use Rattle.std.specs.Prelude.{◌≤◌, length, IfOk};
-
 use notes::Shape;
-use reader::Answer;
 use series::WIDTH;
-use slices::{first_at, front};
-use std::env::Env;
+use slices::front;
 use std::fs::File;
 use std::io::Read;
 use std::rt::Files;
 use std::{env, io};
 use sums::{sum_of_amounts, sum_of_numbers};
 
-fn print_field(n: u64) {
-    lines::print_text(b" ");
-    lines::print_number(n);
-}
-
-fn print_answer(a: Answer) {
-    print_field(a.refusal as u64);
-    print_field(a.place as u64);
-    print_field(a.kind as u64);
-    print_field(a.series as u64);
-    print_field(a.intervals as u64);
-    print_field(a.quarters as u64);
-    print_field(a.note as u64);
-}
-
-// One byte at a time, since `put_hex` has spaces between two.
-fn print_digits(s: &[u8]) {
-    let mut i: usize = 0;
-    while i < s.len() {
-        let mut two = [0u8; 2];
-        let n = lines::put_hex(front(&s[i..], 1), &mut two);
-        lines::print_text(&two[..n]);
-        i += 1;
-    }
-}
-
-fn run_document(doc: &[u8]) {
+fn run_document(rt: &impl Print, doc: &[u8]) -> io::Result<()> {
     let mut series = [7u32; 64 * WIDTH];
     let mut positions = [7u32; 2048];
     let mut amounts = [7i64; 2048];
@@ -58,58 +28,36 @@ fn run_document(doc: &[u8]) {
         Shape::Old,
         &mut note,
     );
-    let n = a.note;
-    print_answer(a);
-    lines::print_text(b" ");
-    print_digits(front(&note, n));
-    print_field(sum_of_numbers(&series) as u64);
-    print_field(sum_of_numbers(&positions) as u64);
-    print_field(sum_of_amounts(&amounts) as u64);
-}
-
-// Reads until buf is full, the file ends or a read fails, and answers how many bytes it put at the start of buf.
-fn read_full(file: &mut impl Read, buf: &mut [u8]) -> usize
-    ensures { result ≤ length buf.new }
-{
-    let mut done: usize = 0;
-    while done < buf.len() {
-        let n = file.read(&mut buf[done..]).unwrap_or(0);
-        if n == 0 {
-            break;
-        }
-        done += n;
+    print!(rt; " {} {} {} {}", a.refusal, a.place, a.kind, a.series)?;
+    print!(rt; " {} {} {} ", a.intervals, a.quarters, a.note)?;
+    for b in front(&note, a.note) {
+        print!(rt; "{b:02X}")?;
     }
-    done
+    let (s, p) = (sum_of_numbers(&series), sum_of_numbers(&positions));
+    print!(rt; " {s} {p} {}", sum_of_amounts(&amounts))
 }
 
-// The file is closed at the return.
-fn read_file(rt: &impl Files, name: &str, buf: &mut [u8]) -> io::Result<usize>
-    ensures { IfOk result (λ n. n ≤ length buf.new) }
-{
-    let mut file = File::open(rt, name)?;
-    Ok(read_full(&mut file, buf))
+// At most as many bytes of a file as are read of standard input; a read that fails ends them. The file is closed at the return.
+fn read_file(rt: &(impl Files + AllocGlobal), name: &str) -> io::Result<Vec<u8>> {
+    let mut bytes = Vec::new(rt.alloc());
+    let file = File::open(rt, name)?;
+    let _ = file.take(lines::INPUT_MOST as u64).read_to_end(&mut bytes);
+    Ok(bytes)
 }
 
-fn run_sample(rt: &impl Files, name: &str, buf: &mut [u8]) {
-    let bytes = name.as_bytes();
-    lines::print_text(front(bytes, first_at(b".xml", bytes)));
-    match read_file(rt, name, buf) {
-        Ok(n) => {
-            run_document(&buf[..n]);
-            lines::print_text(b"\n");
-        }
-        Err(_) => lines::print_text(b" is missing\n"),
-    }
-}
-
-fn run_arguments(rt: &(impl Env + Files + Alloc), buf: &mut [u8]) -> io::Result<()> {
-    for name in env::args(rt)?.skip(1) {
-        run_sample(rt, name.as_str(), buf);
-    }
-    Ok(())
+fn run_sample(rt: &(impl Files + Print + AllocGlobal), name: &str) -> io::Result<()> {
+    let stem = name.split_once(".xml").map_or(name, |(stem, _)| stem);
+    print!(rt; "{stem}")?;
+    let Ok(doc) = read_file(rt, name) else {
+        return println!(rt; " is missing");
+    };
+    run_document(rt, &doc)?;
+    println!(rt)
 }
 
 fn main(rt: HostRuntime) -> io::Result<()> {
-    let mut buf = lines::input_buffer();
-    run_arguments(&rt, &mut buf)
+    for name in env::args(&rt)?.skip(1) {
+        run_sample(&rt, name.as_str())?;
+    }
+    Ok(())
 }

@@ -27,10 +27,8 @@ pub(crate) fn sum_of_numbers(t: &[u32]) -> u32
     ensures { result ≡ sum_from 0 t.now }
 {
     let mut h: u32 = 0;
-    let mut i: usize = 0;
-    while i < t.len() {
+    for i in 0..t.len() {
         h = next_sum(h, t[i]);
-        i += 1;
     }
     h
 }
@@ -41,10 +39,8 @@ pub(crate) fn sum_of_amounts(t: &[i64]) -> u32
     ensures { result ≡ sum_from 0 (map residue_of t.now) }
 {
     let mut h: u32 = 0;
-    let mut i: usize = 0;
-    while i < t.len() {
+    for i in 0..t.len() {
         h = next_sum(h, residue(t[i]));
-        i += 1;
     }
     h
 }

@@ -2,49 +2,28 @@
 // interval, its two minutes, its quarter hours, and 1 or 0 for each of: it is a period as kind 1 asks for, as kind 2 does.
 #![tactic(auto)]
 
-fn print_flag(b: bool) {
-    if b {
-        lines::print_text(b" 1");
-    } else {
-        lines::print_text(b" 0");
-    }
+use std::io;
+
+fn show_period(rt: &impl Print, from: u32, to: u32) -> io::Result<()> {
+    let quarters = times::quarter_hours(from, to);
+    let day = u8::from(times::is_day_period(from, to));
+    let cost = u8::from(times::is_cost_period(from, to));
+    print!(rt; " interval {from} {to} {quarters} {day} {cost}")
 }
 
-fn print_count(n: u32) {
-    lines::print_text(b" ");
-    lines::print_number(n as u64);
-}
-
-fn show_period(from: u32, to: u32) {
-    lines::print_text(b" interval");
-    print_count(from);
-    print_count(to);
-    print_count(times::quarter_hours(from, to));
-    print_flag(times::is_day_period(from, to));
-    print_flag(times::is_cost_period(from, to));
-}
-
-fn run_case(line: &[u8]) {
-    lines::print_text(b"date-time");
-    print_flag(times::is_date_time(line));
+fn run_case(rt: &impl Print, line: &[u8]) -> io::Result<()> {
+    print!(rt; "date-time {}", u8::from(times::is_date_time(line)))?;
     match times::interval_of(line) {
-        Some((from, to)) => show_period(from, to),
-        None => lines::print_text(b" no interval"),
+        Some((from, to)) => show_period(rt, from, to)?,
+        None => print!(rt; " no interval")?,
     }
-    lines::print_text(b"\n");
+    println!(rt)
 }
 
-fn run_lines(s: &[u8]) {
-    let mut at: usize = 0;
-    while at < s.len() {
-        let line = lines::line_at(s, at);
-        run_case(line);
-        at += line.len() + 1;
+fn main(rt: HostRuntime) -> io::Result<()> {
+    let input = lines::input_of(&rt, lines::INPUT_MOST)?;
+    for line in lines::lines_of(&input) {
+        run_case(&rt, line)?;
     }
-}
-
-fn main() {
-    let mut buf = lines::input_buffer();
-    let n = lines::read_input(&mut buf);
-    run_lines(&buf[..n]);
+    Ok(())
 }

@@ -6,79 +6,54 @@
 // Printed: the answer, the cells of the totals, and those of the sum. Every cell that a case does not set was something else than 0.
 #![tactic(auto)]
 
-ghost use Rattle.std.specs.Prelude.{◌≤◌, ◌<◌, length};
-
+use lines::words_of;
 use series::Field;
+use std::io;
 
 #[derive(Clone, Copy)]
 struct Number {
     negative: bool,
     size: u64,
-    next: usize,
+}
+
+impl Number {
+    // The number that a word shows, as far as there is room for its digits.
+    fn of(word: &[u8]) -> Number {
+        let mut size = 0;
+        for d in word {
+            size = next_size(size, *d);
+        }
+        Number {
+            negative: word.contains(&b'-'),
+            size,
+        }
+    }
+
+    // The number, or 0 where it is too large or too small.
+    fn signed(self) -> i64 {
+        let number = if self.negative {
+            0i64.checked_sub_unsigned(self.size)
+        } else {
+            i64::try_from(self.size).ok()
+        };
+        number.unwrap_or(0)
+    }
+
+    fn unsigned(self) -> u32 {
+        small(self.size)
+    }
 }
 
 // One decimal digit more, as long as there is room.
 fn next_size(size: u64, d: u8) -> u64 {
-    if size <= 922337203685477580 {
-        if 48 <= d {
-            if d <= 57 {
-                return size * 10 + (d - 48) as u64;
-            }
-        }
+    if size <= 922337203685477580 && d.is_ascii_digit() {
+        return size * 10 + (d - b'0') as u64;
     }
     size
 }
 
-// The number that begins at `at`, and where the next one begins.
-fn number_at(s: &[u8], at: usize) -> Number
-    requires { at < length s.now }
-    ensures { at < result.next }
-{
-    let mut negative = false;
-    let mut size: u64 = 0;
-    let mut i = at;
-    while i < s.len() {
-        let d = s[i];
-        if d == 32 {
-            return Number {
-                negative: negative,
-                size: size,
-                next: i + 1,
-            };
-        }
-        if d == 45 {
-            negative = true;
-        }
-        size = next_size(size, d);
-        i += 1;
-    }
-    Number {
-        negative: negative,
-        size: size,
-        next: i + 1,
-    }
-}
-
-fn signed(n: Number) -> i64 {
-    let size = n.size;
-    if n.negative {
-        if 1 <= size {
-            if size <= 9223372036854775808 {
-                return -1 - ((size - 1) as i64);
-            }
-        }
-        return 0;
-    }
-    if size < 9223372036854775808 {
-        size as i64
-    } else {
-        0
-    }
-}
-
-fn unsigned(n: Number) -> u32 {
-    let size = n.size;
-    if size < 4294967296 { size as u32 } else { 0 }
+fn small(size: u64) -> u32 {
+    u32::try_from(size).unwrap_or(0)
 }
 
 fn field_of(k: u32) -> Field {
@@ -90,170 +65,93 @@ fn field_of(k: u32) -> Field {
 }
 
 fn put_series(line: &[u8], t: &mut [u32]) {
-    let mut k: u32 = 0;
-    let mut at: usize = 0;
-    while at < line.len() {
-        let n = number_at(line, at);
-        series::set_field(t, k / 2, field_of(k), unsigned(n));
-        if k < 1000000 {
-            k += 1;
-        }
-        at = n.next;
+    for (k, word) in (0..1000000).zip(words_of(line)) {
+        series::set_field(t, k / 2, field_of(k), Number::of(word).unsigned());
     }
 }
 
 fn put_positions(line: &[u8], t: &mut [u32]) {
-    let mut k: usize = 0;
-    let mut at: usize = 0;
-    while at < line.len() {
-        let n = number_at(line, at);
-        tables::set_number(t, k, unsigned(n));
-        if k < 1000000 {
-            k += 1;
-        }
-        at = n.next;
+    for (cell, word) in t.iter_mut().zip(words_of(line)) {
+        *cell = Number::of(word).unsigned();
     }
 }
 
 fn put_amounts(line: &[u8], t: &mut [i64]) {
-    let mut k: usize = 0;
-    let mut at: usize = 0;
-    while at < line.len() {
-        let n = number_at(line, at);
-        tables::set_amount(t, k, signed(n));
-        if k < 1000000 {
-            k += 1;
-        }
-        at = n.next;
+    for (cell, word) in t.iter_mut().zip(words_of(line)) {
+        *cell = Number::of(word).signed();
     }
 }
 
-fn put_head(line: &[u8], t: &mut [u64; 8]) {
-    let mut k: usize = 0;
-    let mut at: usize = 0;
-    while at < line.len() {
-        let n = number_at(line, at);
-        if k < 8 {
-            t[k] = n.size;
-            k += 1;
-        }
-        at = n.next;
+// The first eight numbers of a line, and 0 for one that is not there.
+fn head_of(line: &[u8]) -> [u64; 8] {
+    let mut head = [0; 8];
+    for (cell, word) in head.iter_mut().zip(words_of(line)) {
+        *cell = Number::of(word).size;
     }
+    head
 }
 
-fn print_signed(x: i64) {
-    lines::print_text(b" ");
-    if 0 <= x {
-        lines::print_number(x as u64);
-    } else {
-        let size = -1 - x;
-        lines::print_text(b"-");
-        lines::print_number(size as u64 + 1);
+fn print_cells(rt: &impl Print, cells: &[i64]) -> io::Result<()> {
+    print!(rt; ":")?;
+    for cell in cells {
+        print!(rt; " {cell}")?;
     }
+    Ok(())
 }
 
-fn print_cells(t: &[i64]) {
-    lines::print_text(b":");
-    let mut i: usize = 0;
-    while i < t.len() {
-        print_signed(t[i]);
-        i += 1;
-    }
+// The lines of a case, without the first.
+#[derive(Clone, Copy)]
+struct Tables<'a> {
+    rows: &'a [u8],
+    places: &'a [u8],
+    values: &'a [u8],
 }
 
-// A length, at most that of the buffer.
-fn fit(n: u64, most: usize) -> usize
-    ensures { result ≤ most }
-{
-    if n <= most as u64 { n as usize } else { most }
-}
-
-fn small(size: u64) -> u32 {
-    unsigned(Number {
-        negative: false,
-        size: size,
-        next: 0,
-    })
-}
-
-fn print_totals(
-    h: [u64; 8],
-    series: &[u32],
-    positions: &[u32],
-    amounts: &[i64],
-    totals: &mut [i64],
-    sum: &mut [i64],
-) {
+fn run_case(rt: &(impl Print + AllocGlobal), line: &[u8], tables: Tables<'_>) -> io::Result<()> {
+    let head = head_of(line);
+    let mut series = vec![in rt.alloc(); 7u32; 2424]?;
+    put_series(tables.rows, &mut series);
+    series.truncate(head[3] as usize);
+    let mut positions = vec![in rt.alloc(); 1u32; 1024]?;
+    put_positions(tables.places, &mut positions);
+    positions.truncate(head[4] as usize);
+    let mut amounts = vec![in rt.alloc(); 5i64; 1024]?;
+    put_amounts(tables.values, &mut amounts);
+    amounts.truncate(head[5] as usize);
+    let mut totals = vec![in rt.alloc(); 9i64; 512]?;
+    totals.truncate(head[6] as usize);
+    let mut sum = vec![in rt.alloc(); 9i64; 8]?;
+    sum.truncate(head[7] as usize);
     let r = totals::lumintayag_totals(
-        small(h[0]),
-        small(h[1]),
-        h[2] as usize,
-        series,
-        positions,
-        amounts,
-        totals,
-        sum,
+        small(head[0]),
+        small(head[1]),
+        head[2] as usize,
+        &series,
+        &positions,
+        &amounts,
+        &mut totals,
+        &mut sum,
     );
-    lines::print_number(r as u64);
-    print_cells(totals);
-    print_cells(sum);
-    lines::print_text(b"\n");
+    print!(rt; "{r}")?;
+    print_cells(rt, &totals)?;
+    print_cells(rt, &sum)?;
+    println!(rt)
 }
 
-fn run_tables(
-    h: [u64; 8],
-    series: &[u32],
-    positions: &[u32],
-    amounts: &[i64],
-    totals: &mut [i64],
-    sum: &mut [i64],
-) {
-    let s = fit(h[3], series.len());
-    let p = fit(h[4], positions.len());
-    let a = fit(h[5], amounts.len());
-    let t = fit(h[6], totals.len());
-    let u = fit(h[7], sum.len());
-    print_totals(
-        h,
-        &series[0..s],
-        &positions[0..p],
-        &amounts[0..a],
-        &mut totals[0..t],
-        &mut sum[0..u],
-    );
-}
-
-fn run_case(head: &[u8], rows: &[u8], places: &[u8], values: &[u8]) {
-    let mut h = [0u64; 8];
-    put_head(head, &mut h);
-    let mut series = [7u32; 2424];
-    let mut positions = [1u32; 1024];
-    let mut amounts = [5i64; 1024];
-    put_series(rows, &mut series);
-    put_positions(places, &mut positions);
-    put_amounts(values, &mut amounts);
-    let mut totals = [9i64; 512];
-    let mut sum = [9i64; 8];
-    run_tables(h, &series, &positions, &amounts, &mut totals, &mut sum);
-}
-
-fn run_lines(s: &[u8]) {
-    let mut at: usize = 0;
-    while at < s.len() {
-        let head = lines::line_at(s, at);
-        let b = at + head.len() + 1;
-        let rows = lines::line_at(s, b);
-        let c = b + rows.len() + 1;
-        let places = lines::line_at(s, c);
-        let d = c + places.len() + 1;
-        let values = lines::line_at(s, d);
-        run_case(head, rows, places, values);
-        at = d + values.len() + 1;
+fn main(rt: HostRuntime) -> io::Result<()> {
+    let input = lines::input_of(&rt, lines::INPUT_MOST)?;
+    let mut cases = lines::lines_of(&input);
+    // A case has a byte or more.
+    for _ in 0..input.len() {
+        let Some(head) = cases.next() else {
+            break;
+        };
+        let tables = Tables {
+            rows: cases.next().unwrap_or(b""),
+            places: cases.next().unwrap_or(b""),
+            values: cases.next().unwrap_or(b""),
+        };
+        run_case(&rt, head, tables)?;
     }
-}
-
-fn main() {
-    let mut buf = lines::input_buffer();
-    let n = lines::read_input(&mut buf);
-    run_lines(&buf[..n]);
+    Ok(())
 }

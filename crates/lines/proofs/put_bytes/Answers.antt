@@ -1,22 +1,40 @@
--- `lines::put_bytes` meets its contract. The invariant is `Read`.
+-- `lines::put_bytes` meets its contract.
 -- Assumes nothing.
-use Rattle.lines.proofs.Hex.{read-start, read-pass, read_first, read-pair, read-end, done}
+use mathlib.Core.Path.{sym, ◌∙◌}
+use native.Mathlib.Omega.{arith}
+use Rattle.lists.proofs.Stores.{put-start, put_next}
+use Rattle.lines.proofs.Hex.{hex-pass, hex-first, hex-pair, hex-end, done}
+use Rattle.lines.proofs.put_bytes.Goals.{in-Some-take, in-None}
 use Rattle.lines.proofs.put_bytes.Goals as goal
 
-pub loop-i-init : goal.loop-i-init
-loop-i-init c = read-start _ _
+pub loop-c-init : goal.loop-c-init
+loop-c-init c = record { digit = tt; put = put-start _ _ }
 
-pub loop-i-preserved-then-high-lt16 : goal.loop-i-preserved-then-high-lt16
-loop-i-preserved-then-high-lt16 c = read-pair _ _ _ _ _ _ _ c.loop-i.invariant c.loop-i-test.true c.digit-d.ensures c.if-d-lt16.true c.if-high-lt16.true _ _ c.put_byte-n.ensures.next c.put_byte-n.ensures.byte
+pub loop-c-preserved-in_default : goal.loop-c-preserved-in_default
+loop-c-preserved-in_default c = record {
+  digit = c.loop-c.invariant.digit;
+  put = rw (hex-pass _ _ _ c.loop-c-test.true c.in_default.ensures) at c.loop-c.invariant.put;
+}
 
-pub loop-i-preserved-else-high-lt16 : goal.loop-i-preserved-else-high-lt16
-loop-i-preserved-else-high-lt16 c = read_first _ _ _ _ _ _ _ c.loop-i.invariant c.loop-i-test.true c.digit-d.ensures c.if-d-lt16.true c.if-high-lt16.false
-
-pub loop-i-preserved : goal.loop-i-preserved
-loop-i-preserved c = read-pass _ _ _ _ _ _ _ c.loop-i.invariant c.loop-i-test.true c.digit-d.ensures c.if-d-lt16.false
-
-pub shape_of-out : goal.shape_of-out
-shape_of-out c = c.loop-i.invariant.put.same
+pub loop-c-preserved : goal.loop-c-preserved
+loop-c-preserved c =
+    elim c.match-take.branch [
+      | in-Some-take w ↦
+          let e = sym c.take.ensures.value ∙ w.in-Some-take.is in
+          let it = rw e at c.loop-c.invariant in
+          rw (w.high-is, w.out-is, w.n-is, c.take.ensures.after) (record {
+            digit = tt;
+            put = put_next (rw (hex-pair _ _ _ c.loop-c-test.true _ c.in-Some.ensures it.digit) at it.put) w.put_byte-n.ensures.next w.put_byte-n.ensures.byte;
+          })
+      | in-None w ↦
+          let e = sym c.take.ensures.value ∙ w.in-None.is in
+          let it = rw e at c.loop-c.invariant in
+          rw (w.high-is, w.out-is, w.n-is) (record {
+            digit = rw c.in-Some.ensures.1 c.in-Some.ensures.0;
+            put = rw (hex-first _ _ 16 c.loop-c-test.true _ c.in-Some.ensures (omega arith)) at it.put;
+          })
+    ]
 
 pub returns : goal.returns
-returns c = let it = done (read-end _ _ _ _ _ _ c.loop-i.invariant c.loop-i-test.false) in record { count = it.0; bytes = it.1.0; room = it.1.1 }
+returns c = let it = done (rw (hex-end _ _ _ c.loop-c-test.false) at c.loop-c.invariant.put) in
+    record { count = it.0; bytes = it.1.0; room = it.1.1 }

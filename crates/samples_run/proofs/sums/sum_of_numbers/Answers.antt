@@ -1,6 +1,5 @@
 -- `samples_run::sums::sum_of_numbers` meets its contract. The invariant is `Summed`.
 -- Assumes nothing.
-use Prim.Native.Nat.{◌-◌}
 use Rattle.samples_run.proofs.Folds.{sum-start, sum-next, sum-end}
 use Rattle.samples_run.proofs.sums.sum_of_numbers.Goals as goal
 

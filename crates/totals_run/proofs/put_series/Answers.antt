@@ -1,5 +1,0 @@
-use Prim.Native.Nat.{◌-◌}
-use Rattle.totals_run.proofs.put_series.Goals as goal
-
-pub number_at-n-requires : goal.number_at-n-requires
-number_at-n-requires c = c.loop-at-test.true
