@@ -9,7 +9,7 @@ ghost use Rattle.attributes.specs.Short.{common, opens_v, v_len};
 ghost use Rattle.attributes.specs.Attribute.{quote, plain, longer, value, value_end, opening, attribute, piece, piece_use, piece_value};
 
 use characters::{char_at, reference_at};
-use slices::{byte_at, front, rest, run_len};
+use slices::{ByteTest, byte_at, front, rest, run_len};
 
 // Whether a name may begin with the byte.
 // Ruled out: true for a digit, `-`, `.` or `:`; false for `_`.
@@ -44,13 +44,35 @@ fn is_white(b: u8) -> bool
     matches!(b, b' ' | b'\n' | b'\r' | b'\t')
 }
 
+#[derive(Clone, Copy)]
+struct NameByte;
+
+impl ByteTest for NameByte {
+    ghost test = { λ x. name_byte };
+
+    fn passes(self, b: u8) -> bool {
+        is_name_byte(b)
+    }
+}
+
+#[derive(Clone, Copy)]
+struct White;
+
+impl ByteTest for White {
+    ghost test = { λ x. white };
+
+    fn passes(self, b: u8) -> bool {
+        is_white(b)
+    }
+}
+
 // How many bytes of a name stand at the front of s.
 // Ruled out: a length that takes in the byte after the name; one that stops at a digit.
 pub fn name_len(s: &[u8]) -> usize
     ensures run { result ≡ run name_byte s.now }
     ensures size { result ≤ length s.now }
 {
-    run_len(s, is_name_byte)
+    run_len(s, NameByte)
 }
 
 // How many bytes of white space stand at the front of s.
@@ -59,7 +81,7 @@ pub fn white_len(s: &[u8]) -> usize
     ensures run { result ≡ run white s.now }
     ensures size { result ≤ length s.now }
 {
-    run_len(s, is_white)
+    run_len(s, White)
 }
 
 #[tactic(auto, unfolding(crate::specs::Attribute::quote))]
@@ -208,11 +230,22 @@ fn is_common(b: u8) -> bool
     matches!(b, 0x28..0x80) && b != b'<'
 }
 
+#[derive(Clone, Copy)]
+struct Common;
+
+impl ByteTest for Common {
+    ghost test = { λ x. common };
+
+    fn passes(self, b: u8) -> bool {
+        is_common(b)
+    }
+}
+
 fn common_len(s: &[u8]) -> usize
     ensures run { result ≡ run common s.now }
     ensures size { result ≤ length s.now }
 {
-    run_len(s, is_common)
+    run_len(s, Common)
 }
 
 // Whether s begins with ` v="`. From the last byte on, since where that is there the others are too.

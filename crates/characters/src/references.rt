@@ -4,7 +4,7 @@ ghost use Rattle.slices.specs.Run.{run};
 ghost use Rattle.characters.specs.Utf8.{char_use, slice_most};
 ghost use Rattle.characters.specs.References.{xml_char, digit, hex_digit, ref_digit, digit_value, base, capped, number_by, numbered_at, named_at, reference_at};
 
-use slices::{begins_with, byte_at, front, rest, run_len};
+use slices::{ByteTest, begins_with, byte_at, front, rest, run_len};
 
 #[tactic(auto, unfolding(crate::specs::References::xml_char, crate::specs::References::within))]
 fn is_xml_char(c: u32) -> bool
@@ -61,11 +61,25 @@ fn base_of(hex: bool) -> u32
     if hex { 16 } else { 10 }
 }
 
+// Digits of a reference, hexadecimal ones or not.
+#[derive(Clone, Copy)]
+struct Digits {
+    hex: bool,
+}
+
+impl ByteTest for Digits {
+    ghost test = { λ d. ref_digit d.hex };
+
+    fn passes(self, b: u8) -> bool {
+        is_digit(self.hex, b)
+    }
+}
+
 fn digits_len(hex: bool, s: &[u8]) -> usize
     ensures run { result ≡ run (ref_digit hex) s.now }
     ensures size { result ≤ length s.now }
 {
-    run_len(s, |b| is_digit(hex, b))
+    run_len(s, Digits { hex })
 }
 
 // Past the last character the number is not counted on, so that it never wraps.

@@ -1,9 +1,11 @@
 // Runs every day from 2000-01-01 to 2099-12-31 as the date on which a period of kind 1 starts. Printed for each, four years to a line, is which pairs of hours
 // are taken: 1 for 22:00Z to 22:00Z of the next date, 2 for 22:00Z to 23:00Z, 4 for 23:00Z to 22:00Z, 8 for 23:00Z to 23:00Z, added up.
+// A write that fails is not told and the rest is still attempted, as with `lines::print_text`.
 #![tactic(auto)]
 
 ghost use Rattle.std.specs.Prelude.{◌≤◌, ◌<◌};
 
+use std::alloc::AllocError;
 use std::io;
 use times::is_day_period;
 
@@ -27,14 +29,15 @@ fn pairs_taken(d: u32) -> u8
     both_early + shifted + weight(is_day_period(late, late + 1440), 8)
 }
 
-fn print_line(rt: &(impl Print + Alloc), first: u32) -> io::Result<()>
+fn print_line(rt: &(impl Print + Alloc), first: u32) -> Result<(), AllocError>
     requires { first < 36525 }
 {
     let mut text = String::new(rt.alloc());
     for day in first..first + LINE {
         text.push(char::from(b'0' + pairs_taken(day)))?;
     }
-    println!(rt; "{text}")
+    let _ = println!(rt; "{text}");
+    Ok(())
 }
 
 fn main(rt: HostRuntime) -> io::Result<()> {

@@ -6,16 +6,20 @@
 use mathlib.Core.Path.{◌≡◌, refl, sym}
 use Rattle.std.proofs.Common.{Option, Some, None}
 use mathlib.Core.List.{List, [], ◌∷◌}
+use mathlib.Core.Bool.{true, false}
+use mathlib.Core.Logic.{⊎_elim}
 use Prim.Native.Nat.{ℕ, suc, ◌+◌, ◌-◌, ◌*◌, ◌/◌, ◌≤◌, ◌<◌, min}
 use native.Mathlib.Numerals.{add-one}
 use native.Mathlib.Omega.{arith}
+use lib.Dec.{ltb}
 use lib.ListN.{length, drop, set, get_or, drop_of_length-le}
 use lib.Seq.{drop-cons, length-take-le}
 use borrow.Author.Tests.{lt-ltb, le-ltb}
 use Rattle.io.specs.Counts.{IsPrefixLen}
 use lib.Seq.{sets}
+use Rattle.lists.proofs.Cases.{ltb-cases}
 use Rattle.lists.proofs.Stores.{Putting, put-start, put_next, put-end}
-use Rattle.lines.specs.Text.{digit_of, hex_bytes, glyph_of, hex_text}
+use Rattle.lines.specs.Text.{digit_of, told_digit, hex_bytes, glyph_of, hex_text}
 
 -- what the contracts say at the end: the count, the buffer, and that the count lies within it
 pub done : {w out₀ out : List ℕ} {n : ℕ} → Putting w out₀ out n []
@@ -28,20 +32,44 @@ abbrev pub waiting : Option ℕ → ℕ
 waiting (Some h) = h
 waiting None = 16
 
+-- what the code tells of a character
+no-digit : (c : ℕ) → None ≡ told_digit c → ltb (digit_of c) 16 ≡ false
+unfolding told_digit
+no-digit c e =
+    ⊎_elim
+    (λ (y : (digit_of c < 16) × (ltb (digit_of c) 16 ≡ true)). let f = rw y.1 at e in absurd (cc))
+    (λ (y : (16 ≤ digit_of c) × (ltb (digit_of c) 16 ≡ false)). y.1)
+    (ltb-cases (digit_of c) 16)
+
+digit-told : (c low : ℕ) → Some low ≡ told_digit c → (digit_of c < 16) × (low ≡ digit_of c)
+unfolding told_digit
+digit-told c low e =
+    ⊎_elim
+    (λ (y : (digit_of c < 16) × (ltb (digit_of c) 16 ≡ true)). let f = rw y.1 at e in (y.0, cc))
+    (λ (y : (16 ≤ digit_of c) × (ltb (digit_of c) 16 ≡ false)). let f = rw y.1 at e in absurd (cc))
+    (ltb-cases (digit_of c) 16)
+
+pub digit-fits : (c low : ℕ) → Some low ≡ told_digit c → low < 16
+digit-fits c low e = let d = digit-told c low e in rw d.1 d.0
+
 -- a turn: what the character at i does to the bytes that are still to come
 module _ (line : List ℕ) (i h : ℕ) (l : i < length line) where
-  pub hex-pass : (digit_of (get_or line i 0) < 16 → ⊥) → hex_bytes h (drop i line) ≡ hex_bytes h (drop (i + 1) line)
+  pub hex-pass : None ≡ told_digit (get_or line i 0) → hex_bytes h (drop i line) ≡ hex_bytes h (drop (i + 1) line)
   unfolding hex_bytes
-  hex-pass n = rw (add-one, drop-cons line i 0 l) (simp (le-ltb (digit_of (get_or line i 0)) 16 (omega arith)))
+  hex-pass n = rw (add-one, drop-cons line i 0 l) (simp (no-digit (get_or line i 0) n))
 
-  module _ (low : ℕ) (d : (digit_of (get_or line i 0) < 16) × (low ≡ digit_of (get_or line i 0))) where
+  module _ (low : ℕ) (e : Some low ≡ told_digit (get_or line i 0)) where
     pub hex-first : 16 ≤ h → hex_bytes h (drop i line) ≡ hex_bytes low (drop (i + 1) line)
     unfolding hex_bytes
-    hex-first g = rw (add-one, drop-cons line i 0 l, d.1) (simp (lt-ltb (digit_of (get_or line i 0)) 16 d.0, le-ltb h 16 g))
+    hex-first g =
+        let d = digit-told (get_or line i 0) low e in
+        rw (add-one, drop-cons line i 0 l, d.1) (simp (lt-ltb (digit_of (get_or line i 0)) 16 d.0, le-ltb h 16 g))
 
     pub hex-pair : h < 16 → hex_bytes h (drop i line) ≡ (h * 16 + low) ∷ hex_bytes 16 (drop (i + 1) line)
     unfolding hex_bytes
-    hex-pair g = rw (add-one, drop-cons line i 0 l, d.1) (simp (lt-ltb (digit_of (get_or line i 0)) 16 d.0, lt-ltb h 16 g))
+    hex-pair g =
+        let d = digit-told (get_or line i 0) low e in
+        rw (add-one, drop-cons line i 0 l, d.1) (simp (lt-ltb (digit_of (get_or line i 0)) 16 d.0, lt-ltb h 16 g))
 
 pub hex-end : (h i : ℕ) (line : List ℕ) → length line ≤ i → hex_bytes h (drop i line) ≡ []
 unfolding hex_bytes

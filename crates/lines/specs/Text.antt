@@ -1,5 +1,5 @@
 -- Lines and hexadecimal digits.
-use Rattle.std.specs.Prelude.{ℕ, ◌+◌, ◌-◌, ◌*◌, ◌/◌, ◌%◌, List, [], ◌∷◌, cond, eqb, ltb}
+use Rattle.std.specs.Prelude.{ℕ, ◌+◌, ◌-◌, ◌*◌, ◌/◌, ◌%◌, List, [], ◌∷◌, cond, eqb, ltb, Option, Some, None}
 
 -- the bytes before the first line feed, or all, where there is none
 unfoldable pub line_of : List ℕ → List ℕ
@@ -15,6 +15,10 @@ digit_of c =
     (cond (ltb c 71) (c - 55)
     (cond (ltb c 97) 16
     (cond (ltb c 103) (c - 87) 16)))))
+
+-- the same as the code tells it, and none for any other character
+unfoldable pub told_digit : ℕ → Option ℕ
+told_digit c = cond (ltb (digit_of c) 16) (Some (digit_of c)) None
 
 -- the bytes that hexadecimal digits stand for, two digits a byte, other characters passed over, also between the two: `4 1` is the byte 41.
 -- h is the first digit of a byte, and 16 where none is waiting for its second; a last digit without a second is dropped.

@@ -4,13 +4,13 @@
 // do not; that these are safe and end is proved. The other contracts are equations.
 #![tactic(auto)]
 
-ghost use Rattle.std.specs.Prelude.{◌≡◌, ◌+◌, ◌-◌, ◌<◌, ◌≤◌, min, length, take, drop, set, IfOk, vec_len, SomeIff};
+ghost use Rattle.std.specs.Prelude.{◌≡◌, ◌+◌, ◌-◌, ◌<◌, ◌≤◌, min, length, take, drop, set, IfOk, vec_len};
 ghost use Rattle.std.specs.Iterator.{YieldsFirstRef, item_count};
 ghost use Rattle.std.proofs.lemmas.List.Edits.{sets};
 ghost use Rattle.io.specs.Counts.{IsPrefixLen};
 ghost use Rattle.lists.specs.Zeros.{zeros};
 ghost use Rattle.lines.specs.Pieces.{piece_of, pieces_in, pieces_left};
-ghost use Rattle.lines.specs.Text.{line_of, digit_of, hex_bytes, glyph_of, hex_text};
+ghost use Rattle.lines.specs.Text.{line_of, told_digit, hex_bytes, glyph_of, hex_text};
 
 use std::alloc::{AllocError, Global};
 use std::io::Read;
@@ -129,9 +129,9 @@ pub fn words_of(s: &[u8]) -> Pieces<'_>
 }
 
 // What a hexadecimal digit of either case stands for.
-#[tactic(auto, unfolding(crate::specs::Text::digit_of))]
+#[tactic(auto, unfolding(crate::specs::Text::digit_of, crate::specs::Text::told_digit))]
 fn digit(c: u8) -> Option<u8>
-    ensures { SomeIff result (digit_of c < 16) (digit_of c) }
+    ensures { result ≡ told_digit c }
 {
     match c {
         b'0'..=b'9' => Some(c - b'0'),
@@ -250,4 +250,24 @@ pub fn put_hex(s: &[u8], out: &mut [u8]) -> usize
 // Writes text to standard output. The contract says nothing: what is written is no answer and no lent buffer, and a write that fails is not told.
 pub fn print_text(text: &[u8]) {
     io::write_all(STANDARD_OUTPUT, text);
+}
+
+#[cfg(test)]
+mod tests {
+    use super::*;
+
+    // That there is memory, and that standard input can be read, no clause says.
+    #[test]
+    fn takes_memory(rt: HostRuntime) -> Result<(), AllocError> {
+        assert_eq!(rt; bytes_of(rt.alloc(), b"4C 7")?.len(), 1);
+        assert_eq!(rt; case_bytes(rt.alloc(), b"4c4D 4E")?.len(), 3);
+        Ok(())
+    }
+
+    #[test]
+    fn reads_input(rt: HostRuntime) -> std::io::Result<()> {
+        let input = input_of(&rt, 16)?;
+        assert!(rt; input.len() <= 16);
+        Ok(())
+    }
 }

@@ -5,20 +5,24 @@
 //   o HEX, n HEX  the first byte is how many bytes the output has (at most 48), and those after it are converted into the old shape (o) or the new one (n);
 //                 printed: the refusal's number, the note's length, and all bytes of the output
 // Any other line is printed as it is.
+// A write that fails is not told and the rest is still attempted, as with `lines::print_text`.
 #![tactic(auto)]
 
 use notes::{ConvertError, Note, Shape};
+use std::alloc::AllocError;
 use std::io;
 
-fn print_numbers(rt: &impl Print, refusal: u32, n: Note) -> io::Result<()> {
-    print!(rt; "{refusal} {} {} {}", n.refusal, n.place, n.kind)?;
-    print!(rt; " {} {} {}", n.series, n.intervals, n.depth)
+fn print_numbers(rt: &impl Print, refusal: u32, n: Note) {
+    let _ = print!(rt; "{refusal} {} {} {}", n.refusal, n.place, n.kind);
+    let _ = print!(rt; " {} {} {}", n.series, n.intervals, n.depth);
 }
 
-fn show_read(rt: &impl Print, s: &[u8]) -> io::Result<()> {
+fn show_read(rt: &impl Print, s: &[u8]) {
     match notes::read_note(s) {
         Some(n) => print_numbers(rt, 0, n),
-        None => print!(rt; "11 0 0 0 0 0 0"),
+        None => {
+            let _ = print!(rt; "11 0 0 0 0 0 0");
+        }
     }
 }
 
@@ -38,16 +42,15 @@ fn number_at(s: &[u8], at: u8) -> u32 {
     ])
 }
 
-fn show_bytes(rt: &impl Print, refusal: u32, len: usize, out: &[u8]) -> io::Result<()> {
-    print!(rt; "{refusal} {len}: ")?;
-    for i in 0..out.len() {
-        let space = if i == 0 { "" } else { " " };
-        print!(rt; "{space}{:02X}", out[i])?;
-    }
-    Ok(())
+// At most 48 bytes are shown, and their digits with the spaces between are at most 143 characters.
+fn show_bytes(rt: &impl Print, refusal: u32, len: usize, out: &[u8]) {
+    let mut text = [0u8; 143];
+    let n = lines::put_hex(out, &mut text);
+    let _ = print!(rt; "{refusal} {len}: ");
+    let _ = rt.write_all(&text[..n]);
 }
 
-fn run_write(rt: &(impl Print + AllocGlobal), s: &[u8], shape: Shape) -> io::Result<()> {
+fn run_write(rt: &(impl Print + AllocGlobal), s: &[u8], shape: Shape) -> Result<(), AllocError> {
     let n = Note {
         refusal: number_at(s, 1),
         place: number_at(s, 5),
@@ -62,10 +65,11 @@ fn run_write(rt: &(impl Print + AllocGlobal), s: &[u8], shape: Shape) -> io::Res
     }
     let mut note = vec![in rt.alloc(); 255u8; room]?;
     let len = notes::write_note(&mut note, shape, n);
-    show_bytes(rt, 0, len, &note)
+    show_bytes(rt, 0, len, &note);
+    Ok(())
 }
 
-fn run_convert(rt: &(impl Print + AllocGlobal), s: &[u8], shape: Shape) -> io::Result<()> {
+fn run_convert(rt: &(impl Print + AllocGlobal), s: &[u8], shape: Shape) -> Result<(), AllocError> {
     let Some((room, note)) = s.split_first() else {
         return Ok(());
     };
@@ -78,19 +82,23 @@ fn run_convert(rt: &(impl Print + AllocGlobal), s: &[u8], shape: Shape) -> io::R
         Err(ConvertError::OutShort) => show_bytes(rt, 10, 0, &out),
         Err(ConvertError::NeitherShape) => show_bytes(rt, 11, 0, &out),
     }
+    Ok(())
 }
 
-fn run_case(rt: &(impl Print + AllocGlobal), line: &[u8]) -> io::Result<()> {
+fn run_case(rt: &(impl Print + AllocGlobal), line: &[u8]) -> Result<(), AllocError> {
     let s = lines::case_bytes(rt.alloc(), line)?;
     match line.first() {
-        Some(b'r') => show_read(rt, &s)?,
+        Some(b'r') => show_read(rt, &s),
         Some(b'w') => run_write(rt, &s, Shape::Old)?,
         Some(b'x') => run_write(rt, &s, Shape::New)?,
         Some(b'o') => run_convert(rt, &s, Shape::Old)?,
         Some(b'n') => run_convert(rt, &s, Shape::New)?,
-        _ => rt.write_all(line)?,
+        _ => {
+            let _ = rt.write_all(line);
+        }
     }
-    println!(rt)
+    let _ = println!(rt);
+    Ok(())
 }
 
 fn main(rt: HostRuntime) -> io::Result<()> {

@@ -162,7 +162,7 @@ fn is_used(doc: &[u8], t: &[u32], n: u32, id: &[u8]) -> bool
     ensures { result ≡ used doc.now t.now n (says id.now) }
 {
     let last = own_end(id);
-    for i in 0..n {
+    for i in (0..n).rev() {
         if is_shown(doc, t, i, id, last) {
             return true;
         }

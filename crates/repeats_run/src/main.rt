@@ -1,6 +1,7 @@
 // Prints, a line for each case, what `has_twice` answers on tags that are made here. A line of n attributes has six tags: all different;
 // the first name also second, in the middle and last; the last name also before it and in the middle. The names come in rising, falling
 // and mixed order. Lines that begin with a text print what is answered on that text.
+// A write that fails is not told and the rest is still attempted.
 #![tactic(auto)]
 
 ghost use Rattle.std.specs.Prelude.{◌≤◌};
@@ -61,24 +62,25 @@ fn open_tag(alloc: Global, case: Case) -> Result<Vec<u8>, AllocError> {
     Ok(tag)
 }
 
-fn show(rt: &impl Print, tag: &[u8]) -> io::Result<()> {
-    if has_twice(tag, 2) {
+fn show(rt: &impl Print, tag: &[u8]) {
+    let _ = if has_twice(tag, 2) {
         print!(rt; " twice")
     } else {
         print!(rt; " -")
-    }
+    };
 }
 
-fn run(rt: &(impl Print + AllocGlobal), case: Case) -> io::Result<()> {
+fn run(rt: &(impl Print + AllocGlobal), case: Case) -> Result<(), AllocError> {
     let mut tag = open_tag(rt.alloc(), case)?;
     tag.push(b'>')?;
-    show(rt, &tag)
+    show(rt, &tag);
+    Ok(())
 }
 
-fn run_six(rt: &(impl Print + AllocGlobal), n: u32, order: Order) -> io::Result<()>
+fn run_six(rt: &(impl Print + AllocGlobal), n: u32, order: Order) -> Result<(), AllocError>
     requires { 2 ≤ n }
 {
-    print!(rt; "{n}")?;
+    let _ = print!(rt; "{n}");
     let twins = [
         (n, 0),
         (1, 0),
@@ -90,10 +92,11 @@ fn run_six(rt: &(impl Print + AllocGlobal), n: u32, order: Order) -> io::Result<
     for (twin, of) in twins {
         run(rt, Case { n, order, twin, of })?;
     }
-    println!(rt)
+    let _ = println!(rt);
+    Ok(())
 }
 
-fn run_orders(rt: &(impl Print + AllocGlobal), n: u32) -> io::Result<()>
+fn run_orders(rt: &(impl Print + AllocGlobal), n: u32) -> Result<(), AllocError>
     requires { 2 ≤ n }
 {
     run_six(rt, n, Order::Rising)?;
@@ -102,8 +105,8 @@ fn run_orders(rt: &(impl Print + AllocGlobal), n: u32) -> io::Result<()>
 }
 
 // The heap has 16,384 places: the last name of the first pass again, and the first of the second.
-fn run_passes(rt: &(impl Print + AllocGlobal)) -> io::Result<()> {
-    print!(rt; "passes")?;
+fn run_passes(rt: &(impl Print + AllocGlobal)) -> Result<(), AllocError> {
+    let _ = print!(rt; "passes");
     let cases = [
         (16385, 16384, 16383),
         (20000, 19999, 16383),
@@ -114,12 +117,13 @@ fn run_passes(rt: &(impl Print + AllocGlobal)) -> io::Result<()> {
         let order = Order::Rising;
         run(rt, Case { n, order, twin, of })?;
     }
-    println!(rt)
+    let _ = println!(rt);
+    Ok(())
 }
 
 // A tag that does not end has none twice.
-fn run_torn(rt: &(impl Print + AllocGlobal)) -> io::Result<()> {
-    print!(rt; "torn")?;
+fn run_torn(rt: &(impl Print + AllocGlobal)) -> Result<(), AllocError> {
+    let _ = print!(rt; "torn");
     for n in [3, 20000] {
         let order = Order::Rising;
         let tag = open_tag(
@@ -131,31 +135,33 @@ fn run_torn(rt: &(impl Print + AllocGlobal)) -> io::Result<()> {
                 of: 0,
             },
         )?;
-        show(rt, &tag)?;
+        show(rt, &tag);
     }
-    println!(rt)
+    let _ = println!(rt);
+    Ok(())
 }
 
-fn run_text(rt: &impl Print, tag: &str) -> io::Result<()> {
-    print!(rt; "{tag}")?;
-    show(rt, tag.as_bytes())?;
-    println!(rt)
+fn run_text(rt: &impl Print, tag: &str) {
+    let _ = print!(rt; "{tag}");
+    show(rt, tag.as_bytes());
+    let _ = println!(rt);
 }
 
 fn main(rt: HostRuntime) -> io::Result<()> {
-    run_text(&rt, "<a>")?;
-    run_text(&rt, "<a v=\"1\"/>")?;
-    run_text(&rt, "<a v=\"1\" v=\"1\"/>")?;
-    run_text(&rt, "<a v=\"1\" codingScheme='2' v=\"3\">")?;
-    run_text(&rt, "<a v=\"1\" vv=\"1\" V=\"1\" v.=\"1\" v:v=\"1\">")?;
-    run_text(&rt, "<a xmlns:a=\"1\" xmlns:b=\"1\" xmlns:a=\"2\">")?;
-    run_text(&rt, "<a b=\" b='1' b='2'\" c=\">\">")?;
-    run_text(&rt, "<a v=\"1\"v=\"2\">")?;
+    run_text(&rt, "<a>");
+    run_text(&rt, "<a v=\"1\"/>");
+    run_text(&rt, "<a v=\"1\" v=\"1\"/>");
+    run_text(&rt, "<a v=\"1\" codingScheme='2' v=\"3\">");
+    run_text(&rt, "<a v=\"1\" vv=\"1\" V=\"1\" v.=\"1\" v:v=\"1\">");
+    run_text(&rt, "<a xmlns:a=\"1\" xmlns:b=\"1\" xmlns:a=\"2\">");
+    run_text(&rt, "<a b=\" b='1' b='2'\" c=\">\">");
+    run_text(&rt, "<a v=\"1\"v=\"2\">");
     run_orders(&rt, 2)?;
     run_orders(&rt, 16)?;
     run_orders(&rt, 17)?;
     run_orders(&rt, 2000)?;
     run_passes(&rt)?;
     run_orders(&rt, 20000)?;
-    run_torn(&rt)
+    run_torn(&rt)?;
+    Ok(())
 }

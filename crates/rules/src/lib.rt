@@ -4,7 +4,7 @@
 ghost use Rattle.std.specs.Prelude.{◌≡◌, ◌+◌, eqb};
 ghost use Rattle.characters.specs.Says.{says};
 ghost use Rattle.refusals.specs.Refusals.{number, refusal_told};
-ghost use Rattle.rules.specs.Judged.{Tells};
+ghost use Rattle.rules.specs.Judged.{judged_told};
 ghost use Rattle.rules.specs.Rules.{unless, is_version, amount, form_refusal, type_no, direction_no, code_no, period_fits, position_fits, judge_period, judge_interval, judge_position, judge};
 
 use codes::is_listed;
@@ -161,7 +161,7 @@ fn is_period(kind: u32, from: u32, to: u32) -> bool
 }
 
 fn judge_period(v: &[u8], kind: u32) -> Result<Says, Refusal>
-    ensures { Tells result (judge_period kind (says v.now)) }
+    ensures { judged_told result ≡ judge_period kind (says v.now) }
 {
     match interval_of(v) {
         Some((from, to)) => {
@@ -178,7 +178,7 @@ fn judge_period(v: &[u8], kind: u32) -> Result<Says, Refusal>
 }
 
 fn judge_interval(v: &[u8], from: u32, to: u32) -> Result<Says, Refusal>
-    ensures { Tells result (judge_interval from to (says v.now)) }
+    ensures { judged_told result ≡ judge_interval from to (says v.now) }
 {
     match interval_of(v) {
         Some((a, b)) => {
@@ -216,7 +216,7 @@ pub fn is_position(kind: u32, quarters: u32, last: u32, p: u32) -> bool
 }
 
 fn judge_position(v: &[u8], h: Held) -> Result<Says, Refusal>
-    ensures { Tells result (judge_position h.kind h.quarters h.last (says v.now)) }
+    ensures { judged_told result ≡ judge_position h.kind h.quarters h.last (says v.now) }
 {
     match number_of(v, 5) {
         Some(p) => {
@@ -235,7 +235,7 @@ fn judge_position(v: &[u8], h: Held) -> Result<Says, Refusal>
 // The refusal of a value, and what it says.
 // Ruled out: 6 for a value outside its code list; 8 for a Pos that is no number; a Pos above N taken.
 pub fn judge_value(form: usize, v: &[u8], h: Held) -> Result<Says, Refusal>
-    ensures { Tells result (judge form h (says v.now)) }
+    ensures { judged_told result ≡ judge form h (says v.now) }
 {
     if form == PERIOD_FORM {
         return judge_period(v, h.kind);

@@ -32,6 +32,6 @@ begins-with-one t s = one
 pub first-at-one : (t s : List ℕ) {r r' : ℕ} → r ≡ first_at t s → r' ≡ first_at t s → r ≡ r'
 first-at-one t s = one
 
--- for the test p that its function answers
+-- for the test p of its type
 pub run-len-one : (p : ℕ → Bool) (s : List ℕ) {r r' : ℕ} → r ≡ run p s → r' ≡ run p s → r ≡ r'
 run-len-one p s = one

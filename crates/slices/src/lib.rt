@@ -6,7 +6,7 @@ ghost use Rattle.std.specs.Prelude.{◌≡◌, ℕ, Bool, ◌-◌, ◌≤◌, le
 ghost use Rattle.slices.specs.Bytes.{byte};
 ghost use Rattle.slices.specs.Part.{part_of};
 ghost use Rattle.slices.specs.Same.{same, begins, first_at};
-ghost use Rattle.slices.specs.Run.{run, IsAnswered};
+ghost use Rattle.slices.specs.Run.{run};
 
 // Where a part of a slice stands. Of an attribute's value it is counted from the first byte of its tag, and a start of 0 says that it is not there.
 #[derive(Clone, Copy)]
@@ -81,15 +81,22 @@ pub fn first_at(t: &[u8], s: &[u8]) -> usize
     s.len()
 }
 
+// A test of bytes, of which a run is told.
+pub trait ByteTest {
+    ghost test: { Self → ℕ → Bool };
+
+    fn passes(self, b: u8) -> bool
+        ensures { result ≡ test self b };
+}
+
 // How many bytes at the front of s pass a test.
 // Ruled out: a length that takes in the first byte that does not pass; one that stops before it.
-pub fn run_len<F: Fn(u8) -> bool>(s: &[u8], passes: F) -> usize
-    requires { F.IsAlwaysCallable passes }
-    ensures run { (p : ℕ → Bool) → IsAnswered (F.post passes) p → result ≡ run p s.now }
+pub fn run_len<T: ByteTest + Copy>(s: &[u8], test: T) -> usize
+    ensures run { result ≡ run (T.test test) s.now }
     ensures size { result ≤ length s.now }
 {
     for i in 0..s.len() {
-        if !passes(s[i]) {
+        if !test.passes(s[i]) {
             return i;
         }
     }

@@ -6,7 +6,7 @@ ghost use Rattle.items.specs.Parts.{name_in};
 ghost use Rattle.columns.specs.Columns.{role_of, root_role};
 ghost use Rattle.characters.specs.Says.{says};
 ghost use Rattle.refusals.specs.Refusals.{number, refusal_told};
-ghost use Rattle.rules.specs.Judged.{said, Tells};
+ghost use Rattle.rules.specs.Judged.{said, judged_told, settled};
 ghost use Rattle.states.specs.Step.{step_told};
 ghost use Rattle.states.specs.Attributes.{there, agree, asks_v, asks_scheme, demands_at, meets, dtd_fits, no_others, attributes_fit, said_in, scheme_refusal, least, value_fixed, dtd_fixed, judge_tag};
 ghost use Rattle.states.specs.Act.{act_of};
@@ -260,7 +260,7 @@ fn is_dtd_fixed(kind: u32, d: Dtd, s: &[u8]) -> bool
 }
 
 fn judge_tag(w: usize, t: Tag, s: &[u8], h: Held) -> Result<Says, Refusal>
-    ensures { Tells result (judge_tag w t h s.now) }
+    ensures { judged_told result ≡ settled (judge_tag w t h s.now) }
 {
     if is_root(w) {
         let dtd = t.dtd;
@@ -586,7 +586,7 @@ impl State {
     }
 
     fn beside_others(self, kind: u32, role: usize, j: Says) -> Result<Says, Refusal>
-        ensures { Tells result (beside_others self kind role (said j)) }
+        ensures { judged_told result ≡ beside_others self kind role (said j) }
     {
         if self.is_against_others(kind, role, j.first) {
             return Err(Refusal::AgainstValue);
@@ -595,7 +595,7 @@ impl State {
     }
 
     fn judge_values(self, kind: u32, w: usize, t: Tag, s: &[u8]) -> Result<Says, Refusal>
-        ensures { Tells result (values_judged self kind w t s.now) }
+        ensures { judged_told result ≡ settled (values_judged self kind w t s.now) }
     {
         let role = role_of(w);
         if self.has_half(role) {
@@ -616,7 +616,7 @@ impl State {
         empty: bool,
         room: Room,
     ) -> Result<Says, Refusal>
-        ensures { Tells result (start_judged self kind rows.now row t s.now empty room) }
+        ensures { judged_told result ≡ settled (start_judged self kind rows.now row t s.now empty room) }
     {
         let w = row_at(rows, row);
         let role = role_of(w);

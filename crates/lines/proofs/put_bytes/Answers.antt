@@ -3,9 +3,16 @@
 use mathlib.Core.Path.{sym, ◌∙◌}
 use native.Mathlib.Omega.{arith}
 use Rattle.lists.proofs.Stores.{put-start, put_next}
-use Rattle.lines.proofs.Hex.{hex-pass, hex-first, hex-pair, hex-end, done}
+use Rattle.lines.proofs.Hex.{digit-fits, hex-pass, hex-first, hex-pair, hex-end, done}
 use Rattle.lines.proofs.put_bytes.Goals.{in-Some-take, in-None}
 use Rattle.lines.proofs.put_bytes.Goals as goal
+
+-- two digits fit a byte
+pub overflow_add-h : goal.overflow_add-h
+overflow_add-h c =
+    let low = digit-fits _ _ c.in-Some.ensures in
+    let high = rw (sym c.take.ensures.value ∙ c.in-Some-take.is) at c.loop-c.invariant in
+    omega (arith, low, high.digit)
 
 pub loop-c-init : goal.loop-c-init
 loop-c-init c = record { digit = tt; put = put-start _ _ }
@@ -30,7 +37,7 @@ loop-c-preserved c =
           let e = sym c.take.ensures.value ∙ w.in-None.is in
           let it = rw e at c.loop-c.invariant in
           rw (w.high-is, w.out-is, w.n-is) (record {
-            digit = rw c.in-Some.ensures.1 c.in-Some.ensures.0;
+            digit = digit-fits _ _ c.in-Some.ensures;
             put = rw (hex-first _ _ 16 c.loop-c-test.true _ c.in-Some.ensures (omega arith)) at it.put;
           })
     ]

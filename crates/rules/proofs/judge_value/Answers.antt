@@ -1,7 +1,8 @@
-use mathlib.Core.Path.{sym}
+use mathlib.Core.Path.{ap}
 use borrow.Author.Tests.{eq-eqb, ne_eqb}
 use Rattle.refusals.proofs.Numbers.{raised}
-use Rattle.rules.specs.Rules.{judge}
+use Rattle.rules.specs.Rules.{judge, refused}
+use Rattle.rules.proofs.Taken.{unsaid}
 use Rattle.rules.proofs.judge_value.Goals as goal
 
 pub returns-then-form-eq-PERIOD_FORM : goal.returns-then-form-eq-PERIOD_FORM
@@ -14,7 +15,7 @@ returns-then-form-eq-INTERVAL_FORM c = simp (eq-eqb _ _ c.if-form-eq-INTERVAL_FO
 
 pub returns-in_err-refused_unless : goal.returns-in_err-refused_unless
 unfolding judge
-returns-in_err-refused_unless c = rw (raised _ _ c.from_residual.ensures.1) (simp (← c.is_quarter_hour.ensures, eq-eqb _ _ c.if-form-eq-RESOLUTION_FORM.true, ne_eqb _ _ c.if-form-eq-INTERVAL_FORM.false, ne_eqb _ _ c.if-form-eq-PERIOD_FORM.false) (sym c.in_err-refused_unless.ensures))
+returns-in_err-refused_unless c = rw (raised _ _ c.from_residual.ensures.1) (simp (← c.is_quarter_hour.ensures, eq-eqb _ _ c.if-form-eq-RESOLUTION_FORM.true, ne_eqb _ _ c.if-form-eq-INTERVAL_FORM.false, ne_eqb _ _ c.if-form-eq-PERIOD_FORM.false) (ap refused c.in_err-refused_unless.ensures))
 
 pub returns-then-form-eq-RESOLUTION_FORM : goal.returns-then-form-eq-RESOLUTION_FORM
 unfolding judge
@@ -26,7 +27,7 @@ returns-then-form-eq-POS_FORM c = simp (eq-eqb _ _ c.if-form-eq-POS_FORM.true, n
 
 pub returns-in_err-form_refusal : goal.returns-in_err-form_refusal
 unfolding judge
-returns-in_err-form_refusal c = rw (raised _ _ c.from_residual-in_err-form_refusal.ensures.1) (simp (ne_eqb _ _ c.if-form-eq-POS_FORM.false, ne_eqb _ _ c.if-form-eq-RESOLUTION_FORM.false, ne_eqb _ _ c.if-form-eq-INTERVAL_FORM.false, ne_eqb _ _ c.if-form-eq-PERIOD_FORM.false) (sym c.in_err-form_refusal.ensures))
+returns-in_err-form_refusal c = rw (raised _ _ c.from_residual-in_err-form_refusal.ensures.1) (simp (unsaid _ _ _ c.in_err-form_refusal.ensures, ne_eqb _ _ c.if-form-eq-POS_FORM.false, ne_eqb _ _ c.if-form-eq-RESOLUTION_FORM.false, ne_eqb _ _ c.if-form-eq-INTERVAL_FORM.false, ne_eqb _ _ c.if-form-eq-PERIOD_FORM.false) (ap refused c.in_err-form_refusal.ensures))
 
 pub returns : goal.returns
 unfolding judge

@@ -1,4 +1,4 @@
-use Rattle.rules.proofs.Taken.{taken}
+use Rattle.rules.proofs.Taken.{taken, told-settled}
 use Rattle.fitting.specs.Told.{text_fits}
 use Rattle.fitting.proofs.values.text_fits.Goals as goal
 
@@ -12,4 +12,4 @@ returns-then-has_ampersand c = simp (c.if-has_ampersand.true, ← c.has_ampersan
 
 pub returns : goal.returns
 unfolding text_fits
-returns c = simp (c.is_ok.ensures.value, taken _ _ c.judge_value.ensures, ← c.said_of.ensures, ← c.quarter_hours.ensures, c.if-has_ampersand.false, ← c.has_ampersand.ensures, c.if-is_id.false, ← c.is_id.ensures, ← c.form_of-form.ensures)
+returns c = simp (c.is_ok.ensures.value, taken _ _ (told-settled _ _ c.judge_value.ensures), ← c.said_of.ensures, ← c.quarter_hours.ensures, c.if-has_ampersand.false, ← c.has_ampersand.ensures, c.if-is_id.false, ← c.is_id.ensures, ← c.form_of-form.ensures)
