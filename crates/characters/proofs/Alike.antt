@@ -11,7 +11,7 @@ use lib.ListN.{length, get_or, drop, drop_of_length-le, length-drop}
 use lib.Seq.{drop-cons, drop-drop}
 use borrow.Author.Tests.{le-leb, lt-leb, eq-eqb, ne_eqb, eqb-false}
 use Rattle.std.specs.Prelude.{Option, Some, None}
-use Rattle.lists.proofs.Cases.{bool_cases, eqb-cases, ltb-cases, past-cond, never, zero-not-one, leb-cases}
+use Rattle.lists.proofs.Cases.{bool_cases, eqb-cases, ltb-cases, past-cond, never, leb-cases}
 use Rattle.slices.specs.Bytes.{byte}
 use Rattle.slices.specs.Same.{same}
 use Rattle.slices.proofs.Bytes.{byte-drop}

@@ -3,11 +3,11 @@
 
 mod references;
 
-ghost use Rattle.std.specs.Prelude.{◌≡◌, ◌-◌, ◌≤◌, length};
+ghost use Rattle.std.specs.Prelude.{◌≡◌, ◌-◌, ◌≤◌, length, Some};
 ghost use Rattle.slices.specs.Bytes.{byte};
 ghost use Rattle.slices.specs.Same.{same};
 ghost use Rattle.characters.specs.Utf8.{seq_len, low, high, second, later_byte, control, nonchar, single, double, triple, fourfold, char_at, char_use, slice_most};
-ghost use Rattle.characters.specs.Says.{met, char_of, itself, own_byte, own_end, ends_otherwise, own_len, said_at, said_use, says, all_chars};
+ghost use Rattle.characters.specs.Says.{met, char_of, itself, own_byte, own_end, ends_otherwise, own_len, said_at, said_by, said_use, says, all_chars};
 
 pub use references::reference_at;
 use slices::{byte_at, rest};
@@ -185,20 +185,24 @@ fn is_itself(b: u8) -> bool
     matches!(b, 0x27..0x80)
 }
 
-// The character that stands at the front of s, or that a reference there names.
-fn unit_at(s: &[u8]) -> Option<(u32, usize)>
-    ensures char { result ≡ char_of (met s.now) }
-    ensures size { (1 ≤ char_use result) × (char_use result ≤ slice_most) }
+// The character that stands at the front of s, or that a reference there names; 0 and one byte where there is none.
+// A pair comes back in registers, an Option of one through memory. Each branch says itself that there is none: said where they meet, it is one more test of every reference.
+#[tactic(auto, unfolding(crate::specs::Says::said_by))]
+fn unit_at(s: &[u8]) -> (u32, usize)
+    ensures char { Some result ≡ said_by (char_of (met s.now)) }
+    ensures size { (1 ≤ result.1) × (result.1 ≤ slice_most) }
 {
     if byte_at(s, 0) == 0x26 {
-        return reference_at(s);
+        return reference_at(s).unwrap_or((0, 1));
     }
-    char_at(s)
+    char_at(s).unwrap_or((0, 1))
 }
 
 // What a value says first: the character, and how many bytes of the value say it. This is the one way in which the rules of values look at a value.
 // Ruled out: a byte of a longer character, or of a reference, as a character; an end before the last byte.
+// Inlined, since what it answers would pass through memory at a call, and most bytes of a value, which say themselves, then need none.
 #[tactic(auto, unfolding(crate::specs::Says::said_at, crate::specs::Says::said_by))]
+#[inline(always)]
 pub fn said_at(v: &[u8]) -> Option<(u32, usize)>
     ensures said { result ≡ said_at v.now }
     ensures size { (1 ≤ said_use result) × (said_use result ≤ slice_most) }
@@ -210,7 +214,7 @@ pub fn said_at(v: &[u8]) -> Option<(u32, usize)>
     if is_itself(b) {
         return Some((b as u32, 1));
     }
-    Some(unit_at(v).unwrap_or((0, 1)))
+    Some(unit_at(v))
 }
 
 // How many characters a value has.

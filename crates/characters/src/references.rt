@@ -101,7 +101,9 @@ fn number_in(hex: bool, digits: &[u8]) -> u32
 }
 
 // Digits from the place `from` on, and then `;`; a u8, so that each place after it is in range.
+// Inlined, since what it answers would pass through memory at a call.
 #[tactic(auto, unfolding(crate::specs::References::numbered_at, crate::specs::References::numbered_to, crate::specs::References::number_by, crate::specs::References::char_by))]
+#[inline(always)]
 fn numbered_at(hex: bool, from: u8, s: &[u8]) -> Option<(u32, usize)>
     ensures char { result ≡ numbered_at hex from s.now }
     ensures size { (1 ≤ char_use result) × (char_use result ≤ slice_most) }

@@ -157,7 +157,7 @@ fn is_shown(doc: &[u8], t: &[u32], i: u32, id: &[u8], last: u8) -> bool
     says_same(shown, id)
 }
 
-// Whether one of the first n rows shows this identification.
+// Whether one of the first n rows shows this identification. The last row first, so that one that repeats the series just before is told at once.
 fn is_used(doc: &[u8], t: &[u32], n: u32, id: &[u8]) -> bool
     ensures { result ≡ used doc.now t.now n (says id.now) }
 {

@@ -5,5 +5,5 @@ use mathlib.Core.Path.{◌≡◌, sym, ◌∙◌}
 use Rattle.refusals.specs.Refusals.{number}
 use Rattle.refusals.specs.declared.Refusal.{Refusal}
 
-pub number-of-one : (x : Refusal) {r r' : ℕ} → r ≡ number x → r' ≡ number x → r ≡ r'
-number-of-one x p q = p ∙ sym q
+pub refusal-number-one : (x : Refusal) {r r' : ℕ} → r ≡ number x → r' ≡ number x → r ≡ r'
+refusal-number-one x p q = p ∙ sym q

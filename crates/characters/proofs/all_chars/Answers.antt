@@ -1,5 +1,5 @@
 use native.Mathlib.Omega.{arith}
-use Rattle.slices.proofs.Walks.{walked_start, walked-go, walked_stop, walked_end}
+use Rattle.slices.proofs.Walks.{walked-go, walked_stop, walked_end}
 use Rattle.characters.specs.Says.{char_next, chars_over, all_chars}
 use Rattle.characters.proofs.all_chars.Goals as goal
 

@@ -1,4 +1,3 @@
-use native.Mathlib.Omega.{arith}
 use mathlib.Core.Path.{ap, ◌∙◌}
 use Rattle.characters.specs.Says.{said_at}
 use Rattle.characters.proofs.Alike.{own-abreast, abreast-never, abreast-over, abreast-stop, abreast-more, abreast-end}

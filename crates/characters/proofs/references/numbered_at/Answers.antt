@@ -6,8 +6,7 @@ use lib.ListN.{take}
 use Rattle.slices.specs.Run.{run}
 use Rattle.slices.proofs.Bytes.{byte-there}
 use Rattle.characters.proofs.Referring.{numbered-char, numbered-none}
-use borrow.Author.Tests.{eq-eqb, ne_eqb}
-use Rattle.characters.specs.References.{ref_digit, capped, number_by, char_by, numbered_to, numbered_at}
+use Rattle.characters.specs.References.{ref_digit, capped, number_by}
 use borrow.Author.Rules.{rules}
 use Rattle.characters.proofs.references.numbered_at.Goals as goal
 
